@@ -74,13 +74,20 @@ fn power(k: usize) -> u64
     1u64 << k
 }
 
+// Where bit `at` stands in its byte: its weight there is 2 to this.
+fn bit_in_byte(at: usize) -> usize
+    ensures { λ r. ⌜ r ≡ at % 8 ⌝ }
+{
+    at % 8
+}
+
 // The n bits from bit `at` on, where eight bytes are there.
 fn get_inside(bytes: &[u8], at: usize, n: usize) -> u32
     requires { ⌜ (n ≤ 32) × (at / 8 + 8 ≤ length (now bytes)) ⌝ }
     ensures { λ r. ⌜ r ≡ num (take n (drop at (unpack (now (bytes .entry))))) ⌝ }
 {
     let eight = word64(bytes, at / 8);
-    ((eight >> (at % 8)) & (power(n) - 1)) as u32
+    ((eight >> bit_in_byte(at)) & (power(n) - 1)) as u32
 }
 
 // The same near the end.
@@ -89,7 +96,7 @@ fn get_near_end(bytes: &[u8], at: usize, n: usize) -> u32
     ensures { λ r. ⌜ r ≡ num (take n (drop at (unpack (now (bytes .entry))))) ⌝ }
 {
     let five = word_at(bytes, at / 8);
-    ((five >> (at % 8)) & (power(n) - 1)) as u32
+    ((five >> bit_in_byte(at)) & (power(n) - 1)) as u32
 }
 
 // The n bits from bit `at` on, at most 32, as a number; past the end they count as 0. Called by proved code only.
