@@ -26,7 +26,7 @@ pub data Formed : Bool → List Pair → Type 0 where
 
 -- ---- each pair fits its place
 
-fit-both : (l : Bool) (x y : ℕ) → 2 ≤ x → 2 ≤ y → Fit l x y
+pub fit-both : (l : Bool) (x y : ℕ) → 2 ≤ x → 2 ≤ y → Fit l x y
 fit-both l zero y hx hy = absurd (omega arith)
 fit-both l (suc zero) y hx hy = absurd (omega arith)
 fit-both l (suc (suc x)) zero hx hy = absurd (omega arith)
