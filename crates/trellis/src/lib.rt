@@ -1,0 +1,119 @@
+// The trellis code between two packed buffers: a frame's bits to sent bits, pair by pair.
+ghost use mathlib.Core.Path.{_≡_};
+ghost use mathlib.Core.Bool.{Bool, true, false};
+ghost use Prim.Native.Nat.{ℕ, _+_, _-_, _*_, _/_, _%_, _^_, _≤_, _<_};
+ghost use lib.ListN.{length, take, drop, getD};
+ghost use Rattle.g9932.specs.Bits.{weight as weightOf, bits};
+ghost use Rattle.g9932.specs.Order.{pair};
+ghost use Rattle.g9932.specs.Sizes.{unpack};
+ghost use Rattle.g9932.specs.Trellis.{taken};
+ghost use Rattle.trellis.specs.Coding.{inputsOf, labelNumber, sentNumber, PairRoom, CodesPair, RoomFrom, CodesFrom, Wide, Ready, CodesAll};
+use frame::BitWriter;
+use g9932::LowBits;
+use g9932::TrellisState;
+
+// The bits u1 to u3 of a pair's word and, as a number, u4 upward.
+pub struct Inputs {
+    pub u1: bool,
+    pub u2: bool,
+    pub u3: bool,
+    pub high: u32,
+}
+
+// The word of a pair with x at least 2, from the bits f that it takes: u1 and u2 are forced where it is one of the last two.
+fn inputs_of(s: TrellisState, late: bool, f: u32) -> Inputs
+    ensures { λ r. ⌜ r ≡ inputsOf late s f ⌝ }
+{
+    if late {
+        return Inputs {
+            u1: s.s1 ^ s.s3,
+            u2: s.s2,
+            u3: f % 2 == 1,
+            high: f / 2,
+        };
+    }
+    Inputs {
+        u1: f % 2 == 1,
+        u2: f / 2 % 2 == 1,
+        u3: f / 4 % 2 == 1,
+        high: f / 8,
+    }
+}
+
+// A bit as a number.
+fn weight(b: bool) -> u32
+    ensures { λ r. ⌜ (r ≡ weightOf b) × (r ≤ 1) ⌝ }
+{
+    if b { 1 } else { 0 }
+}
+
+// 2 to the k.
+fn power(k: usize) -> u32
+    requires { ⌜ k < 32 ⌝ }
+    ensures { λ r. ⌜ r ≡ 2 ^ k ⌝ }
+{
+    1u32 << k
+}
+
+// The n lowest bits of a value.
+fn lowest(value: u32, n: usize) -> u32
+    requires { ⌜ n < 32 ⌝ }
+    ensures { λ r. ⌜ r ≡ value % 2 ^ n ⌝ }
+{
+    value & (power(n) - 1)
+}
+
+// A label as a number, from its two lowest bits and those above.
+fn label(b0: bool, b1: bool, high: u32) -> u32
+    requires { ⌜ high < 2 ^ 29 ⌝ }
+    ensures { λ r. ⌜ r ≡ labelNumber b0 b1 high ⌝ }
+{
+    weight(b0) + 2 * weight(b1) + 4 * high
+}
+
+// The labels of a pair, v below w, from their two lowest bits and u4 upward.
+fn labels(low: LowBits, high: u32, x: usize) -> u32
+    requires { ⌜ (2 ≤ x) × (x ≤ 15) × (high < 2 ^ 26) ⌝ }
+    ensures { λ r. ⌜ r ≡ sentNumber low high x ⌝ }
+{
+    let v = label(low.v0, low.v1, lowest(high, x - 2));
+    let w = label(low.w0, low.w1, high >> (x - 2));
+    v + w * power(x)
+}
+
+// How many bits a pair takes from the frame.
+fn taken_bits(late: bool, x: usize, y: usize) -> usize
+    requires { ⌜ (2 ≤ x) × (x ≤ 15) × (2 ≤ y) × (y ≤ 15) ⌝ }
+    ensures { λ r. ⌜ (r ≡ taken late (pair x y)) × (r ≤ 29) ⌝ }
+{
+    if late {
+        return x + y - 3;
+    }
+    x + y - 1
+}
+
+// The coder between two pairs: its state, the next frame bit, and the writer of sent bits.
+pub struct Coder {
+    pub state: TrellisState,
+    pub at: usize,
+    pub writer: BitWriter,
+}
+
+// Codes a pair with x at least 2.
+fn code_pair(c: Coder, frame: &[u8], late: bool, x: usize, y: usize, sent: &mut [u8]) -> Coder
+    requires { ⌜ (2 ≤ x) × (x ≤ 15) × (2 ≤ y) × (y ≤ 15) × PairRoom c late (pair x y) (now frame) (now sent) ⌝ }
+    ensures { λ r. ⌜ CodesPair c late (pair x y) (now (frame .entry)) (now (sent .entry)) r (now (sent .exit)) ⌝ }
+{
+    let s = c.state;
+    let writer = c.writer;
+    let n = taken_bits(late, x, y);
+    let u = inputs_of(s, late, frame::get(frame, c.at, n));
+    let t = s.step(u.u1, u.u2, u.u3);
+    let low = t.low;
+    let next = t.next;
+    Coder {
+        state: next,
+        at: c.at + n,
+        writer: writer.put(sent, x + y, labels(low, u.high, x)),
+    }
+}
