@@ -42,7 +42,7 @@ abbrev pub rows : (A : Type 0) → (A → A → Bool) → (n : ℕ) → OfBits n
 rows A eq zero f g = eq f g
 rows A eq (suc n) f g = rows A eq n (f true) (g true) && rows A eq n (f false) (g false)
 
-agree : (A : Type 0) (eq : A → A → Bool) → ((a b : A) → eq a b ≡ true → a ≡ b)
+pub agree : (A : Type 0) (eq : A → A → Bool) → ((a b : A) → eq a b ≡ true → a ≡ b)
     → (n : ℕ) (f g : OfBits n A) → rows A eq n f g ≡ true → Agree A n f g
 agree A eq sound zero f g e = sound f g e
 agree A eq sound (suc n) f g e =
