@@ -8,14 +8,14 @@ use native.Mathlib.Numerals.{add-one}
 use native.Mathlib.Omega.{arith}
 use lib.Arith.{digits-lt}
 use lib.Pow.{pow-add, pow-lt, shl-exact, shr-lt, high, low}
-use lib.ListN.{length, take, drop, set, length-set}
-use lib.Seq.{take-append-add, take-take, take-suc-set, length-take-le}
+use lib.ListN.{length, take, drop, set, length-set, length-append}
+use lib.Seq.{take-append-add, take-take, take-suc-set, take-at, length-take-le}
 use Rattle.g9932.specs.Bits.{bits}
 use Rattle.g9932.specs.Sizes.{unpack}
 use Rattle.g9932.proofs.Words.{length-bits, bits-add, take-bits, bits-mod}
 use Rattle.g9932.proofs.Packed.{length-unpack, unpack-append, take-unpack}
 use Rattle.frame.specs.declared.BitWriter.{BitWriter}
-use Rattle.frame.specs.Written.{written, Waits, Put}
+use Rattle.frame.specs.Written.{written, Waits, count, Put}
 
 -- one byte of w more
 push : (l : List ℕ) (p : List Bool) (i j m w b : ℕ) → i < length l → j ≡ i + 1 → b ≡ w / 2 ^ m % 256 → unpack (take i l) ≡ p ++ bits m w
@@ -124,3 +124,22 @@ finish-law w l b h waits hb =
     let z : w .acc / 2 ^ w .fill ≡ 0 = div-eq-of-lt (waits .small) in
     let g = rw (f, z) at (bits-add (w .fill) (8 - w .fill) (w .acc)) in
     e ∙ ap (λ (t : List Bool). p ++ t) g ∙ sym (append-assoc p (bits (w .fill) (w .acc)) (bits (8 - w .fill) 0))
+
+-- ---- what callers use
+
+pub length-written : (w : BitWriter) (l : List ℕ) → w .next ≤ length l → length (written w l) ≡ count w
+unfolding written
+length-written w l h =
+    let a = length-unpack (take (w .next) l) in
+    let b = length-take-le (w .next) l h in
+    let c = length-bits (w .fill) (w .acc) in
+    length-append (unpack (take (w .next) l)) (bits (w .fill) (w .acc)) ∙ omega arith
+
+-- after `finish` the buffer begins with what was put
+pub finished : (w : BitWriter) (l l' : List ℕ) → w .next ≤ length l → Waits w → unpack (take (w .next + 1) l') ≡ written w l ++ bits (8 - w .fill) 0
+    → take (count w) (unpack l') ≡ written w l
+finished w l l' h waits e =
+    let few = waits .few in
+    let t : take (count w) (unpack l') ≡ take (count w) (take (8 * (w .next + 1)) (unpack l')) =
+    sym (take-take (count w) (8 * (w .next + 1)) (unpack l') (omega arith)) in
+    t ∙ rw (take-unpack, e) (take-at (written w l) (bits (8 - w .fill) 0) (count w) (length-written w l h))

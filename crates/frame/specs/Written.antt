@@ -8,6 +8,10 @@ use Rattle.g9932.specs.Bits.{bits}
 use Rattle.g9932.specs.Sizes.{unpack}
 use Rattle.frame.specs.declared.BitWriter.{BitWriter}
 
+-- nothing put yet
+abbrev pub emptyWriter : BitWriter
+emptyWriter = record { acc = 0; fill = 0; next = 0 }
+
 -- the bits put so far: the whole bytes before next, and the bits that wait
 unfoldable pub written : BitWriter → List ℕ → List Bool
 written w buffer = unpack (take (w .next) buffer) ++ bits (w .fill) (w .acc)

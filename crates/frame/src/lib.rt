@@ -6,7 +6,7 @@ ghost use lib.ListN.{length, getD, take, drop};
 ghost use Rattle.g9932.specs.Bits.{bits, num};
 ghost use Rattle.g9932.specs.Sizes.{unpack};
 ghost use Rattle.g9932.specs.Refusals.{frameTest};
-ghost use Rattle.frame.specs.Written.{written, Waits, Put};
+ghost use Rattle.frame.specs.Written.{emptyWriter, written, Waits, Put};
 
 // The byte at a place, 0 past the end.
 fn byte_at(bytes: &[u8], i: usize) -> u64
@@ -142,7 +142,7 @@ pub struct BitWriter {
 
 impl BitWriter {
     pub fn new() -> Self
-        ensures { λ r. ⌜ (r .acc ≡ 0) × (r .fill ≡ 0) × (r .next ≡ 0) ⌝ }
+        ensures { λ r. ⌜ r ≡ emptyWriter ⌝ }
     {
         Self {
             acc: 0,

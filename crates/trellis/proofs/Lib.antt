@@ -1,2 +1,5 @@
 pub mod Numbers
 pub mod OnePair
+pub mod Entries
+pub mod CodeLoop
+pub mod CodeAll

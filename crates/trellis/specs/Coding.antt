@@ -4,7 +4,8 @@ use mathlib.Core.Bool.{Bool, true, false}
 use mathlib.Core.List.{List, _++_}
 use mathlib.Core.Path.{_≡_}
 use lib.ListN.{length, take, drop, getD}
-use Rattle.frame.specs.Written.{written, Waits, count, Put}
+use Rattle.frame.specs.declared.BitWriter.{BitWriter}
+use Rattle.frame.specs.Written.{emptyWriter, written, Waits, count, Put}
 use Rattle.g9932.proofs.Pairs.{sentTotal, takenTotal}
 use Rattle.g9932.specs.Bits.{_⊕_, weight, odd}
 use Rattle.g9932.specs.Order.{sum, inTwos, pairsOf, Pair}
@@ -44,6 +45,10 @@ pub record CodesPair (c : Coder) (late : Bool) (p : Pair) (frame sent : List ℕ
   pub at : d .at ≡ c .at + taken late p
   pub puts : Put (c .writer) sent (sentBits (p .x) (codedWord c late p frame)) (d .writer) after
 
+-- the coder at the start
+abbrev pub firstCoder : Coder
+firstCoder = record { state = zeroState; at = 0; writer = emptyWriter }
+
 -- ---- the pairs from an entry on
 
 -- every entry is 2 to 15
@@ -51,6 +56,7 @@ abbrev pub Wide : List ℕ → Type 0
 Wide es = (k : ℕ) → k < length es → (2 ≤ getD es k 0) × (getD es k 0 ≤ 15)
 
 pub record RoomFrom (c : Coder) (es : List ℕ) (i : ℕ) (frame sent : List ℕ) : Type 0 where
+  pub inside : i ≤ length es
   pub bits : c .at + takenTotal (inTwos (drop i es)) ≤ 8 * length frame
   pub small : length frame ≤ 7680
   pub bytes : count (c .writer) + sentTotal (inTwos (drop i es)) + 64 ≤ 8 * length sent
@@ -62,6 +68,11 @@ pub record CodesFrom (c : Coder) (es : List ℕ) (i : ℕ) (frame sent : List �
   pub counted : count (d .writer) ≡ count (c .writer) + sentTotal (inTwos (drop i es))
 
 -- ---- all pairs
+
+pub record CodedWhole (es frame : List ℕ) (w : BitWriter) (after : List ℕ) : Type 0 where
+  pub whole : written w after ≡ encodePairs zeroState (pairsOf es) (unpack frame)
+  pub waits : Waits w
+  pub counted : count w ≡ sum es
 
 pub record CodesAll (es frame after : List ℕ) : Type 0 where
   pub sent : take (sum es) (unpack after) ≡ encodePairs zeroState (pairsOf es) (unpack frame)

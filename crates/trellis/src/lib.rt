@@ -6,8 +6,8 @@ ghost use lib.ListN.{length, take, drop, getD};
 ghost use Rattle.g9932.specs.Bits.{weight as weightOf, bits};
 ghost use Rattle.g9932.specs.Order.{pair};
 ghost use Rattle.g9932.specs.Sizes.{unpack};
-ghost use Rattle.g9932.specs.Trellis.{taken};
-ghost use Rattle.trellis.specs.Coding.{inputsOf, labelNumber, sentNumber, PairRoom, CodesPair, RoomFrom, CodesFrom, Wide, Ready, CodesAll};
+ghost use Rattle.g9932.specs.Trellis.{taken, zeroState};
+ghost use Rattle.trellis.specs.Coding.{inputsOf, labelNumber, sentNumber, PairRoom, CodesPair, RoomFrom, CodesFrom, Wide, Ready, CodedWhole, CodesAll, firstCoder};
 use frame::BitWriter;
 use g9932::LowBits;
 use g9932::TrellisState;
@@ -99,6 +99,18 @@ pub struct Coder {
     pub writer: BitWriter,
 }
 
+// The state at the start.
+fn zero_state() -> TrellisState
+    ensures { λ r. ⌜ r ≡ zeroState ⌝ }
+{
+    TrellisState {
+        s3: false,
+        s2: false,
+        s1: false,
+        s0: false,
+    }
+}
+
 // Codes a pair with x at least 2.
 fn code_pair(c: Coder, frame: &[u8], late: bool, x: usize, y: usize, sent: &mut [u8]) -> Coder
     requires { ⌜ (2 ≤ x) × (x ≤ 15) × (2 ≤ y) × (y ≤ 15) × PairRoom c late (pair x y) (now frame) (now sent) ⌝ }
@@ -116,4 +128,73 @@ fn code_pair(c: Coder, frame: &[u8], late: bool, x: usize, y: usize, sent: &mut 
         at: c.at + n,
         writer: writer.put(sent, x + y, labels(low, u.high, x)),
     }
+}
+
+// An entry of b'.
+fn entry(entries: &[u8], i: usize) -> usize
+    requires { ⌜ i < length (now entries) ⌝ }
+    ensures { λ r. ⌜ r ≡ getD (now (entries .entry)) i 0 ⌝ }
+{
+    entries[i] as usize
+}
+
+// Codes the pairs of the entries from `from` on.
+fn code_from(c: Coder, frame: &[u8], entries: &[u8], from: usize, sent: &mut [u8]) -> Coder
+    requires { ⌜ Wide (now entries) × (length (now entries) ≤ 4096) × RoomFrom c (now entries) from (now frame) (now sent) ⌝ }
+    ensures { λ r. ⌜ CodesFrom c (now (entries .entry)) from (now (frame .entry)) (now (sent .entry)) r (now (sent .exit)) ⌝ }
+{
+    let mut k = c;
+    let mut i = from;
+    while i + 1 < entries.len() {
+        let x = entry(entries, i);
+        let y = entry(entries, i + 1);
+        let late = entries.len() - i < 6;
+        k = code_pair(k, frame, late, x, y, sent);
+        i += 2;
+    }
+    k
+}
+
+// Codes a first pair with x = 0: its bits are u2 and u4 upward, and v isn't sent.
+fn code_first(frame: &[u8], y: usize, sent: &mut [u8]) -> Coder
+    requires { ⌜ (2 ≤ y) × (y ≤ 15) × (y ≤ 8 * length (now frame) + 1) × (8 ≤ length (now sent)) ⌝ }
+    ensures { λ r. ⌜ CodesPair firstCoder false (pair 0 y) (now (frame .entry)) (now (sent .entry)) r (now (sent .exit)) ⌝ }
+{
+    let f = frame::get(frame, 0, y - 1);
+    let t = zero_state().step(false, f % 2 == 1, false);
+    let low = t.low;
+    let next = t.next;
+    Coder {
+        state: next,
+        at: y - 1,
+        writer: BitWriter::new().put(sent, y, label(low.w0, low.w1, f / 2)),
+    }
+}
+
+// Codes all pairs: a first one with x = 0 where the count of entries is odd.
+fn code_all(frame: &[u8], entries: &[u8], sent: &mut [u8]) -> BitWriter
+    requires { ⌜ Ready (now entries) (now frame) (now sent) ⌝ }
+    ensures { λ r. ⌜ CodedWhole (now (entries .entry)) (now (frame .entry)) r (now (sent .exit)) ⌝ }
+{
+    if entries.len() % 2 == 1 {
+        let first = code_first(frame, entry(entries, 0), sent);
+        let odd = code_from(first, frame, entries, 1, sent);
+        return odd.writer;
+    }
+    let start = Coder {
+        state: zero_state(),
+        at: 0,
+        writer: BitWriter::new(),
+    };
+    let even = code_from(start, frame, entries, 0, sent);
+    even.writer
+}
+
+// Codes a frame: the sent bits of its pairs, which the entries of b' are cut into. Called by proved code only.
+pub fn encode_pairs(frame: &[u8], entries: &[u8], sent: &mut [u8])
+    requires { ⌜ Ready (now entries) (now frame) (now sent) ⌝ }
+    ensures { λ _. ⌜ CodesAll (now (entries .entry)) (now (frame .entry)) (now (sent .exit)) ⌝ }
+{
+    let writer = code_all(frame, entries, sent);
+    writer.finish(sent);
 }

@@ -1,11 +1,7 @@
 use Rattle.trellis.specs.Coding.{inputsOf}
 use Rattle.g9932.specs.Bits.{odd}
-use mathlib.Core.Path.{refl}
-use borrow.Author.Needs.{needs}
 use Rattle.trellis.proofs.inputs_of.Statement.{statement}
 use Rattle.trellis.proofs.inputs_of.Tie as tie
-use Rattle.trellis.proofs.inputs_of.Reads as reads
-use Rattle.trellis.proofs.inputs_of.Lts as lts
 
 returns : tie.Need-returns
 unfolding odd inputsOf

@@ -2,15 +2,9 @@ use Rattle.trellis.proofs.Numbers.{labels-fit}
 use Rattle.trellis.specs.Coding.{sentNumber}
 use native.Mathlib.Nat.{lt-of-le-of-lt, mod-le, div-le-self}
 use native.Mathlib.Omega.{arith}
-use mathlib.Core.Path.{refl}
 use borrow.Author.Needs.{needs}
 use Rattle.trellis.proofs.labels.Statement.{statement}
 use Rattle.trellis.proofs.labels.Tie as tie
-use Rattle.trellis.proofs.labels.Reads as reads
-use Rattle.trellis.proofs.labels.Lts as lts
-use Rattle.trellis.proofs.label.Reads as label-reads
-use Rattle.trellis.proofs.lowest.Reads as lowest-reads
-use Rattle.trellis.proofs.power.Reads as power-reads
 
 sub-lowest : tie.Need-sub-lowest
 sub-lowest c = search needs

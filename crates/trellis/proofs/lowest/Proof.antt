@@ -5,9 +5,6 @@ use mathlib.Core.Path.{ap, _∙_}
 use borrow.Author.Needs.{needs}
 use Rattle.trellis.proofs.lowest.Statement.{statement}
 use Rattle.trellis.proofs.lowest.Tie as tie
-use Rattle.trellis.proofs.lowest.Reads as reads
-use Rattle.trellis.proofs.lowest.Lts as lts
-use Rattle.trellis.proofs.power.Reads as power-reads
 
 power-requires : tie.Need-power-requires
 power-requires c κs = search needs

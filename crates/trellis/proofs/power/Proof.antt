@@ -5,8 +5,6 @@ use mathlib.Core.Path.{_∙_, ap}
 use borrow.Author.Needs.{needs}
 use Rattle.trellis.proofs.power.Statement.{statement}
 use Rattle.trellis.proofs.power.Tie as tie
-use Rattle.trellis.proofs.power.Reads as reads
-use Rattle.trellis.proofs.power.Lts as lts
 
 cast-result : tie.Need-cast-result
 cast-result c = search needs

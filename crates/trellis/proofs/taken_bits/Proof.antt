@@ -1,10 +1,7 @@
 use native.Mathlib.Omega.{arith}
-use mathlib.Core.Path.{refl}
 use borrow.Author.Needs.{needs}
 use Rattle.trellis.proofs.taken_bits.Statement.{statement}
 use Rattle.trellis.proofs.taken_bits.Tie as tie
-use Rattle.trellis.proofs.taken_bits.Reads as reads
-use Rattle.trellis.proofs.taken_bits.Lts as lts
 
 add-result : tie.Need-add-result
 add-result c = search needs

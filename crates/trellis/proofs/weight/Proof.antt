@@ -1,11 +1,7 @@
 use Rattle.g9932.specs.Bits.{weight}
 use native.Mathlib.Omega.{arith}
-use mathlib.Core.Path.{refl}
-use borrow.Author.Needs.{needs}
 use Rattle.trellis.proofs.weight.Statement.{statement}
 use Rattle.trellis.proofs.weight.Tie as tie
-use Rattle.trellis.proofs.weight.Reads as reads
-use Rattle.trellis.proofs.weight.Lts as lts
 
 returns : tie.Need-returns
 unfolding weight
