@@ -1,21 +1,23 @@
 -- Bits that are put: eight bytes of a word written, and the bits that a writer has put.
 use mathlib.Core.Path.{_≡_, refl, sym, ap, _∙_}
-use mathlib.Core.Bool.{Bool}
+use mathlib.Core.Bool.{Bool, true, false}
 use mathlib.Core.List.{List, [], _∷_, _++_, append-assoc, append-nil}
 use Prim.Native.Nat.{ℕ, zero, suc, _+_, _-_, _*_, _/_, _%_, _^_, _≤_, _<_}
 use native.Mathlib.Nat.{lt-trans, div-one, div-eq-of-lt}
 use native.Mathlib.Numerals.{add-one}
 use native.Mathlib.Omega.{arith}
+use borrow.Author.Tests.{eq-eqb}
 use lib.Arith.{digits-lt}
 use lib.Pow.{pow-add, pow-lt, shl-exact, shr-lt, high, low}
 use lib.ListN.{length, take, drop, set, length-set, length-append}
-use lib.Seq.{take-append-add, take-take, take-suc-set, take-at, length-take-le}
-use Rattle.g9932.specs.Bits.{bits}
-use Rattle.g9932.specs.Sizes.{unpack}
+use lib.Seq.{take-append-add, take-take, take-suc-set, take-at, drop-at, length-take-le}
+use Rattle.g9932.specs.Bits.{bits, odd}
+use Rattle.g9932.specs.Refusals.{someOne, frameTest}
+use Rattle.g9932.specs.Sizes.{unpack, bytesFor}
 use Rattle.g9932.proofs.Words.{length-bits, bits-add, take-bits, bits-mod}
 use Rattle.g9932.proofs.Packed.{length-unpack, unpack-append, take-unpack}
 use Rattle.frame.specs.declared.BitWriter.{BitWriter}
-use Rattle.frame.specs.Written.{written, Waits, count, Put}
+use Rattle.frame.specs.Written.{written, Waits, count, Put, Framed}
 
 -- one byte of w more
 push : (l : List ℕ) (p : List Bool) (i j m w b : ℕ) → i < length l → j ≡ i + 1 → b ≡ w / 2 ^ m % 256 → unpack (take i l) ≡ p ++ bits m w
@@ -135,11 +137,49 @@ length-written w l h =
     let c = length-bits (w .fill) (w .acc) in
     length-append (unpack (take (w .next) l)) (bits (w .fill) (w .acc)) ∙ omega arith
 
--- after `finish` the buffer begins with what was put
-pub finished : (w : BitWriter) (l l' : List ℕ) → w .next ≤ length l → Waits w → unpack (take (w .next + 1) l') ≡ written w l ++ bits (8 - w .fill) 0
-    → take (count w) (unpack l') ≡ written w l
-finished w l l' h waits e =
-    let few = waits .few in
-    let t : take (count w) (unpack l') ≡ take (count w) (take (8 * (w .next + 1)) (unpack l')) =
-    sym (take-take (count w) (8 * (w .next + 1)) (unpack l') (omega arith)) in
-    t ∙ rw (take-unpack, e) (take-at (written w l) (bits (8 - w .fill) 0) (count w) (length-written w l h))
+-- after `finish` the buffer begins with the frame of what was put
+someOne-zeros : (n : ℕ) → someOne (bits n 0) ≡ false
+unfolding bits odd
+someOne-zeros zero = refl
+someOne-zeros (suc n) = someOne-zeros n
+
+someOne-take : (k : ℕ) (l : List Bool) → someOne l ≡ false → someOne (take k l) ≡ false
+someOne-take zero l h = refl
+someOne-take (suc k) [] h = refl
+someOne-take (suc k) (true ∷ l) h = h
+someOne-take (suc k) (false ∷ l) h = someOne-take k l h
+
+module _ (w : BitWriter) (l l' : List ℕ) (h : w .next ≤ length l) (h' : w .next < length l') (waits : Waits w)
+    (e : unpack (take (w .next + 1) l') ≡ written w l ++ bits (8 - w .fill) 0) where
+  begins : (n : ℕ) → n ≤ 8 * (w .next + 1) → take n (unpack l') ≡ take n (written w l ++ bits (8 - w .fill) 0)
+  begins n k = sym (take-take n (8 * (w .next + 1)) (unpack l') k) ∙ rw (take-unpack, e)
+
+  put-bits : take (length (written w l)) (unpack l') ≡ written w l
+  put-bits =
+      let few = waits .few in
+      let n = length-written w l h in
+      begins (length (written w l)) (omega arith) ∙ take-at (written w l) (bits (8 - w .fill) 0) (length (written w l)) refl
+
+  -- the unused bits are those that `finish` clears
+  unused : drop (length (written w l)) (unpack (take (bytesFor (length (written w l))) l'))
+      ≡ take (8 * bytesFor (length (written w l)) - length (written w l)) (bits (8 - w .fill) 0)
+  unused =
+      let few = waits .few in
+      let n = length-written w l h in
+      let x : List Bool = written w l in
+      let m : ℕ = 8 * bytesFor (length x) in
+      let s : m ≡ length x + (m - length x) = omega arith in
+      let t : take m (unpack l') ≡ x ++ take (m - length x) (bits (8 - w .fill) 0) =
+          begins m (omega arith) ∙ ap (λ (k : ℕ). take k (x ++ bits (8 - w .fill) 0)) s ∙ take-append-add x (bits (8 - w .fill) 0) (m - length x) in
+      rw (← take-unpack, t) (drop-at x (take (m - length x) (bits (8 - w .fill) 0)) (length x) refl)
+
+  pub finished : Framed (written w l) l'
+  unfolding frameTest
+  finished =
+      let few = waits .few in
+      let n = length-written w l h in
+      let b : length (take (bytesFor (length (written w l))) l') ≡ bytesFor (length (written w l)) =
+          length-take-le (bytesFor (length (written w l))) l' (omega arith) in
+      record {
+        starts = put-bits;
+        clean = rw (eq-eqb _ _ b, unused) (someOne-take _ (bits (8 - w .fill) 0) (someOne-zeros (8 - w .fill))) }

@@ -1,11 +1,12 @@
 -- What a bit writer over a buffer stands for.
 use mathlib.Core.Path.{_≡_}
-use mathlib.Core.Bool.{Bool}
+use mathlib.Core.Bool.{Bool, false}
 use mathlib.Core.List.{List, _++_}
 use Prim.Native.Nat.{ℕ, _+_, _*_, _^_, _<_}
 use lib.ListN.{length, take}
 use Rattle.g9932.specs.Bits.{bits}
-use Rattle.g9932.specs.Sizes.{unpack}
+use Rattle.g9932.specs.Refusals.{frameTest}
+use Rattle.g9932.specs.Sizes.{unpack, bytesFor}
 use Rattle.frame.specs.declared.BitWriter.{BitWriter}
 
 -- nothing put yet
@@ -30,3 +31,8 @@ pub record Put (w : BitWriter) (before : List ℕ) (x : List Bool) (v : BitWrite
   pub holds : written v after ≡ written w before ++ x
   pub waits : Waits v
   pub counted : count v ≡ count w + length x
+
+-- a buffer that begins with the frame of the bits x
+pub record Framed (x : List Bool) (buffer : List ℕ) : Type 0 where
+  pub starts : take (length x) (unpack buffer) ≡ x
+  pub clean : frameTest (length x) (take (bytesFor (length x)) buffer) ≡ false

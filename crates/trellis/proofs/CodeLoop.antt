@@ -17,7 +17,7 @@ use Rattle.g9932.specs.Trellis.{Word, lastTwo, taken, wordOf, sentBits, nextOf,
 use Rattle.g9932.specs.declared.TrellisState.{TrellisState}
 use Rattle.trellis.specs.Coding.{codedWord, PairRoom, CodesPair, Wide, RoomFrom, CodesFrom}
 use Rattle.trellis.specs.declared.Coder.{Coder}
-use Rattle.trellis.proofs.Entries.{drop-two, inTwos-short, late-is}
+use Rattle.trellis.proofs.Entries.{cut-pair, pair-wide, inTwos-short, late-is}
 use Rattle.trellis.proofs.OnePair.{length-part}
 
 -- one pair of a list of pairs
@@ -50,20 +50,17 @@ going-end {k = k} {es = es} {frame = frame} {sent = sent} {i = i} g h =
     }
 
 -- one pair more
-module _ (c k d : Coder) (es frame sent₀ sent after : List ℕ) (from i x y : ℕ) (late : Bool) (wide : Wide es)
+module _ (c k : Coder) (es frame sent₀ sent : List ℕ) (from i x y : ℕ) (late : Bool) (wide : Wide es)
     (g : Going c k es frame sent₀ sent from i) (more : i + 1 < length es) (hx : x ≡ getD es i 0) (hy : y ≡ getD es (i + 1) 0)
     (hl : late ≡ ltb (length es - i) 6) where
   cut : inTwos (drop i es) ≡ pair x y ∷ inTwos (drop (i + 2) es)
-  cut = rw (drop-two es i more, hx, hy)
+  cut = cut-pair es i x y more hx hy
 
   is-late : late ≡ lastTwo (inTwos (drop (i + 2) es))
   is-late = hl ∙ late-is es i (omega arith)
 
-  pub pair-range : (2 ≤ x) × (x ≤ 15) × (2 ≤ y) × (y ≤ 15)
-  pair-range =
-      let a = wide i (omega arith) in
-      let b = wide (i + 1) more in
-      rw (hx, hy) (a .0, a .1, b .0, b .1)
+  pair-range : (2 ≤ x) × (x ≤ 15) × (2 ≤ y) × (y ≤ 15)
+  pair-range = pair-wide es i x y wide more hx hy
 
   pub pair-room : PairRoom k late (pair x y) frame sent
   pair-room =
@@ -77,8 +74,8 @@ module _ (c k d : Coder) (es frame sent₀ sent after : List ℕ) (from i x y : 
         waits = r .waits;
       }
 
-  pub going-step : CodesPair k late (pair x y) frame sent d after → length after ≡ length sent → Going c d es frame sent₀ after from (i + 2)
-  going-step p same =
+  pub going-step : (d : Coder) (after : List ℕ) → CodesPair k late (pair x y) frame sent d after → length after ≡ length sent → Going c d es frame sent₀ after from (i + 2)
+  going-step d after p same =
       let r = g .room in
       let f : List Bool = drop (k .at) (unpack frame) in
       let u : Word = codedWord k late (pair x y) frame in

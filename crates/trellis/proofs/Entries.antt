@@ -11,8 +11,9 @@ use lib.ListN.{length, drop, getD, length-drop}
 use lib.Seq.{drop-cons}
 use Rattle.g9932.specs.Order.{pair, inTwos}
 use Rattle.g9932.specs.Trellis.{lastTwo}
+use Rattle.trellis.specs.Coding.{Wide}
 
-pub drop-two : (es : List ℕ) (i : ℕ) → i + 1 < length es → drop i es ≡ getD es i 0 ∷ getD es (i + 1) 0 ∷ drop (i + 2) es
+drop-two : (es : List ℕ) (i : ℕ) → i + 1 < length es → drop i es ≡ getD es i 0 ∷ getD es (i + 1) 0 ∷ drop (i + 2) es
 drop-two es i h =
     let a : drop i es ≡ getD es i 0 ∷ drop (suc i) es = drop-cons es i 0 (omega arith) in
     let b : drop (suc i) es ≡ getD es (suc i) 0 ∷ drop (suc (suc i)) es = drop-cons es (suc i) 0 (omega arith) in
@@ -41,3 +42,14 @@ ltb-shift n i h = go (ltb (n - (i + 2)) 4) refl
 -- a pair is one of the last two where fewer than six entries are left, its own among them
 pub late-is : (es : List ℕ) (i : ℕ) → i + 2 ≤ length es → ltb (length es - i) 6 ≡ lastTwo (inTwos (drop (i + 2) es))
 late-is es i h = ltb-shift (length es) i h ∙ sym (lastTwo-length (drop (i + 2) es) ∙ rw length-drop)
+
+-- the pair at an entry: it is cut off, and its counts are 2 to 15
+module _ (es : List ℕ) (i x y : ℕ) where
+  pub cut-pair : i + 1 < length es → x ≡ getD es i 0 → y ≡ getD es (i + 1) 0 → inTwos (drop i es) ≡ pair x y ∷ inTwos (drop (i + 2) es)
+  cut-pair more hx hy = rw (drop-two es i more, hx, hy)
+
+  pub pair-wide : Wide es → i + 1 < length es → x ≡ getD es i 0 → y ≡ getD es (i + 1) 0 → (2 ≤ x) × (x ≤ 15) × (2 ≤ y) × (y ≤ 15)
+  pair-wide wide more hx hy =
+      let a = wide i (omega arith) in
+      let b = wide (i + 1) more in
+      rw (hx, hy) (a .0, a .1, b .0, b .1)

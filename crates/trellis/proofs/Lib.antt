@@ -3,3 +3,5 @@ pub mod OnePair
 pub mod Entries
 pub mod CodeLoop
 pub mod CodeAll
+pub mod HearPair
+pub mod HearLoop

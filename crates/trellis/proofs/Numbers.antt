@@ -16,7 +16,7 @@ use Rattle.g9932.proofs.Words.{odd-weight, num-append, num-take, num-drop, weig
 use Rattle.trellis.specs.Coding.{inputsOf, labelNumber, sentNumber}
 use Rattle.trellis.specs.declared.Inputs.{Inputs}
 
-lowest : (l : List Bool) → bit l 0 ≡ odd (num l)
+pub lowest : (l : List Bool) → bit l 0 ≡ odd (num l)
 unfolding num odd
 lowest [] = refl
 lowest (b ∷ l) = sym (odd-weight b (num l))

@@ -1,4 +1,6 @@
 // The trellis code between two packed buffers: a frame's bits to sent bits, pair by pair.
+pub mod read;
+
 ghost use mathlib.Core.Path.{_≡_};
 ghost use mathlib.Core.Bool.{Bool, true, false};
 ghost use Prim.Native.Nat.{ℕ, _+_, _-_, _*_, _/_, _%_, _^_, _≤_, _<_};

@@ -1,4 +1,7 @@
-use Rattle.trellis.proofs.CodeLoop.{Going, going-start, going-end, pair-range, pair-room, going-step}
+use Rattle.trellis.proofs.CodeLoop.{Going, going-start, going-end, pair-room, going-step}
+use Rattle.trellis.proofs.Entries.{pair-wide}
+use mathlib.Core.Path.{refl, sym}
+use borrow.Author.Needs.{needs}
 use lib.ListN.{length}
 use native.Mathlib.Omega.{arith}
 use Prim.Native.Nat.{_-_}
@@ -34,8 +37,8 @@ code-pair-requires : tie.Need-code-pair-requires Inv-loop μ-loop
 code-pair-requires c κs =
     let a = c .before .before .before .before .before .before .before .before .args in
     let l = c .before .before .before .before .loop in
-    let q = pair-range (a .c) (l .k) (l .k) (a .entries .now) (a .frame .now) (a .sent .now) (l .sent) (l .sent) (a .from) (l .i) (c .before .before .entry .result) (c .before .entry2 .result) _ (c .before .before .before .before .before .before .before .before .pre .0) (l .inv) (omega arith) (c .before .before .entry .ensures) (c .before .entry2 .ensures) refl in
-    let r = pair-room (a .c) (l .k) (l .k) (a .entries .now) (a .frame .now) (a .sent .now) (l .sent) (l .sent) (a .from) (l .i) (c .before .before .entry .result) (c .before .entry2 .result) _ (c .before .before .before .before .before .before .before .before .pre .0) (l .inv) (omega arith) (c .before .before .entry .ensures) (c .before .entry2 .ensures) refl in
+    let q = pair-wide (a .entries .now) (l .i) (c .before .before .entry .result) (c .before .entry2 .result) (c .before .before .before .before .before .before .before .before .pre .0) (omega arith) (c .before .before .entry .ensures) (c .before .entry2 .ensures) in
+    let r = pair-room (a .c) (l .k) (a .entries .now) (a .frame .now) (a .sent .now) (l .sent) (a .from) (l .i) (c .before .before .entry .result) (c .before .entry2 .result) _ (c .before .before .before .before .before .before .before .before .pre .0) (l .inv) (omega arith) (c .before .before .entry .ensures) (c .before .entry2 .ensures) refl in
     (q .0, q .1, q .2, q .3, r)
 
 add-i : tie.Need-add-i Inv-loop μ-loop
@@ -48,7 +51,8 @@ loop-again : tie.Need-loop-again Inv-loop μ-loop
 loop-again c =
     let a = c .before .before .before .before .before .before .before .before .before .before .before .args in
     let l = c .before .before .before .before .before .before .before .loop in
-    going-step (a .c) (l .k) (c .before .before .code-pair .result) (a .entries .now) (a .frame .now) (a .sent .now) (l .sent) (c .before .before .code-pair .last .1 .1 .1 .1 .1 .0) (a .from) (l .i) (c .before .before .before .before .before .entry .result) (c .before .before .before .before .entry2 .result) _ (c .before .before .before .before .before .before .before .before .before .before .before .pre .0) (l .inv) (omega arith) (c .before .before .before .before .before .entry .ensures) (c .before .before .before .before .entry2 .ensures) refl (c .before .before .code-pair .ensures) (c .before .before .code-pair .kept .1 .1 .1 .1 .1 .0)
+    going-step (a .c) (l .k) (a .entries .now) (a .frame .now) (a .sent .now) (l .sent) (a .from) (l .i) (c .before .before .before .before .before .entry .result) (c .before .before .before .before .entry2 .result) _ (c .before .before .before .before .before .before .before .before .before .before .before .pre .0) (l .inv) (omega arith) (c .before .before .before .before .before .entry .ensures) (c .before .before .before .before .entry2 .ensures) refl
+    (c .before .before .code-pair .result) (c .before .before .code-pair .last .1 .1 .1 .1 .1 .0) (c .before .before .code-pair .ensures) (c .before .before .code-pair .kept .1 .1 .1 .1 .1 .0)
 
 same-length : tie.Need-same-length Inv-loop μ-loop
 same-length c = c .before .loop .inv .kept
