@@ -1,3 +1,5 @@
+pub mod Words
+pub mod Packed
 pub mod Figures
 pub mod Search
 pub mod Verdicts
