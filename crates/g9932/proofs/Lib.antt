@@ -1,5 +1,9 @@
 pub mod Words
 pub mod Packed
 pub mod Figures
+pub mod Formed
+pub mod Identities
+pub mod OnePair
+pub mod Pairs
 pub mod Search
 pub mod Verdicts
