@@ -1,9 +1,15 @@
 pub mod Words
 pub mod Packed
 pub mod Figures
+pub mod Coordinates
+pub mod Counts
 pub mod Formed
 pub mod Identities
 pub mod OnePair
 pub mod Pairs
+pub mod Reordering
 pub mod Search
 pub mod Verdicts
+pub mod TurnedPairs
+pub mod TurnedWord
+pub mod TurnedTones
