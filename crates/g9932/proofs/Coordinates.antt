@@ -3,7 +3,7 @@
 use Prim.Native.Nat.{ℕ, zero, suc, _-_, _%_, _≤_}
 use mathlib.Core.Bool.{Bool, true, false, not, _||_, cond}
 use mathlib.Core.List.{List, [], _∷_, _++_, map}
-use mathlib.Core.Path.{_≡_, refl, ap, ap₂, _∙_}
+use mathlib.Core.Path.{_≡_, refl, sym, ap, _∙_}
 use native.Mathlib.Omega.{arith}
 use lib.ListN.{length, take, drop, getD}
 use Rattle.g9932.specs.Bits.{_⊕_, bit, weight, num, odd, bits}
@@ -109,3 +109,50 @@ back-coords (a ∷ b ∷ c ∷ []) = back-three a b c
 back-coords (a ∷ b ∷ c ∷ d ∷ []) = refl
 back-coords (a ∷ b ∷ c ∷ d ∷ e ∷ []) = back-five a b c d e
 back-coords (a ∷ b ∷ c ∷ d ∷ e ∷ f ∷ l) = ap (λ (z : List Bool). a ∷ b ∷ z) (back-coords (c ∷ d ∷ e ∷ f ∷ l))
+
+-- ---- how many bits a coordinate has, by the label's, and its lowest of them: v1 for X, v0 for Y
+
+abbrev pub axisBits : ℕ → ℕ
+axisBits zero = 0
+axisBits (suc zero) = 1
+axisBits (suc (suc zero)) = 1
+axisBits (suc (suc (suc zero))) = 2
+axisBits (suc (suc (suc (suc zero)))) = 2
+axisBits (suc (suc (suc (suc (suc zero))))) = 3
+axisBits (suc (suc (suc (suc (suc (suc n)))))) = suc (axisBits (suc (suc (suc (suc n)))))
+
+pub axisBits-pos : (n : ℕ) → 1 ≤ n → 1 ≤ axisBits n
+axisBits-pos zero h = absurd (omega arith)
+axisBits-pos (suc zero) h = omega arith
+axisBits-pos (suc (suc zero)) h = omega arith
+axisBits-pos (suc (suc (suc zero))) h = omega arith
+axisBits-pos (suc (suc (suc (suc zero)))) h = omega arith
+axisBits-pos (suc (suc (suc (suc (suc zero))))) h = omega arith
+axisBits-pos (suc (suc (suc (suc (suc (suc n)))))) h = omega arith
+
+three-xs : (a b c : Bool) → three a b c .xs ≡ b ∷ bit (three a b c .xs) 1 ∷ []
+unfolding three
+three-xs = words-agree 3 (λ a b c. three a b c .xs) (λ a b c. b ∷ bit (three a b c .xs) 1 ∷ []) refl
+
+three-ys : (a b c : Bool) → three a b c .ys ≡ a ∷ bit (three a b c .ys) 1 ∷ []
+unfolding three
+three-ys = words-agree 3 (λ a b c. three a b c .ys) (λ a b c. a ∷ bit (three a b c .ys) 1 ∷ []) refl
+
+pub coords-length : (l : List Bool) → (length (coords l .xs) ≡ axisBits (length l)) × (length (coords l .ys) ≡ axisBits (length l))
+unfolding five bits
+coords-length [] = (refl, refl)
+coords-length (a ∷ []) = (refl, refl)
+coords-length (a ∷ b ∷ []) = (refl, refl)
+coords-length (a ∷ b ∷ c ∷ []) = (ap length (three-xs a b c), ap length (three-ys a b c))
+coords-length (a ∷ b ∷ c ∷ d ∷ []) = (refl, refl)
+coords-length (a ∷ b ∷ c ∷ d ∷ e ∷ []) = (refl, refl)
+coords-length (a ∷ b ∷ c ∷ d ∷ e ∷ f ∷ l) = let h = coords-length (c ∷ d ∷ e ∷ f ∷ l) in (ap suc (h .0), ap suc (h .1))
+
+-- both coordinates with their lowest bit taken off
+pub coords-low : (a b : Bool) (l : List Bool) → (coords (a ∷ b ∷ l) .xs ≡ b ∷ drop 1 (coords (a ∷ b ∷ l) .xs)) × (coords (a ∷ b ∷ l) .ys ≡ a ∷ drop 1 (coords (a ∷ b ∷ l) .ys))
+unfolding five
+coords-low a b [] = (refl, refl)
+coords-low a b (c ∷ []) = (three-xs a b c ∙ ap (λ (z : List Bool). b ∷ z) (sym (ap (drop 1) (three-xs a b c))), three-ys a b c ∙ ap (λ (z : List Bool). a ∷ z) (sym (ap (drop 1) (three-ys a b c))))
+coords-low a b (c ∷ d ∷ []) = (refl, refl)
+coords-low a b (c ∷ d ∷ e ∷ []) = (refl, refl)
+coords-low a b (c ∷ d ∷ e ∷ f ∷ l) = (refl, refl)
