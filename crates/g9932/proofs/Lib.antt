@@ -4,6 +4,7 @@ pub mod Figures
 pub mod Constellations
 pub mod Coordinates
 pub mod Counts
+pub mod Filler
 pub mod Formed
 pub mod Identities
 pub mod Labels
