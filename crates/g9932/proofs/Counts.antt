@@ -1,5 +1,5 @@
--- Laws of sums, counts and filters of a list of numbers.
-use Prim.Native.Nat.{ℕ, zero, suc, _+_, _*_, _≤_}
+-- Laws of sums, counts and filters of a list of numbers, and facts of its every entry.
+use Prim.Native.Nat.{ℕ, zero, suc, _+_, _*_, _≤_, _<_}
 use mathlib.Core.Bool.{Bool, true, false, not}
 use mathlib.Core.List.{List, [], _∷_, _++_, map}
 use mathlib.Core.Path.{_≡_, refl, ap, _∙_}
@@ -8,9 +8,42 @@ use native.Mathlib.Numerals.{one-add}
 use native.Mathlib.Omega.{arith}
 use borrow.Author.Tests.{le-leb, lt-ltb, ne-eqb}
 use lib.Dec.{ltb, leb, eqb}
-use lib.ListN.{length, replicate}
+use lib.ListN.{length, getD, replicate}
 use Rattle.g9932.specs.Bits.{weight}
 use Rattle.g9932.specs.Order.{sum, count, consIf, filter, isOne}
+
+-- ---- a fact of every entry
+
+abbrev pub Every : (ℕ → Type 0) → List ℕ → Type 0
+Every P [] = Unit {0}
+Every P (n ∷ ns) = P n × Every P ns
+
+module _ (P : ℕ → Type 0) where
+  pub every-at : (ns : List ℕ) → Every P ns → (k : ℕ) → k < length ns → P (getD ns k 0)
+  every-at [] h k l = absurd (omega arith)
+  every-at (n ∷ ns) h zero l = h .0
+  every-at (n ∷ ns) h (suc k) l = every-at ns (h .1) k (omega arith)
+
+  pub every-append : (a b : List ℕ) → Every P a → Every P b → Every P (a ++ b)
+  every-append [] b h g = g
+  every-append (n ∷ a) b h g = (h .0, every-append a b (h .1) g)
+
+  pub every-replicate : (k n : ℕ) → P n → Every P (replicate k n)
+  every-replicate zero n h = tt
+  every-replicate (suc k) n h = (h, every-replicate k n h)
+
+  pub every-map : (f : ℕ → ℕ) → ((k : ℕ) → P (f k)) → (t : List ℕ) → Every P (map f t)
+  every-map f h [] = tt
+  every-map f h (k ∷ t) = (h k, every-map f h t)
+
+  -- what is left by a test passes it, and keeps what held before
+  pub every-filter : (p : ℕ → Bool) (Q : ℕ → Type 0) → ((n : ℕ) → p n ≡ true → Q n → P n) → (ns : List ℕ) → Every Q ns → Every P (filter p ns)
+  every-filter p Q f [] h = tt
+  every-filter p Q f (n ∷ ns) h = go (p n) refl (every-filter p Q f ns (h .1))
+    where
+      go : (c : Bool) → p n ≡ c → Every P (filter p ns) → Every P (consIf c n (filter p ns))
+      go true e g = (f n e (h .0), g)
+      go false e g = g
 
 -- ---- joined lists
 

@@ -9,11 +9,11 @@ use lib.ListN.{length}
 use Rattle.g9932.specs.Order.{sum, isOne, Pair, inTwos, zeroInFront, pairsOf}
 use Rattle.g9932.specs.Trellis.{lastTwo}
 use Rattle.g9932.proofs.OnePair.{Fit, lone, both}
-use Rattle.g9932.proofs.Pairs.{Ok, sentTotal}
+use Rattle.g9932.proofs.Counts.{Every}
+use Rattle.g9932.proofs.Pairs.{Ok, sentTotal, takenTotal, size-law}
 
 abbrev pub AllTwo : List ℕ → Type 0
-AllTwo [] = Unit {0}
-AllTwo (n ∷ ns) = (2 ≤ n) × AllTwo ns
+AllTwo es = Every (λ n. 2 ≤ n) es
 
 abbrev pub Full : List Pair → Type 0
 Full [] = Unit {0}
@@ -46,6 +46,11 @@ full-ok (p ∷ ps) h = (fit-both (lastTwo ps) (p .x) (p .y) (h .0) (h .1), full-
 pub formed-ok : {o : Bool} (ps : List Pair) → Formed o ps → Ok ps
 formed-ok ps (whole h) = full-ok ps h
 formed-ok ps (padded {p = p} {q = q} {r = r} {ps = qs} e y h) = (fit-lone (p .x) (p .y) e y, full-ok (q ∷ r ∷ qs) h)
+
+-- they take P + 4 bits less than they send
+pub formed-size : {o : Bool} (ps : List Pair) → Formed o ps → takenTotal ps + length ps + 4 ≡ sentTotal ps
+formed-size ps (whole {p = p} {q = q} {ps = qs} h) = size-law p q qs (formed-ok ps (whole h))
+formed-size ps (padded {p = p} {q = q} {r = r} {ps = qs} e y h) = size-law p q (r ∷ qs) (formed-ok ps (padded e y h))
 
 -- ---- from entries to pairs
 

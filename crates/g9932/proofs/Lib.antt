@@ -1,6 +1,7 @@
 pub mod Words
 pub mod Packed
 pub mod Figures
+pub mod Accepted
 pub mod Constellations
 pub mod Coordinates
 pub mod Counts
@@ -8,6 +9,7 @@ pub mod Filler
 pub mod Formed
 pub mod Identities
 pub mod Labels
+pub mod Members
 pub mod OnePair
 pub mod Pairs
 pub mod Reordering

@@ -162,8 +162,8 @@ module _ (l : ℕ) (f : List ℕ) (ok : frameTest l f ≡ false) where
   pack-frame bytes =
       let z : num (unusedBits l f) ≡ 0 = num-zeros (unusedBits l f) frame-unused in
       let e : num (frameBits l f) ≡ num (unpack f) =
-          sym (ap num (sym (take-append-drop l (unpack f))) ∙ num-append (frameBits l f) (unusedBits l f)
-          ∙ ap (λ (m : ℕ). num (frameBits l f) + 2 ^ length (frameBits l f) * m) z ∙ omega arith) in
+      sym (ap num (sym (take-append-drop l (unpack f))) ∙ num-append (frameBits l f) (unusedBits l f)
+      ∙ ap (λ (m : ℕ). num (frameBits l f) + 2 ^ length (frameBits l f) * m) z ∙ omega arith) in
       ap (λ (n : ℕ). packInto (bytesFor n) (frameBits l f)) length-frame
       ∙ ap (λ (n : ℕ). packInto n (frameBits l f)) (sym frame-length)
       ∙ pack-num (length f) (frameBits l f) (unpack f) e ∙ pack-unpack f bytes
@@ -177,7 +177,7 @@ module _ (g : List Bool) where
   pub bits-pack : frameBits (length g) (pack g) ≡ g
   bits-pack =
       let l : length (frameBits (length g) (pack g)) ≡ length g =
-          length-take-le (length g) (unpack (pack g)) (omega (arith, length-unpack (pack g), length-pack (bytesFor (length g)) g)) in
+      length-take-le (length g) (unpack (pack g)) (omega (arith, length-unpack (pack g), length-pack (bytesFor (length g)) g)) in
       num-inj (frameBits (length g) (pack g)) g l (num-take (length g) (unpack (pack g)) ∙ rw packed-number (mod-eq-of-lt (num-lt g)))
 
   pub pack-accepted : frameTest (length g) (pack g) ≡ false

@@ -134,5 +134,8 @@ encode-read (p ∷ ps) s d f h l e =
     let hu : wordAt s p ps f ≡ u = rw (g .whole, take-at b (g .rest) (taken (lastTwo ps) p) lb) (word-taken (h .0) v) in
     let hr : drop (taken (lastTwo ps) p) f ≡ g .rest = ap (λ (z : List Bool). drop (taken (lastTwo ps) p) z) (g .whole) ∙ drop-at b (g .rest) (taken (lastTwo ps) p) lb in
     encode-on p ps s f u (g .rest) hu hr
-    ∙ rw (encode-read ps (nextOf s u) (drop (width p) d) (g .rest) (h .1) (simp length-drop (omega arith)) (g .on),
-      sent-heard (take (width p) d) (h .0) (length-take-le (width p) d (omega arith)), take-append-drop (width p) d)
+    ∙ rw (
+      encode-read ps (nextOf s u) (drop (width p) d) (g .rest) (h .1) (simp length-drop (omega arith)) (g .on),
+      sent-heard (take (width p) d) (h .0) (length-take-le (width p) d (omega arith)),
+      take-append-drop (width p) d,
+    )

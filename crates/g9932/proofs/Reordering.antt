@@ -10,10 +10,10 @@ use lib.Dec.{ltb, leb}
 use lib.ListN.{length, replicate, length-append, length-replicate}
 use Rattle.g9932.specs.Bits.{weight}
 use Rattle.g9932.specs.Sizes.{entry}
-use Rattle.g9932.specs.Order.{sum, count, consIf, filter, isOne, bitsOf, oneBit, singles, others, loaded, ones, reorderedTones, entryCount, entries, reorderedBits}
+use Rattle.g9932.specs.Order.{sum, count, filter, isOne, bitsOf, oneBit, singles, others, loaded, ones, reorderedTones, entryCount, entries, reorderedBits}
 use Rattle.g9932.specs.declared.Mode.{Mode}
 use Rattle.g9932.specs.declared.Mode.the-variants.{Uncoded, Coded}
-use Rattle.g9932.proofs.Counts.{sum-append, count-append, filter-append, sum-parts, count-parts, length-parts, map-filter, two-loaded, filter-ones, filter-big, filter-small, sum-big, count-big, sum-replicate, count-replicate}
+use Rattle.g9932.proofs.Counts.{Every, every-append, every-replicate, every-map, every-filter, sum-append, count-append, filter-append, sum-parts, count-parts, length-parts, map-filter, two-loaded, filter-ones, filter-big, filter-small, sum-big, count-big, sum-replicate, count-replicate}
 use Rattle.g9932.proofs.Formed.{AllTwo}
 
 module _ (b t : List ℕ) where
@@ -63,28 +63,24 @@ module _ (b t : List ℕ) where
         ap length entries-law ∙ length-append (filter (leb 2) (bitsOf b t)) (replicate (ones b t / 2) 2)
         ∙ omega (arith, length-replicate {A = ℕ} (ones b t / 2) 2, count-big (bitsOf b t))
 
--- ---- every entry is at least 2
+-- ---- the range of the entries
 
-allTwo-append : (k l : List ℕ) → AllTwo k → AllTwo l → AllTwo (k ++ l)
-allTwo-append [] l h g = g
-allTwo-append (n ∷ k) l h g = (h .0, allTwo-append k l (h .1) g)
+abbrev pub Range : ℕ → Type 0
+Range n = (2 ≤ n) × (n ≤ 15)
 
-allTwo-filter : (ns : List ℕ) → AllTwo (filter (leb 2) ns)
-allTwo-filter [] = tt
-allTwo-filter (n ∷ ns) = go (leb 2 n) refl (allTwo-filter ns)
-  where
-    go : (c : Bool) → leb 2 n ≡ c → AllTwo (filter (leb 2) ns) → AllTwo (consIf c n (filter (leb 2) ns))
-    go true e h = (leb-true 2 n e, h)
-    go false e h = h
-
-allTwo-twos : (k : ℕ) → AllTwo (replicate k 2)
-allTwo-twos zero = tt
-allTwo-twos (suc k) = (omega arith, allTwo-twos k)
+pub range-entries : (b t : List ℕ) → ((k : ℕ) → entry b k ≤ 15) → Every Range (entries b t)
+range-entries b t small =
+    rw (entries-law b t)
+    (every-append Range (filter (leb 2) (bitsOf b t)) (replicate (ones b t / 2) 2)
+    (every-filter Range (leb 2) (λ n. n ≤ 15) (λ n e h. (leb-true 2 n e, h)) (bitsOf b t) (every-map (λ n. n ≤ 15) (entry b) small t))
+    (every-replicate Range (ones b t / 2) 2 (omega arith, omega arith)))
 
 pub allTwo-entries : (b t : List ℕ) → AllTwo (entries b t)
 allTwo-entries b t =
     rw (entries-law b t)
-    (allTwo-append (filter (leb 2) (bitsOf b t)) (replicate (ones b t / 2) 2) (allTwo-filter (bitsOf b t)) (allTwo-twos (ones b t / 2)))
+    (every-append (λ n. 2 ≤ n) (filter (leb 2) (bitsOf b t)) (replicate (ones b t / 2) 2)
+    (every-filter (λ n. 2 ≤ n) (leb 2) (λ n. Unit {0}) (λ n e h. leb-true 2 n e) (bitsOf b t) (every-map (λ n. Unit {0}) (entry b) (λ k. tt) t))
+    (every-replicate (λ n. 2 ≤ n) (ones b t / 2) 2 (omega arith)))
 
 -- ---- b'
 

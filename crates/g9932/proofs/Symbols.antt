@@ -96,8 +96,11 @@ length-gather [] q l on = refl
 length-gather (c ∷ cs) [] l on = absurd (omega arith)
 length-gather (c ∷ cs) (p ∷ q) l on =
     length-append (toneBits c p) (gatherBits cs q)
-    ∙ omega (arith, length-bits c p (not-false (inConstellation c p) (on 0 (omega arith))),
-      length-gather cs q (omega arith) (λ k h. on (suc k) (omega arith)))
+    ∙ omega (
+      arith,
+      length-bits c p (not-false (inConstellation c p) (on 0 (omega arith))),
+      length-gather cs q (omega arith) (λ k h. on (suc k) (omega arith)),
+    )
 
 pub write-gather : (r : ℕ) (cs : List Class) (q : List Point) → length q ≡ length cs → OnGrid cs q → Filled r cs q → writePoints r cs (gatherBits cs q) ≡ q
 unfolding writePoints gatherBits registerAfter
@@ -109,4 +112,4 @@ write-gather r (c ∷ cs) (p ∷ q) l on filled =
     let f : isFiller c r p ≡ true = not-false (isFiller c r p) (filled 0 (omega arith)) in
     rw (point-back r c p (gatherBits cs q) i f, drop-at (toneBits c p) (gatherBits cs q) (load c) (length-bits c p i))
     (ap (λ (z : List Point). p ∷ z)
-      (write-gather (afterDraws (draws c) r) cs q (omega arith) (λ k h. on (suc k) (omega arith)) (λ k h. filled (suc k) (omega arith))))
+    (write-gather (afterDraws (draws c) r) cs q (omega arith) (λ k h. on (suc k) (omega arith)) (λ k h. filled (suc k) (omega arith))))

@@ -44,7 +44,7 @@ module _ (p : Pair) (ps : List Pair) (d : List Bool) (fits : width p ≤ length 
   turned-on : (s : TrellisState) → keepsCode (lastTwo ps) s (heardAt p (turnedBits (p ∷ ps) d)) ≡ true
       → readPairs s (p ∷ ps) (turnedBits (p ∷ ps) d)
       ≡ after (takenBits (lastTwo ps) (p .x) (heardAt p (turnedBits (p ∷ ps) d)))
-        (readPairs (nextOf s (heardAt p (turnedBits (p ∷ ps) d))) ps (turnedBits ps (drop (width p) d)))
+      (readPairs (nextOf s (heardAt p (turnedBits (p ∷ ps) d))) ps (turnedBits ps (drop (width p) d)))
   turned-on s k = read-on p ps s (turnedBits (p ∷ ps) d) (heardAt p (turnedBits (p ∷ ps) d)) (turnedBits ps (drop (width p) d)) refl drop-turned k
 
 -- ---- no 0 in front
@@ -56,10 +56,11 @@ turned-read [] s d f h l e = ([], refl)
 turned-read (p ∷ ps) s d f h l e =
     let c : Went p ps s d f = went p ps s d f e in
     let t : Turned (heardAt p d) (heardAt p (turnedBits (p ∷ ps) d)) = turned-at p ps d (omega arith) (h .0) (h .1) in
-    let r = turned-read ps (nextOf s (heardAt p d)) (drop (width p) d) (c .rest) (h .2) (simp length-drop (omega arith)) (c .on) in
-    (takenBits (lastTwo ps) (p .x) (heardAt p (turnedBits (p ∷ ps) d)) ++ r .0,
-     turned-on p ps d (omega arith) s (turned-keeps (lastTwo ps) s (heardAt p d) (heardAt p (turnedBits (p ∷ ps) d)) t ∙ c .kept)
-     ∙ rw (turned-next s (heardAt p d) (heardAt p (turnedBits (p ∷ ps) d)) t, r .1))
+    let r = turned-read ps (nextOf s (heardAt p d)) (drop (width p) d) (c .rest) (h .2) (simp length-drop (omega arith)) (c .on) in (
+      takenBits (lastTwo ps) (p .x) (heardAt p (turnedBits (p ∷ ps) d)) ++ r .0,
+      turned-on p ps d (omega arith) s (turned-keeps (lastTwo ps) s (heardAt p d) (heardAt p (turnedBits (p ∷ ps) d)) t ∙ c .kept)
+          ∙ rw (turned-next s (heardAt p d) (heardAt p (turnedBits (p ∷ ps) d)) t, r .1),
+    )
 
 turned-differs : (p : Pair) (ps : List Pair) (s : TrellisState) (d f g : List Bool) → Full (p ∷ ps) → length d ≡ sentTotal (p ∷ ps)
     → readPairs s (p ∷ ps) d ≡ frame f → readPairs s (p ∷ ps) (turnedBits (p ∷ ps) d) ≡ frame g → g ≢ f
@@ -105,7 +106,7 @@ breaks-soon q r (m ∷ ms) a b d f o h l e =
     let t = turned-at q (r ∷ m ∷ ms) d (omega arith) (h .0) (h .1) in
     turned-on q (r ∷ m ∷ ms) d (omega arith) b (off-free a b (heardAt q d) (heardAt q (turnedBits (q ∷ r ∷ m ∷ ms) d)) o t ∙ c .kept)
     ∙ rw (breaks-here r (m ∷ ms) (nextOf a (heardAt q d)) (nextOf b (heardAt q (turnedBits (q ∷ r ∷ m ∷ ms) d))) (drop (width q) d) (c .rest)
-      (off-next a b (heardAt q d) (heardAt q (turnedBits (q ∷ r ∷ m ∷ ms) d)) o t) (h .2) (simp length-drop (omega arith)) (c .on))
+    (off-next a b (heardAt q d) (heardAt q (turnedBits (q ∷ r ∷ m ∷ ms) d)) o t) (h .2) (simp length-drop (omega arith)) (c .on))
 
 breaks-padded : (p q r : Pair) (ps : List Pair) (s : TrellisState) (d f : List Bool) → p .x ≡ 0 → 2 ≤ p .y → Full (q ∷ r ∷ ps)
     → length d ≡ sentTotal (p ∷ q ∷ r ∷ ps) → readPairs s (p ∷ q ∷ r ∷ ps) d ≡ frame f
@@ -115,7 +116,7 @@ breaks-padded p q r ps s d f z y h l e =
     let t = turned-lone p (q ∷ r ∷ ps) d (omega arith) z y in
     turned-on p (q ∷ r ∷ ps) d (omega arith) s (rw (t .same0) (c .kept))
     ∙ rw (breaks-soon q r ps (nextOf s (heardAt p d)) (nextOf s (heardAt p (turnedBits (p ∷ q ∷ r ∷ ps) d))) (drop (width p) d) (c .rest)
-      (lone-off s (heardAt p d) (heardAt p (turnedBits (p ∷ q ∷ r ∷ ps) d)) t) h (simp length-drop (omega arith)) (c .on))
+    (lone-off s (heardAt p d) (heardAt p (turnedBits (p ∷ q ∷ r ∷ ps) d)) t) h (simp length-drop (omega arith)) (c .on))
 
 at-later : (p q r : Pair) (ps : List Pair) → suc (later ps) ≡ cond (eqb (length (p ∷ q ∷ r ∷ ps)) 3) 1 2
 at-later p q r [] = refl
