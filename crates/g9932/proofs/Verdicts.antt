@@ -70,6 +70,10 @@ pub and-accepted : (l : ℕ) {v x w : Verdict} → accepted l ≡ v → x ≡ w 
 unfolding andThen
 and-accepted l e q = rw (← e) q
 
+pub and-past : (v : Verdict) {x w : Verdict} → v .number ≡ 0 → x ≡ w → x ≡ andThen v w
+unfolding andThen
+and-past v e q = rw e q
+
 pub and-none : (v w : Verdict) → andThen v w .number ≡ 0 → (v .number ≡ 0) × (w .number ≡ 0)
 unfolding andThen
 and-none v w e = go (eqb (v .number) 0) refl e

@@ -1,5 +1,5 @@
 -- Document 01, "The words of demand 3".
-use Prim.Native.Nat.{ℕ}
+use Prim.Native.Nat.{ℕ, _<_}
 use mathlib.Core.Bool.{Bool, true, false}
 use mathlib.Core.List.{List}
 use mathlib.Core.Path.{_≡_}
@@ -15,12 +15,14 @@ use Rattle.g9932.specs.declared.Found.{Found}
 use Rattle.g9932.specs.declared.Class.{Class}
 use Rattle.g9932.specs.declared.Class.the-variants.{Data, Monitored, Silent}
 
--- Tables are accepted in a mode when none of 1 to 9 applies, a frame when 11 doesn't. A register is valid when 12 doesn't apply.
+-- Tables are accepted in a mode when none of 1 to 9 applies, a frame of bytes when 11 doesn't. A register is valid when 12 doesn't
+-- apply.
 abbrev pub AcceptedTables : Tables → Type 0
 AcceptedTables T = tableVerdict T .number ≡ 0
 
-abbrev pub AcceptedFrame : Tables → List ℕ → Type 0
-AcceptedFrame T f = frameTest (sizeOf T) f ≡ false
+pub record AcceptedFrame (T : Tables) (f : List ℕ) : Type 0 where
+  pub bytes : (k : ℕ) → k < length f → getD f k 0 < 256
+  pub passes : frameTest (sizeOf T) f ≡ false
 
 abbrev pub ValidRegister : ℕ → Type 0
 ValidRegister r = seedTest r ≡ false
