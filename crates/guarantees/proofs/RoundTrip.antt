@@ -45,7 +45,7 @@ module _ (T : Tables) (a : Accepted T) (r : ℕ) where
   pub packed-frame : (g : List Bool) → length g ≡ sizeOf T → AcceptedFrame T (pack g)
   packed-frame g l = record { bytes = bytes-pack _ g; passes = rw (← l) (pack-accepted g) }
 
-  packed-bits : (g : List Bool) → length g ≡ sizeOf T → frameBits (sizeOf T) (pack g) ≡ g
+  pub packed-bits : (g : List Bool) → length g ≡ sizeOf T → frameBits (sizeOf T) (pack g) ≡ g
   packed-bits g l = rw (← l) (bits-pack g)
 
   -- points that are read are those of the packed bits
@@ -83,7 +83,7 @@ module _ (T : Tables) (r : ℕ) (xs ys : List ℤ) (f₀ : List ℕ) (ready : Re
   encoded-points : (f : List ℕ) → AcceptedFrame T f → points (X-of f) (Y-of f) ≡ writtenPoints T r f
   encoded-points f ok = rw (encoded-xs f ok, encoded-ys f ok) (points-both (writtenPoints T r f))
 
-  encoded-right : (f : List ℕ) → AcceptedFrame T f → RightLength T (X-of f) (Y-of f)
+  pub encoded-right : (f : List ℕ) → AcceptedFrame T f → RightLength T (X-of f) (Y-of f)
   encoded-right f ok =
       record {
         xsLength = ap length (encoded-xs f ok) ∙ length-map (writtenPoints T r f) (λ p. p .px) ∙ length-written T facts r f;
