@@ -2,14 +2,14 @@
 use Prim.Native.Nat.{ℕ, zero, suc, _+_, _-_, _/_, _%_, _≤_, _<_}
 use mathlib.Core.Bool.{Bool, true, false, not, _&&_, _||_, true≢false}
 use mathlib.Core.List.{List}
-use mathlib.Core.Path.{_≡_, refl, sym, ap, _∙_}
+use mathlib.Core.Path.{_≡_, refl, ap, _∙_}
 use native.Mathlib.Omega.{arith}
 use borrow.Author.Tests.{ltb-true, ltb-false, leb-false, eqb-true, not-false, lt-ltb}
-use lib.Dec.{ltb, leb, eqb}
+use lib.Dec.{ltb, eqb}
 use lib.ListN.{length, getD, List·getD-eq-default}
 use Rattle.g9932.specs.Bits.{first}
 use Rattle.g9932.specs.Sizes.{Tables, entry}
-use Rattle.g9932.specs.Refusals.{Verdict, sizeTest, toneTest, member, twiceTest, bitsTest, strayTest, gainBy, gainTest, oddTest, fewTest, holdsOne, pairTest, tableVerdict}
+use Rattle.g9932.specs.Refusals.{sizeTest, toneTest, member, twiceTest, bitsTest, strayTest, gainBy, gainTest, oddTest, fewTest, holdsOne, pairTest, tableVerdict}
 use Rattle.g9932.specs.Order.{sum, count, isOne, bitsOf, ones, entryCount, entries, reorderedBits, pair, pairsOf, codedPairs, pairCount, frameSize}
 use Rattle.g9932.specs.Symbol.{pairsIn, sizeOf}
 use Rattle.g9932.specs.declared.Found.the-variants.{Nothing}

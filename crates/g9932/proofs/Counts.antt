@@ -1,13 +1,13 @@
 -- Laws of sums, counts and filters of a list of numbers, and facts of its every entry.
-use Prim.Native.Nat.{ℕ, zero, suc, _+_, _*_, _≤_, _<_}
+use Prim.Native.Nat.{ℕ, zero, suc, _+_, _*_, _<_}
 use mathlib.Core.Bool.{Bool, true, false, not}
 use mathlib.Core.List.{List, [], _∷_, _++_, map}
-use mathlib.Core.Path.{_≡_, refl, ap, _∙_}
+use mathlib.Core.Path.{_≡_, refl, ap}
 use native.Mathlib.Nat.{zero-add, zero-mul, suc-mul}
 use native.Mathlib.Numerals.{one-add}
 use native.Mathlib.Omega.{arith}
 use borrow.Author.Tests.{le-leb, lt-ltb, ne-eqb}
-use lib.Dec.{ltb, leb, eqb}
+use lib.Dec.{ltb, leb}
 use lib.ListN.{length, getD, replicate}
 use Rattle.g9932.specs.Bits.{weight}
 use Rattle.g9932.specs.Order.{sum, count, consIf, filter, isOne}
@@ -93,16 +93,6 @@ module _ (p : ℕ → Bool) where
     where
       go : (c : Bool) → length (filter fails ns) + length (filter p ns) ≡ length ns
           → length (consIf (not c) n (filter fails ns)) + length (consIf c n (filter p ns)) ≡ suc (length ns)
-      go true e = omega arith
-      go false e = omega arith
-
-  -- a count is the length of what is left
-  pub length-filter : (ns : List ℕ) → length (filter p ns) ≡ count p ns
-  unfolding weight
-  length-filter [] = refl
-  length-filter (n ∷ ns) = go (p n) (length-filter ns)
-    where
-      go : (c : Bool) → length (filter p ns) ≡ count p ns → length (consIf c n (filter p ns)) ≡ weight c + count p ns
       go true e = omega arith
       go false e = omega arith
 

@@ -138,7 +138,7 @@ unfolding heardWord
 heard-valid s d lone h k = record { kept = k; sized = simp length-drop (omega arith); clear = (refl, refl) }
 heard-valid s d both h k = record { kept = k; sized = simp (length-append, length-drop, length-take) (omega arith); clear = tt }
 
-pub implied-append : (x : ℕ) (v w : List Bool) → length v ≡ x → implied (take x (v ++ w)) (drop x (v ++ w)) ≡ implied v w
+implied-append : (x : ℕ) (v w : List Bool) → length v ≡ x → implied (take x (v ++ w)) (drop x (v ++ w)) ≡ implied v w
 implied-append x v w h = rw (take-at v w x h, drop-at v w x h)
 
 pub heard-sent : {l : Bool} {x y : ℕ} {s : TrellisState} {u : Word} → Fit l x y → Valid l s x y u → heardWord x (sentBits x u) ≡ u

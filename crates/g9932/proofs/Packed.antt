@@ -1,14 +1,14 @@
 -- Laws of packed bits: the bits of a list of bytes, and frames of L bits.
 -- Packing depends on the number of its bits only, so that a frame and its bits give one another is a statement about numbers.
 use mathlib.Core.Path.{_≡_, refl, sym, ap, ap₂, _∙_}
-use mathlib.Core.Bool.{Bool, true, false, not, _||_, true≢false}
+use mathlib.Core.Bool.{Bool, true, false, not, true≢false}
 use mathlib.Core.List.{List, [], _∷_, _++_, append-assoc}
 use Prim.Native.Nat.{ℕ, zero, suc, _+_, _-_, _*_, _/_, _%_, _^_, _≤_, _<_}
 use native.Mathlib.Nat.{suc-add, zero-div, div-eq-of-lt, mod-eq-of-lt}
 use native.Mathlib.Omega.{arith}
 use borrow.Author.Tests.{ltb-true, ltb-false, eqb-true, not-false, eq-eqb}
 use lib.Dec.{ltb, eqb}
-use lib.ListN.{length, take, drop, getD, length-append, length-take, take-append-drop, List·getD-append}
+use lib.ListN.{length, take, drop, getD, length-append, take-append-drop, List·getD-append}
 use lib.Seq.{take-append-add, drop-append-add, take-take, take-nil, drop-nil, take-at, drop-at, length-take-le, getD-append-add}
 use Rattle.g9932.specs.Bits.{bit, weight, num, odd, bits}
 use Rattle.g9932.specs.Sizes.{unpack, bytesFor, packInto, pack, frameBits, unusedBits}

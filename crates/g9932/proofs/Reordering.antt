@@ -1,16 +1,15 @@
 -- Laws of t' and b': nothing is lost or added, and the entries are counts of at least 2, as many as N, with the sum of bits.
-use Prim.Native.Nat.{ℕ, zero, suc, _+_, _-_, _*_, _/_, _%_, _≤_}
-use mathlib.Core.Bool.{Bool, true, false, not}
-use mathlib.Core.List.{List, [], _∷_, _++_, map, map-append, append-nil}
+use Prim.Native.Nat.{ℕ, zero, suc, _+_, _-_, _/_, _%_, _≤_}
+use mathlib.Core.Bool.{Bool, not}
+use mathlib.Core.List.{List, [], _∷_, _++_, map-append, append-nil}
 use mathlib.Core.Path.{_≡_, refl, sym, ap, ap₂, _∙_}
-use native.Mathlib.Nat.{zero-add}
 use native.Mathlib.Omega.{arith}
 use borrow.Author.Tests.{leb-true}
 use lib.Dec.{ltb, leb}
 use lib.ListN.{length, replicate, length-append, length-replicate}
 use Rattle.g9932.specs.Bits.{weight}
 use Rattle.g9932.specs.Sizes.{entry}
-use Rattle.g9932.specs.Order.{sum, count, filter, isOne, bitsOf, oneBit, singles, others, loaded, ones, reorderedTones, entryCount, entries, reorderedBits}
+use Rattle.g9932.specs.Order.{sum, count, filter, isOne, bitsOf, oneBit, singles, others, ones, reorderedTones, entryCount, entries, reorderedBits}
 use Rattle.g9932.specs.declared.Mode.{Mode}
 use Rattle.g9932.specs.declared.Mode.the-variants.{Uncoded, Coded}
 use Rattle.g9932.proofs.Counts.{Every, every-append, every-replicate, every-map, every-filter, sum-append, count-append, filter-append, sum-parts, count-parts, length-parts, map-filter, two-loaded, filter-ones, filter-big, filter-small, sum-big, count-big, sum-replicate, count-replicate}
@@ -98,9 +97,9 @@ module _ (b t : List ℕ) where
       count-append (ltb 0) (replicate (length t - entryCount b t) 0) (entries b t)
       ∙ omega (arith, count-replicate (ltb 0) (length t - entryCount b t) 0, count-two (entries b t) (allTwo-entries b t))
 
-  pub sum-reordered : (m : Mode) → ones b t % 2 ≡ 0 → sum (reorderedBits m b t) ≡ sum (bitsOf b t)
+  pub sum-reordered : (m : Mode) → (m ≡ Coded → ones b t % 2 ≡ 0) → sum (reorderedBits m b t) ≡ sum (bitsOf b t)
   unfolding reorderedBits
   sum-reordered Uncoded even = refl
   sum-reordered Coded even =
       sum-append (replicate (length t - entryCount b t) 0) (entries b t)
-      ∙ omega (arith, sum-replicate (length t - entryCount b t) 0, sum-entries b t even)
+      ∙ omega (arith, sum-replicate (length t - entryCount b t) 0, sum-entries b t (even refl))

@@ -10,7 +10,7 @@ use lib.ListN.{length, take, drop, length-append, length-drop, take-append-drop}
 use lib.Seq.{take-at, drop-at, length-take-le}
 use Rattle.g9932.specs.Sizes.{Point, origin}
 use Rattle.g9932.specs.Order.{sum}
-use Rattle.g9932.specs.Points.{pointOf, labelOf, isLabel, labelBits}
+use Rattle.g9932.specs.Points.{pointOf, labelOf, labelBits}
 use Rattle.g9932.specs.Filler.{drawn, afterDraws, draws, registerAfter}
 use Rattle.g9932.specs.Symbol.{load, tonePoint, writePoints, inConstellation, isFiller, offgridTest, monitorTest, toneBits, gatherBits}
 use Rattle.g9932.specs.declared.Class.{Class}

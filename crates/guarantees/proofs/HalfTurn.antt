@@ -1,6 +1,6 @@
 -- Half a turn of a written symbol in coded mode: with a monitored tone it fails 14 at the first one; else it is read as another
 -- frame where N is even, and breaks the code where N is odd.
-use Prim.Native.Nat.{ℕ, zero, suc, _+_, _%_, _<_}
+use Prim.Native.Nat.{ℕ, zero, suc, _%_, _<_}
 use mathlib.Core.Bool.{Bool, true, false, cond}
 use mathlib.Core.List.{List, [], _∷_, map}
 use mathlib.Core.Logic.{_↔_, _≢_}
@@ -13,10 +13,10 @@ use lib.ListN.{length, getD, length-map}
 use Rattle.g9932.specs.Bits.{first}
 use Rattle.g9932.specs.Sizes.{Tables, pack, frameBits, Point, points}
 use Rattle.g9932.specs.Refusals.{Verdict, refused}
-use Rattle.g9932.specs.Order.{count, isOne, bitsOf, entries, reorderedTones, reorderedBits, pairsOf}
-use Rattle.g9932.specs.Trellis.{zeroState, encodePairs, Reading, frame, breaks, readPairs, sentOf, readingOf}
-use Rattle.g9932.specs.Symbol.{classesOf, orderOf, pairsIn, sizeOf, load, writePoints, sentIn, writtenPoints, offgridTest, monitorTest, gatherBits, readingIn, turned}
-use Rattle.g9932.specs.Answers.{reportBy, encodeOf, breakIn, pointsVerdict, Read, readOf}
+use Rattle.g9932.specs.Order.{count, isOne, bitsOf, entries, reorderedTones, reorderedBits}
+use Rattle.g9932.specs.Trellis.{zeroState, encodePairs, frame, readPairs, sentOf, readingOf}
+use Rattle.g9932.specs.Symbol.{classesOf, orderOf, pairsIn, sizeOf, sentIn, writtenPoints, offgridTest, monitorTest, gatherBits, readingIn, turned}
+use Rattle.g9932.specs.Answers.{reportBy, breakIn, pointsVerdict, Read, readOf}
 use Rattle.g9932.specs.declared.Class.the-variants.{Silent}
 use Rattle.g9932.specs.declared.Found.{Found}
 use Rattle.g9932.specs.declared.Found.the-variants.{At, Nothing}
@@ -25,7 +25,7 @@ use Rattle.g9932.specs.declared.Mode.the-variants.{Coded}
 use Rattle.g9932.proofs.Accepted.{Accepted, AcceptedCoded, accepted-tables}
 use Rattle.g9932.proofs.Constellations.{turnedPoint}
 use Rattle.g9932.proofs.Formed.{Formed}
-use Rattle.g9932.proofs.Packed.{length-frame, bits-pack}
+use Rattle.g9932.proofs.Packed.{length-frame}
 use Rattle.g9932.proofs.Pairs.{takenTotal}
 use Rattle.g9932.proofs.Reordering.{nonzero-entries}
 use Rattle.g9932.proofs.Search.{first-no, first-all, first-ext}
@@ -114,12 +114,16 @@ module _ (T : Tables) (a : Accepted T) (m : T .mode ≡ Coded) (r : ℕ) (f : Li
       let t = turned-even (pairsIn T) g o taken-bits in
       let is : readingIn T q ≡ frame (t .0) = turned-reading ∙ t .1 in
       let lq : length q ≡ length (classesOf T) = length-map (writtenPoints T r f) turnedPoint ∙ length-written T a r f ∙ sym (length-classes T) in
-      let lg = length-gather (classesOf T) q lq no-13 ∙ loads-sum T in
-      (record {
-        on = no-13;
-        filled = λ k h. first-no (monitorTest r (classesOf T) q) (length (T .tones)) (at-14 ∙ e) k (rw (← length-classes T) h);
-      },
-       t .0, is, sentOf-read T a (gatherBits (classesOf T) q) (t .0) lg is .0, t .2)
+      let lg = length-gather (classesOf T) q lq no-13 ∙ loads-sum T in (
+        record {
+          on = no-13;
+          filled = λ k h. first-no (monitorTest r (classesOf T) q) (length (T .tones)) (at-14 ∙ e) k (rw (← length-classes T) h);
+        },
+        t .0,
+        is,
+        sentOf-read T a (gatherBits (classesOf T) q) (t .0) lg is .0,
+        t .2,
+      )
 
 -- ---- the promises
 
@@ -172,11 +176,12 @@ module _ (T : Tables) (r : ℕ) (xs ys : List ℤ) (f₀ : List ℕ) (ready : Re
     half-turn-even e n =
         let p = points-even T facts m r f ok e n in
         let whole : turnedRead f ≡ record { report = done T r; frame = pack (p .1) } =
-            reading-done T r xs ys f₀ ready X′ Y′ (p .1) right (rw are-points (p .0)) (ap (readingIn T) are-points ∙ p .2) in
-        let is : turnedRead f .frame ≡ pack (p .1) = ap (λ (a : Read). a .frame) whole in
-        (ap (λ (a : Read). a .report .verdict .number) whole,
-         subst (λ (z : List ℕ). AcceptedFrame T z) (sym is) (packed-frame T facts r (p .1) (p .3)),
-         λ same. p .4 (sym (packed-bits T facts r (p .1) (p .3)) ∙ ap (frameBits (sizeOf T)) (sym is ∙ same)))
+        reading-done T r xs ys f₀ ready X′ Y′ (p .1) right (rw are-points (p .0)) (ap (readingIn T) are-points ∙ p .2) in
+        let is : turnedRead f .frame ≡ pack (p .1) = ap (λ (a : Read). a .frame) whole in (
+          ap (λ (a : Read). a .report .verdict .number) whole,
+          subst (λ (z : List ℕ). AcceptedFrame T z) (sym is) (packed-frame T facts r (p .1) (p .3)),
+          λ same. p .4 (sym (packed-bits T facts r (p .1) (p .3)) ∙ ap (frameBits (sizeOf T)) (sym is ∙ same)),
+        )
 
     pub half-turn : ((turnedRead f .report .verdict .number ≡ 0) × AcceptedFrame T (turnedRead f .frame) × (turnedRead f .frame ≢ f))
         ↔ ((firstMonitored T ≡ Nothing) × (nonZero T % 2 ≡ 0))

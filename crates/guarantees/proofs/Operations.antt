@@ -1,26 +1,25 @@
 -- Encoding and reading with everything in order: the answers, opened.
 use Prim.Native.Nat.{ℕ, suc}
-use mathlib.Core.Bool.{Bool, true, false, _||_}
+use mathlib.Core.Bool.{Bool, false, _||_}
 use mathlib.Core.List.{List, [], _∷_, map}
-use mathlib.Core.Path.{_≡_, refl, sym, ap, ap₂, _∙_}
+use mathlib.Core.Path.{_≡_, refl, ap, _∙_}
 use native.Mathlib.Omega.{arith}
 use borrow.Author.Tests.{eq-eqb}
-use lib.Dec.{eqb}
 use lib.IntN.{ℤ}
 use lib.ListN.{length, length-map}
 use Rattle.g9932.specs.Bits.{first}
-use Rattle.g9932.specs.Sizes.{Tables, bytesFor, pack, Point, point, points}
-use Rattle.g9932.specs.Refusals.{Verdict, accepted, roomTest, frameTest, seedTest, tableVerdict}
+use Rattle.g9932.specs.Sizes.{Tables, bytesFor, pack, Point, points}
+use Rattle.g9932.specs.Refusals.{accepted, roomTest, tableVerdict}
 use Rattle.g9932.specs.Trellis.{Reading, frame, breaks}
 use Rattle.g9932.specs.Filler.{registerAfter}
 use Rattle.g9932.specs.Symbol.{classAt, orderOf, classesOf, sizeOf, writtenPoints, offgridTest, monitorTest, readingIn}
-use Rattle.g9932.specs.Answers.{onDone, Report, reportBy, Encoded, encodeVerdict, encodeOf, breakIn, frameIn, pointsVerdict, readVerdict, Read, readOf}
+use Rattle.g9932.specs.Answers.{onDone, Report, reportBy, encodeVerdict, encodeOf, breakIn, frameIn, pointsVerdict, readVerdict, readOf}
 use Rattle.g9932.specs.declared.Found.the-variants.{Nothing}
 use Rattle.g9932.proofs.Search.{first-no, first-all}
 use Rattle.g9932.proofs.Reordering.{length-order}
 use Rattle.g9932.proofs.Symbols.{OnGrid, Filled}
 use Rattle.g9932.proofs.Verdicts.{test-past, found-past, found-none, and-past}
-use Rattle.guarantees.specs.Words.{AcceptedTables, AcceptedFrame, ValidRegister, RightLength, Ready}
+use Rattle.guarantees.specs.Words.{AcceptedFrame, RightLength, Ready}
 
 no-room : (a b : ℕ) → a ≡ b → roomTest a b ≡ false
 no-room a b e = rw (eq-eqb a b e)
@@ -85,13 +84,14 @@ module _ (T : Tables) (q : List Point) (r : ℕ) where
       let a = found-none 12 (first (offgridTest (classesOf T) q) (length (T .tones))) _ e in
       let b = found-none 13 (first (monitorTest r (classesOf T) q) (length (T .tones))) _ (a .1) in
       let c = found-none 14 (breakIn (readingIn T q)) _ (b .1) in
-      let d = frame-of (readingIn T q) (c .0) in
-      (record {
-        on = λ k h. first-no (offgridTest (classesOf T) q) (length (T .tones)) (a .0) k (rw (← length-classes T) h);
-        filled = λ k h. first-no (monitorTest r (classesOf T) q) (length (T .tones)) (b .0) k (rw (← length-classes T) h);
-      },
-       d .0,
-       d .1)
+      let d = frame-of (readingIn T q) (c .0) in (
+        record {
+          on = λ k h. first-no (offgridTest (classesOf T) q) (length (T .tones)) (a .0) k (rw (← length-classes T) h);
+          filled = λ k h. first-no (monitorTest r (classesOf T) q) (length (T .tones)) (b .0) k (rw (← length-classes T) h);
+        },
+        d .0,
+        d .1,
+      )
 
 -- ---- encoding
 
@@ -104,8 +104,8 @@ module _ (T : Tables) (r : ℕ) (xs ys : List ℤ) (f₀ : List ℕ) (ready : Re
   encode-accepted f ok =
       and-past (tableVerdict T) (ready .tables)
       (test-past 10
-        (both-false (no-room (length xs) (length (T .tones)) (ready .lists .xsLength)) (no-room (length ys) (length (T .tones)) (ready .lists .ysLength)))
-        (test-past 11 (ok .passes) (test-past 12 (ready .register) refl)))
+      (both-false (no-room (length xs) (length (T .tones)) (ready .lists .xsLength)) (no-room (length ys) (length (T .tones)) (ready .lists .ysLength)))
+      (test-past 11 (ok .passes) (test-past 12 (ready .register) refl)))
 
   pub encoded : (f : List ℕ) → AcceptedFrame T f
       → encodeOf T f r xs ys ≡ record { report = done T r; xs = map (λ p. p .px) (writtenPoints T r f); ys = map (λ p. p .py) (writtenPoints T r f) }
@@ -119,16 +119,17 @@ module _ (T : Tables) (r : ℕ) (xs ys : List ℤ) (f₀ : List ℕ) (ready : Re
   reads X Y right =
       and-past (tableVerdict T) (ready .tables)
       (test-past 10
-        (both-false
-          (both-false (no-room (length X) (length (T .tones)) (right .xsLength)) (no-room (length Y) (length (T .tones)) (right .ysLength)))
-          (no-room (length f₀) (bytesFor (sizeOf T)) (ready .frame)))
-        (test-past 12 (ready .register) refl))
+      (both-false
+      (both-false (no-room (length X) (length (T .tones)) (right .xsLength)) (no-room (length Y) (length (T .tones)) (right .ysLength)))
+      (no-room (length f₀) (bytesFor (sizeOf T)) (ready .frame)))
+      (test-past 12 (ready .register) refl))
 
   pub reading : (X Y : List ℤ) → RightLength T X Y
       → readOf T X Y r f₀
       ≡ record {
-          report = reportBy (pointsVerdict T (points X Y) r) r (registerAfter r (classesOf T));
-          frame = onDone (pointsVerdict T (points X Y) r) (pack (frameIn (readingIn T (points X Y)))) f₀ }
+        report = reportBy (pointsVerdict T (points X Y) r) r (registerAfter r (classesOf T));
+        frame = onDone (pointsVerdict T (points X Y) r) (pack (frameIn (readingIn T (points X Y)))) f₀;
+      }
   reading X Y right = rw (← reads X Y right)
 
   -- points that pass 13 and 14 and keep the code

@@ -1,23 +1,21 @@
 -- Encoding and reading undo one another: the points of an accepted frame are read as it, and points that are read are those of
 -- the frame answered.
 use Prim.Native.Nat.{ℕ}
-use mathlib.Core.Bool.{Bool, false}
+use mathlib.Core.Bool.{Bool}
 use mathlib.Core.List.{List, map}
 use mathlib.Core.Logic.{_↔_}
-use mathlib.Core.Path.{_≡_, refl, sym, ap, ap₂, _∙_}
-use native.Mathlib.Omega.{arith}
+use mathlib.Core.Path.{_≡_, sym, ap, ap₂, _∙_}
 use lib.IntN.{ℤ}
 use lib.ListN.{length, length-map}
 use Rattle.g9932.specs.Sizes.{Tables, pack, frameBits, Point, points}
-use Rattle.g9932.specs.Refusals.{frameTest}
-use Rattle.g9932.specs.Trellis.{frame, sentOf, readingOf}
-use Rattle.g9932.specs.Symbol.{classesOf, pairsIn, sizeOf, writePoints, sentIn, writtenPoints, gatherBits, readingIn}
-use Rattle.g9932.specs.Answers.{Report, reportBy, Encoded, encodeOf, pointsVerdict, Read, readOf}
+use Rattle.g9932.specs.Trellis.{frame, readingOf}
+use Rattle.g9932.specs.Symbol.{classesOf, pairsIn, sizeOf, sentIn, writtenPoints, gatherBits, readingIn}
+use Rattle.g9932.specs.Answers.{Report, reportBy, Encoded, encodeOf, Read, readOf}
 use Rattle.g9932.proofs.Accepted.{Accepted, accepted-tables}
 use Rattle.g9932.proofs.Packed.{length-frame, bytes-pack, pack-frame, bits-pack, pack-accepted}
 use Rattle.g9932.proofs.Symbols.{loads, length-write, write-on, write-filled, gather-write, length-gather, write-gather}
 use Rattle.guarantees.specs.Words.{AcceptedFrame, RightLength, Ready}
-use Rattle.guarantees.proofs.Operations.{points-both, points-xs, points-ys, length-points, length-classes, Passes, points-done, done, encoded, reading, reading-done}
+use Rattle.guarantees.proofs.Operations.{points-both, points-xs, points-ys, length-points, length-classes, Passes, points-done, encoded, reading, reading-done}
 use Rattle.guarantees.proofs.Sent.{loads-sum, length-sentOf, read-sentOf, sentOf-read}
 
 -- ---- bits, points and frames
@@ -55,9 +53,10 @@ module _ (T : Tables) (a : Accepted T) (r : ℕ) where
   read-written q g l ok e =
       let lq : length q ≡ length (classesOf T) = l ∙ sym (length-classes T) in
       let lg = length-gather (classesOf T) q lq (ok .on) ∙ loads-sum T in
-      let s = sentOf-read T a (gatherBits (classesOf T) q) g lg e in
-      (s .0,
-       rw (packed-bits g (s .0), s .1) (write-gather r (classesOf T) q lq (ok .on) (ok .filled)))
+      let s = sentOf-read T a (gatherBits (classesOf T) q) g lg e in (
+        s .0,
+        rw (packed-bits g (s .0), s .1) (write-gather r (classesOf T) q lq (ok .on) (ok .filled)),
+      )
 
 -- ---- the promises
 
@@ -98,10 +97,11 @@ module _ (T : Tables) (r : ℕ) (xs ys : List ℤ) (f₀ : List ℕ) (ready : Re
       ∙ ap₂ answer (sym (ap (λ (e : Encoded). e .report) (encoded T r xs ys f₀ ready f ok))) (pack-frame (sizeOf T) f (ok .passes) (ok .bytes))
 
   pub distinct : (f g : List ℕ) → AcceptedFrame T f → AcceptedFrame T g → ((X-of f ≡ X-of g) × (Y-of f ≡ Y-of g)) ↔ (f ≡ g)
-  distinct f g hf hg =
-      (λ h. sym (ap (λ (a : Read). a .frame) (answered f hf)) ∙ ap₂ (λ (X Y : List ℤ). readOf T X Y r f₀ .frame) (h .0) (h .1)
+  distinct f g hf hg = (
+    λ h. sym (ap (λ (a : Read). a .frame) (answered f hf)) ∙ ap₂ (λ (X Y : List ℤ). readOf T X Y r f₀ .frame) (h .0) (h .1)
         ∙ ap (λ (a : Read). a .frame) (answered g hg),
-       λ e. (ap X-of e, ap Y-of e))
+    λ e. (ap X-of e, ap Y-of e),
+  )
 
   pub exactly : (X Y : List ℤ) → RightLength T X Y
       → (readOf T X Y r f₀ .report .verdict .number ≡ 0) ↔ ((f : List ℕ) × AcceptedFrame T f × (X-of f ≡ X) × (Y-of f ≡ Y))
@@ -115,10 +115,12 @@ module _ (T : Tables) (r : ℕ) (xs ys : List ℤ) (f₀ : List ℕ) (ready : Re
       only h =
           let p = points-done T (points X Y) r (sym (ap (λ (a : Read). a .report .verdict .number) (reading T r xs ys f₀ ready X Y right)) ∙ h) in
           let w = read-written T facts r (points X Y) (p .1) (length-points X Y same-length ∙ right .xsLength) (p .0) (p .2) in
-          let ok : AcceptedFrame T (pack (p .1)) = packed-frame T facts r (p .1) (w .0) in
-          (pack (p .1), ok,
-           encoded-xs (pack (p .1)) ok ∙ ap (map (λ p. p .px)) (w .1) ∙ points-xs X Y same-length,
-           encoded-ys (pack (p .1)) ok ∙ ap (map (λ p. p .py)) (w .1) ∙ points-ys X Y same-length)
+          let ok : AcceptedFrame T (pack (p .1)) = packed-frame T facts r (p .1) (w .0) in (
+            pack (p .1),
+            ok,
+            encoded-xs (pack (p .1)) ok ∙ ap (map (λ p. p .px)) (w .1) ∙ points-xs X Y same-length,
+            encoded-ys (pack (p .1)) ok ∙ ap (map (λ p. p .py)) (w .1) ∙ points-ys X Y same-length,
+          )
 
       if : (f : List ℕ) × AcceptedFrame T f × (X-of f ≡ X) × (Y-of f ≡ Y) → readOf T X Y r f₀ .report .verdict .number ≡ 0
       if w =

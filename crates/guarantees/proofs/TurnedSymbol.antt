@@ -11,8 +11,8 @@ use lib.Dec.{ltb}
 use lib.ListN.{length, take, drop, getD, length-drop}
 use lib.Seq.{length-take-le}
 use Rattle.g9932.specs.Bits.{bit}
-use Rattle.g9932.specs.Sizes.{Tables, entry, Point, classBy, classOf}
-use Rattle.g9932.specs.Points.{pointOf, samePoint, labelOf, isLabel, labelBits}
+use Rattle.g9932.specs.Sizes.{Tables, entry, classBy, classOf}
+use Rattle.g9932.specs.Points.{pointOf, samePoint, labelOf}
 use Rattle.g9932.specs.Filler.{drawn, afterDraws, draws, registerAfter}
 use Rattle.g9932.specs.Symbol.{classAt, load, tonePoint, writePoints, inConstellation, isFiller, monitorTest, toneBits, gatherBits}
 use Rattle.g9932.specs.declared.Class.{Class}

@@ -1,15 +1,16 @@
 -- Document 01, "The words of demand 3".
-use Prim.Native.Nat.{ℕ, _<_}
-use mathlib.Core.Bool.{Bool, true, false}
+use Prim.Native.Nat.{ℕ, _-_, _/_, _<_}
+use mathlib.Core.Bool.{Bool, true, false, not}
 use mathlib.Core.List.{List}
 use mathlib.Core.Path.{_≡_}
 use lib.Dec.{ltb}
-use lib.IntN.{ℤ}
+use lib.IntN.{ℤ, pos, negsuc, negℤ}
 use lib.ListN.{length, getD}
-use Rattle.g9932.specs.Bits.{first}
-use Rattle.g9932.specs.Sizes.{Tables, bytesFor}
+use Rattle.g9932.specs.Bits.{bit, odd, first}
+use Rattle.g9932.specs.Sizes.{Tables, bytesFor, Point, point}
 use Rattle.g9932.specs.Refusals.{tableVerdict, frameTest, seedTest}
 use Rattle.g9932.specs.Order.{count}
+use Rattle.g9932.specs.Filler.{resetRegister, drawn}
 use Rattle.g9932.specs.Symbol.{classesOf, entriesOf, sizeOf}
 use Rattle.g9932.specs.declared.Found.{Found}
 use Rattle.g9932.specs.declared.Class.{Class}
@@ -51,3 +52,16 @@ firstMonitored T = first (λ k. isMonitored (getD (classesOf T) k Silent)) (leng
 -- The count of non-zero re-ordered entries is N. The 0 put in front of an odd count isn't in it.
 abbrev pub nonZero : Tables → ℕ
 nonZero T = count (ltb 0) (entriesOf T)
+
+-- Half a turn puts (−X, −Y) for (X, Y): the opposite point.
+abbrev pub negated : Point → Point
+negated p = point (negℤ (p .px)) (negℤ (p .py))
+
+-- bit 1 of a number in two's complement, where −1 − n has every bit of n complemented
+abbrev pub secondBit : ℤ → Bool
+secondBit (pos n) = odd (n / 2)
+secondBit (negsuc n) = not (odd (n / 2))
+
+-- dn, the n-th filler bit drawn from reset
+abbrev pub fillerBit : ℕ → Bool
+fillerBit n = bit (drawn n resetRegister) (n - 1)
