@@ -63,6 +63,26 @@ isOne-even n e = even-of (eqb-false (n % 2) 1 e)
     even-of : (n % 2 ≡ 1 → ⊥) → n % 2 ≡ 0
     even-of h = omega arith
 
+full-inTwos : (es : List ℕ) → AllTwo es → Full (inTwos es)
+full-inTwos [] h = tt
+full-inTwos (a ∷ []) h = tt
+full-inTwos (a ∷ b ∷ es) h = (h .0, h .1 .0, full-inTwos es (h .1 .1))
+
+pub formed-pairsOf : (es : List ℕ) → AllTwo es → 4 ≤ length es → Formed (isOne (length es % 2)) (pairsOf es)
+formed-pairsOf [] h l = absurd (omega arith)
+formed-pairsOf (a ∷ []) h l = absurd (omega arith)
+formed-pairsOf (a ∷ b ∷ []) h l = absurd (omega arith)
+formed-pairsOf (a ∷ b ∷ c ∷ []) h l = absurd (omega arith)
+formed-pairsOf (a ∷ b ∷ c ∷ d ∷ es) h l = go (isOne (length (a ∷ b ∷ c ∷ d ∷ es) % 2)) refl
+  where
+    five : (fs : List ℕ) → length (a ∷ b ∷ c ∷ d ∷ fs) % 2 ≡ 1 → AllTwo fs → Formed true (inTwos (0 ∷ a ∷ b ∷ c ∷ d ∷ fs))
+    five [] e g = absurd (omega arith)
+    five (f ∷ fs) e g = padded refl (h .0) (h .1 .0, h .1 .1 .0, (h .1 .1 .1 .0, g .0, full-inTwos fs (g .1)))
+
+    go : (o : Bool) → isOne (length (a ∷ b ∷ c ∷ d ∷ es) % 2) ≡ o → Formed o (inTwos (zeroInFront o (a ∷ b ∷ c ∷ d ∷ es)))
+    go false e = whole (full-inTwos (a ∷ b ∷ c ∷ d ∷ es) h)
+    go true e = five es (isOne-odd (length (a ∷ b ∷ c ∷ d ∷ es)) e) (h .1 .1 .1 .1)
+
 -- with the 0 in front, their number is even
 pub front-even : (es : List ℕ) → length (zeroInFront (isOne (length es % 2)) es) % 2 ≡ 0
 front-even es = go (isOne (length es % 2)) refl
@@ -94,23 +114,3 @@ length-pairsOf es = go (isOne (length es % 2)) refl
     go : (o : Bool) → isOne (length es % 2) ≡ o → length (inTwos (zeroInFront o es)) ≡ (length es + 1) / 2
     go true e = omega (arith, length-inTwos (0 ∷ es))
     go false e = omega (arith, length-inTwos es, isOne-even (length es) e)
-
-full-inTwos : (es : List ℕ) → AllTwo es → Full (inTwos es)
-full-inTwos [] h = tt
-full-inTwos (a ∷ []) h = tt
-full-inTwos (a ∷ b ∷ es) h = (h .0, h .1 .0, full-inTwos es (h .1 .1))
-
-pub formed-pairsOf : (es : List ℕ) → AllTwo es → 4 ≤ length es → Formed (isOne (length es % 2)) (pairsOf es)
-formed-pairsOf [] h l = absurd (omega arith)
-formed-pairsOf (a ∷ []) h l = absurd (omega arith)
-formed-pairsOf (a ∷ b ∷ []) h l = absurd (omega arith)
-formed-pairsOf (a ∷ b ∷ c ∷ []) h l = absurd (omega arith)
-formed-pairsOf (a ∷ b ∷ c ∷ d ∷ es) h l = go (isOne (length (a ∷ b ∷ c ∷ d ∷ es) % 2)) refl
-  where
-    five : (fs : List ℕ) → length (a ∷ b ∷ c ∷ d ∷ fs) % 2 ≡ 1 → AllTwo fs → Formed true (inTwos (0 ∷ a ∷ b ∷ c ∷ d ∷ fs))
-    five [] e g = absurd (omega arith)
-    five (f ∷ fs) e g = padded refl (h .0) (h .1 .0, h .1 .1 .0, (h .1 .1 .1 .0, g .0, full-inTwos fs (g .1)))
-
-    go : (o : Bool) → isOne (length (a ∷ b ∷ c ∷ d ∷ es) % 2) ≡ o → Formed o (inTwos (zeroInFront o (a ∷ b ∷ c ∷ d ∷ es)))
-    go false e = whole (full-inTwos (a ∷ b ∷ c ∷ d ∷ es) h)
-    go true e = five es (isOne-odd (length (a ∷ b ∷ c ∷ d ∷ es)) e) (h .1 .1 .1 .1)
