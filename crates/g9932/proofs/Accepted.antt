@@ -5,13 +5,13 @@ use mathlib.Core.List.{List}
 use mathlib.Core.Path.{_≡_, refl, sym, ap, _∙_}
 use native.Mathlib.Omega.{arith}
 use borrow.Author.Tests.{ltb-true, ltb-false, leb-false, eqb-true, not-false, lt-ltb}
-use lib.Dec.{ltb, leb, eqb}
+use lib.Dec.{ltb, eqb}
 use lib.ListN.{length, getD, List·getD-eq-default}
 use Rattle.g9932.specs.Bits.{first}
 use Rattle.g9932.specs.Sizes.{Tables, entry}
-use Rattle.g9932.specs.Refusals.{Verdict, sizeTest, toneTest, member, twiceTest, bitsTest, strayTest, gainBy, gainTest, oddTest, fewTest, holdsOne, pairTest, tableVerdict}
+use Rattle.g9932.specs.Refusals.{accepted, sizeTest, toneTest, member, twiceTest, bitsTest, strayTest, gainBy, gainTest, oddTest, fewTest, holdsOne, pairTest, tableVerdict}
 use Rattle.g9932.specs.Order.{sum, count, isOne, bitsOf, ones, entryCount, entries, reorderedBits, pair, pairsOf, codedPairs, pairCount, frameSize}
-use Rattle.g9932.specs.Symbol.{pairsIn, sizeOf}
+use Rattle.g9932.specs.Symbol.{orderOf, entriesOf, pairsIn, sizeOf}
 use Rattle.g9932.specs.declared.Found.the-variants.{Nothing}
 use Rattle.g9932.specs.declared.Mode.{Mode}
 use Rattle.g9932.specs.declared.Mode.the-variants.{Uncoded, Coded}
@@ -20,9 +20,9 @@ use Rattle.g9932.proofs.Counts.{every-at}
 use Rattle.g9932.proofs.Pairs.{sentTotal, takenTotal}
 use Rattle.g9932.proofs.Formed.{Formed, formed-size, isOne-even, total-pairsOf, length-pairsOf, formed-pairsOf}
 use Rattle.g9932.proofs.Members.{NoRepeat, no-repeat, sum-members, sum-most}
-use Rattle.g9932.proofs.Reordering.{sum-entries, length-entries, Range, range-entries, allTwo-entries, nonzero-entries}
+use Rattle.g9932.proofs.Reordering.{length-order, sum-entries, length-entries, Range, range-entries, allTwo-entries, nonzero-entries, length-reordered}
 use Rattle.g9932.proofs.Search.{first-no}
-use Rattle.g9932.proofs.Verdicts.{test-none, found-none}
+use Rattle.g9932.proofs.Verdicts.{test-past, found-past, test-none, found-none}
 
 -- every test of the chain failed
 record Passed (T : Tables) : Type 0 where
@@ -73,6 +73,7 @@ pub record AcceptedCoded (T : Tables) : Type 0 where
 -- ---- in both modes
 
 pub record Accepted (T : Tables) : Type 0 where
+  pub verdict : tableVerdict T ≡ accepted (sizeOf T)
   -- G, the gain table's length, NSC
   pub tableSome : 1 ≤ length (T .bits)
   pub tableMost : length (T .bits) ≤ 4096
@@ -88,6 +89,9 @@ pub record Accepted (T : Tables) : Type 0 where
   pub gained : (k : ℕ) → 1 ≤ entry (T .bits) k → 1 ≤ entry (T .gains) k
   pub strayBits : (k : ℕ) → member k (T .tones) ≡ false → entry (T .bits) k ≡ 0
   pub strayGain : (k : ℕ) → member k (T .tones) ≡ false → entry (T .gains) k ≡ 0
+  -- t' and b' have NSC entries
+  pub orderLength : length (orderOf T) ≡ length (T .tones)
+  pub reorderedLength : length (entriesOf T) ≡ length (T .tones)
   -- the sum of bits, and L
   pub bitsSum : sum (bitsOf (T .bits) (T .tones)) ≡ sum (T .bits)
   pub sumMost : sum (bitsOf (T .bits) (T .tones)) ≤ 61_440
@@ -116,6 +120,12 @@ gain-some b zero e h = let f = or-false (ltb 4095 0) (ltb 0 b && eqb 0 0) e .1 i
 gain-some b (suc g) e h = omega arith
 
 module _ (T : Tables) (p : Passed T) where
+  is-accepted : tableVerdict T ≡ accepted (sizeOf T)
+  unfolding tableVerdict
+  is-accepted =
+      sym (test-past 1 (p .size) (found-past 2 (p .tone) (found-past 3 (p .twice) (found-past 4 (p .bit) (found-past 5 (p .stray)
+      (found-past 6 (p .gain) (test-past 7 (p .odd) (test-past 8 (p .few) (found-past 9 (p .pairs) refl)))))))))
+
   sizes : (1 ≤ length (T .bits)) × (length (T .bits) ≤ 4096) × (length (T .gains) ≡ length (T .bits)) × (1 ≤ length (T .tones)) × (length (T .tones) ≤ length (T .bits))
   sizes =
       let G : ℕ = length (T .bits) in
@@ -213,6 +223,7 @@ accepted-tables T e =
     let p = passed T e in
     let s = sizes T p in
     record {
+      verdict = is-accepted T p;
       tableSome = s .0;
       tableMost = s .1;
       gainsLength = s .2;
@@ -225,6 +236,8 @@ accepted-tables T e =
       gained = has-gain T p;
       strayBits = λ k m. no-stray T p k m .0;
       strayGain = λ k m. no-stray T p k m .1;
+      orderLength = length-order (T .bits) (T .tones) (T .mode);
+      reorderedLength = length-reordered (T .bits) (T .tones) (T .mode) (λ m. in-coded T p m .onesEven);
       bitsSum = sum-members (T .tones) (T .bits) (once T p) (below T p) (λ k m. no-stray T p k m .0);
       sumMost = sum-small T p;
       sizeMost = size-small T p;

@@ -1,12 +1,12 @@
 -- Laws of the chain of refusals: a refusal made, a refusal passed, and what a verdict of number 0 says of its parts.
-use Prim.Native.Nat.{ℕ, zero, suc}
+use Prim.Native.Nat.{ℕ, suc}
 use mathlib.Core.Bool.{Bool, true, false}
 use mathlib.Core.List.{List}
 use mathlib.Core.Path.{_≡_, refl}
 use native.Mathlib.Omega.{arith}
 use borrow.Author.Tests.{eqb-true, eqb-false}
 use lib.Dec.{eqb}
-use Rattle.g9932.specs.Refusals.{numberOf, placeOf, Verdict, refused, accepted, refuseIf, refuseAt, verdictBy, andThen}
+use Rattle.g9932.specs.Refusals.{numberOf, Verdict, refused, accepted, refuseIf, refuseAt, verdictBy, andThen}
 use Rattle.g9932.specs.Answers.{onDone, verdictOf}
 use Rattle.g9932.specs.declared.Found.{Found}
 use Rattle.g9932.specs.declared.Found.the-variants.{At, Nothing}
@@ -69,6 +69,10 @@ and-refused x w e = rw (← e, number-some x)
 pub and-accepted : (l : ℕ) {v x w : Verdict} → accepted l ≡ v → x ≡ w → x ≡ andThen v w
 unfolding andThen
 and-accepted l e q = rw (← e) q
+
+pub and-past : (v : Verdict) {x w : Verdict} → v .number ≡ 0 → x ≡ w → x ≡ andThen v w
+unfolding andThen
+and-past v e q = rw e q
 
 pub and-none : (v w : Verdict) → andThen v w .number ≡ 0 → (v .number ≡ 0) × (w .number ≡ 0)
 unfolding andThen
