@@ -170,7 +170,7 @@ module _ (w : BitWriter) (l l' : List ℕ) (h : w .next ≤ length l) (h' : w .n
       let m : ℕ = 8 * bytesFor (length x) in
       let s : m ≡ length x + (m - length x) = omega arith in
       let t : take m (unpack l') ≡ x ++ take (m - length x) (bits (8 - w .fill) 0) =
-          begins m (omega arith) ∙ ap (λ (k : ℕ). take k (x ++ bits (8 - w .fill) 0)) s ∙ take-append-add x (bits (8 - w .fill) 0) (m - length x) in
+      begins m (omega arith) ∙ ap (λ (k : ℕ). take k (x ++ bits (8 - w .fill) 0)) s ∙ take-append-add x (bits (8 - w .fill) 0) (m - length x) in
       rw (← take-unpack, t) (drop-at x (take (m - length x) (bits (8 - w .fill) 0)) (length x) refl)
 
   pub finished : Framed (written w l) l'
@@ -179,7 +179,8 @@ module _ (w : BitWriter) (l l' : List ℕ) (h : w .next ≤ length l) (h' : w .n
       let few = waits .few in
       let n = length-written w l h in
       let b : length (take (bytesFor (length (written w l))) l') ≡ bytesFor (length (written w l)) =
-          length-take-le (bytesFor (length (written w l))) l' (omega arith) in
+      length-take-le (bytesFor (length (written w l))) l' (omega arith) in
       record {
         starts = put-bits;
-        clean = rw (eq-eqb _ _ b, unused) (someOne-take _ (bits (8 - w .fill) 0) (someOne-zeros (8 - w .fill))) }
+        clean = rw (eq-eqb _ _ b, unused) (someOne-take (8 * bytesFor (length (written w l)) - length (written w l)) (bits (8 - w .fill) 0) (someOne-zeros (8 - w .fill)));
+      }

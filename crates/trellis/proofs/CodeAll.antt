@@ -19,51 +19,36 @@ use Rattle.g9932.specs.Trellis.{lastTwo, taken, wordOf, sentBits, nextOf, zeroS
 use Rattle.trellis.specs.Coding.{codedWord, firstCoder, CodesPair, RoomFrom, CodesFrom, CodedWhole, Ready}
 use Rattle.trellis.specs.declared.Coder.{Coder}
 use Rattle.trellis.proofs.CodeLoop.{encode-step}
-use Rattle.trellis.proofs.Entries.{lastTwo-length}
-use Rattle.trellis.proofs.OnePair.{length-part, empty-waits}
-
-written-empty : (l : List ℕ) → written emptyWriter l ≡ []
-unfolding written unpack bits
-written-empty l = refl
+use Rattle.trellis.proofs.Entries.{whole-pairs, padded-pairs, not-late}
+use Rattle.trellis.proofs.OnePair.{length-part, written-empty, empty-waits}
 
 -- an even count
 module _ (es frame sent : List ℕ) (ready : Ready es frame sent) (even : length es % 2 ≡ 1 → ⊥) where
-  whole-pairs : pairsOf es ≡ inTwos (drop 0 es)
-  whole-pairs = rw (ne-eqb (length es % 2) 1 even)
-
   pub even-room : RoomFrom firstCoder es 0 frame sent
   even-room =
       record {
         inside = omega arith;
-        bits = rw (← whole-pairs) (omega (arith, ready .bits));
+        bits = rw (← (whole-pairs es even)) (omega (arith, ready .bits));
         small = ready .small;
-        bytes = rw (← whole-pairs, total-pairsOf es) (omega (arith, ready .bytes));
+        bytes = rw (← (whole-pairs es even), total-pairsOf es) (omega (arith, ready .bytes));
         waits = empty-waits;
       }
 
   pub even-coded : (d : Coder) (after : List ℕ) → CodesFrom firstCoder es 0 frame sent d after → CodedWhole es frame (d .writer) after
   even-coded d after c =
       record {
-        whole = c .whole ∙ rw (written-empty sent, whole-pairs);
+        whole = c .whole ∙ rw (written-empty sent, whole-pairs es even);
         waits = c .waits;
-        counted = rw (← whole-pairs, total-pairsOf es) at (c .counted) ∙ omega arith;
+        counted = rw (← (whole-pairs es even), total-pairsOf es) at (c .counted) ∙ omega arith;
       }
 
 -- an odd count: the first pair has x = 0
 module _ (es frame sent : List ℕ) (y : ℕ) (ready : Ready es frame sent) (odd : length es % 2 ≡ 1) (hy : y ≡ getD es 0 0) where
-  padded-pairs : pairsOf es ≡ pair 0 y ∷ inTwos (drop 1 es)
-  padded-pairs =
-      let d : drop 0 es ≡ getD es 0 0 ∷ drop 1 es = drop-cons es 0 0 (omega (arith, ready .few)) in
-      rw (eq-eqb (length es % 2) 1 odd) (ap (λ (l : List ℕ). inTwos (0 ∷ l)) d ∙ rw hy)
-
-  not-late : false ≡ lastTwo (inTwos (drop 1 es))
-  not-late = sym (lastTwo-length (drop 1 es) ∙ le-ltb (length (drop 1 es)) 4 (simp length-drop (omega (arith, ready .few))))
-
   taken-first : takenTotal (pairsOf es) ≡ taken false (pair 0 y) + takenTotal (inTwos (drop 1 es))
-  taken-first = rw (padded-pairs, ← not-late)
+  taken-first = rw (padded-pairs es y (ready .few) odd hy, ← (not-late es (ready .few) odd))
 
   sent-first : sentTotal (pairsOf es) ≡ 0 + y + sentTotal (inTwos (drop 1 es))
-  sent-first = rw padded-pairs
+  sent-first = rw (padded-pairs es y (ready .few) odd hy)
 
   pub first-room : (2 ≤ y) × (y ≤ 15) × (y ≤ 8 * length frame + 1) × (8 ≤ length sent)
   first-room =
@@ -105,7 +90,7 @@ module _ (es frame sent : List ℕ) (y : ℕ) (ready : Ready es frame sent) (odd
         record {
           whole =
               g .whole
-              ∙ rw (first .puts .holds, written-empty sent, padded-pairs, first .state, first .at, encode-step false zeroState (pair 0 y) (inTwos (drop 1 es)) (unpack frame) not-late, zero-add (taken false (pair 0 y)));
+              ∙ rw (first .puts .holds, written-empty sent, padded-pairs es y (ready .few) odd hy, first .state, first .at, encode-step false zeroState (pair 0 y) (inTwos (drop 1 es)) (unpack frame) (not-late es (ready .few) odd), zero-add (taken false (pair 0 y)));
           waits = g .waits;
           counted = g .counted ∙ rw first-count (omega arith);
         }

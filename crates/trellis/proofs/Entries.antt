@@ -2,14 +2,14 @@
 use mathlib.Core.Path.{_≡_, refl, sym, ap, _∙_}
 use mathlib.Core.Bool.{Bool, true, false}
 use mathlib.Core.List.{List, [], _∷_}
-use Prim.Native.Nat.{ℕ, zero, suc, _+_, _-_, _≤_, _<_}
+use Prim.Native.Nat.{ℕ, zero, suc, _+_, _-_, _%_, _≤_, _<_}
 use native.Mathlib.Numerals.{add-one, add-two}
 use native.Mathlib.Omega.{arith}
-use borrow.Author.Tests.{lt-ltb, le-ltb, ltb-true, ltb-false}
+use borrow.Author.Tests.{lt-ltb, le-ltb, ltb-true, ltb-false, eq-eqb, ne-eqb}
 use lib.Dec.{ltb}
 use lib.ListN.{length, drop, getD, length-drop}
 use lib.Seq.{drop-cons}
-use Rattle.g9932.specs.Order.{pair, inTwos}
+use Rattle.g9932.specs.Order.{pair, inTwos, pairsOf}
 use Rattle.g9932.specs.Trellis.{lastTwo}
 use Rattle.trellis.specs.Coding.{Wide}
 
@@ -25,7 +25,7 @@ inTwos-short [] h = refl
 inTwos-short (a ∷ []) h = refl
 inTwos-short (a ∷ b ∷ l) h = absurd (omega arith)
 
-pub lastTwo-length : (l : List ℕ) → lastTwo (inTwos l) ≡ ltb (length l) 4
+lastTwo-length : (l : List ℕ) → lastTwo (inTwos l) ≡ ltb (length l) 4
 lastTwo-length [] = refl
 lastTwo-length (a ∷ []) = refl
 lastTwo-length (a ∷ b ∷ []) = refl
@@ -53,3 +53,16 @@ module _ (es : List ℕ) (i x y : ℕ) where
       let a = wide i (omega arith) in
       let b = wide (i + 1) more in
       rw (hx, hy) (a .0, a .1, b .0, b .1)
+
+-- all pairs: as they stand, or with a 0 in front
+pub whole-pairs : (es : List ℕ) → (length es % 2 ≡ 1 → ⊥) → pairsOf es ≡ inTwos (drop 0 es)
+whole-pairs es even = rw (ne-eqb (length es % 2) 1 even)
+
+pub padded-pairs : (es : List ℕ) (y : ℕ) → 4 ≤ length es → length es % 2 ≡ 1 → y ≡ getD es 0 0 → pairsOf es ≡ pair 0 y ∷ inTwos (drop 1 es)
+padded-pairs es y few odd hy =
+    let d : drop 0 es ≡ getD es 0 0 ∷ drop 1 es = drop-cons es 0 0 (omega arith) in
+    rw (eq-eqb (length es % 2) 1 odd) (ap (λ (l : List ℕ). inTwos (0 ∷ l)) d ∙ rw hy)
+
+-- the pair with the 0 is not among the last two
+pub not-late : (es : List ℕ) → 4 ≤ length es → length es % 2 ≡ 1 → false ≡ lastTwo (inTwos (drop 1 es))
+not-late es few odd = sym (lastTwo-length (drop 1 es) ∙ le-ltb (length (drop 1 es)) 4 (simp length-drop (omega arith)))

@@ -36,6 +36,9 @@ after-one : (n : ℕ) (b x : List Bool) (r : Reading) → afterPairs n b (after'
 after-one n b x (frame f) = ap frame (sym (append-assoc b x f))
 after-one n b x (breaks k) = ap breaks (let e : n + suc k ≡ n + 1 + k = omega arith in e)
 
+pub found-not : {n : ℕ} → _≡_ {A = Found} (At n) Nothing → ⊥
+found-not z = let q : _≡_ {A = ℕ} 0 1 = cc in omega arith
+
 pub record Hearing (c k : Coder) (es sent out₀ out : List ℕ) (from i : ℕ) : Type 0 where
   pub kept : length out ≡ length out₀
   pub room : HearRoomFrom k es i sent out
@@ -49,9 +52,15 @@ pub record Hearing (c k : Coder) (es sent out₀ out : List ℕ) (from i : ℕ) 
 pub hearing-start : {c : Coder} {es sent out : List ℕ} {from : ℕ} → HearRoomFrom c es from sent out → Hearing c c es sent out out from from
 hearing-start {c = c} {es = es} {sent = sent} {out = out} {from = from} r =
     record {
-      kept = refl; room = r; pairs = 0; numbered = omega arith; done = [];
+      kept = refl;
+      room = r;
+      pairs = 0;
+      numbered = omega arith;
+      done = [];
       soFar = sym (append-nil (written (c .writer) out));
-      rest = after-none (readingFrom c es from sent); counted = refl }
+      rest = after-none (readingFrom c es from sent);
+      counted = refl;
+    }
 
 pub hearing-end : {c k : Coder} {es sent out₀ out : List ℕ} {from i : ℕ} → Hearing c k es sent out₀ out from i → length es ≤ i + 1
     → ReadsFrom c es from sent out₀ (record { broken = Nothing; writer = k .writer }) out
@@ -63,7 +72,8 @@ hearing-end {c = c} {k = k} {es = es} {sent = sent} {from = from} {i = i} g h =
       broken = rw r;
       whole = λ _. g .soFar ∙ rw (r, append-nil (g .done));
       waits = g .room .waits;
-      counted = λ _. omega (arith, rw e at (g .counted)) }
+      counted = λ _. omega (arith, rw e at (g .counted));
+    }
 
 -- one pair more
 module _ (c k : Coder) (es sent out₀ out : List ℕ) (from i x y : ℕ) (late : Bool) (wide : Wide es)
@@ -87,16 +97,14 @@ module _ (c k : Coder) (es sent out₀ out : List ℕ) (from i x y : ℕ) (late 
     pub hearing-broken : p .kept ≡ false → ReadsFrom c es from sent out₀ (record { broken = At ((i + 1) / 2); writer = k .writer }) after
     hearing-broken e =
         let s : readPairs (k .state) (pair x y ∷ inTwos (drop (i + 2) es)) (drop (k .at) (unpack sent)) ≡ breaks 0 =
-            read-stop (pair x y) (inTwos (drop (i + 2) es)) (k .state) (drop (k .at) (unpack sent)) (sym kept-is ∙ e) in
+        read-stop (pair x y) (inTwos (drop (i + 2) es)) (k .state) (drop (k .at) (unpack sent)) (sym kept-is ∙ e) in
         let r : readingFrom c es from sent ≡ breaks (g .pairs + 0) = g .rest ∙ rw (cut-pair es i x y more hx hy, s) in
         record {
           broken = rw r (ap At (let n = g .numbered in let m : (i + 1) / 2 ≡ (from + 1) / 2 + (g .pairs + 0) = omega arith in m));
           whole = λ z. absurd (found-not z);
           waits = g .room .waits;
-          counted = λ z. absurd (found-not z) }
-      where
-        found-not : {n : ℕ} → _≡_ {A = Found} (At n) Nothing → ⊥
-        found-not z = let q : _≡_ {A = ℕ} 0 1 = cc in omega arith
+          counted = λ z. absurd (found-not z);
+        }
 
     -- a pair that keeps it
     pub hearing-step : p .kept ≡ true → length after ≡ length out → Hearing c (p .coder) es sent out₀ after from (i + 2)
@@ -112,22 +120,24 @@ module _ (c k : Coder) (es sent out₀ out : List ℕ) (from i x y : ℕ) (late 
         let m = reads .puts .counted in
         let n = length-takes sent (k .at) x y late (q .0) (q .2) (hear-room .bits) in
         let o : readPairs (k .state) (pair x y ∷ ps) f ≡ after' (takenBits (lastTwo ps) x u) (readPairs (nextOf (k .state) u) ps (drop (width (pair x y)) f)) =
-            read-on (pair x y) ps (k .state) f u (drop (width (pair x y)) f) refl refl (sym kept-is ∙ e) in
+        read-on (pair x y) ps (k .state) f u (drop (width (pair x y)) f) refl refl (sym kept-is ∙ e) in
         record {
           kept = same ∙ g .kept;
           room =
-            record {
-              inside = omega arith;
-              bits = rw (reads .at) (omega arith);
-              small = g .room .small;
-              bytes = rw same (omega arith);
-              waits = reads .puts .waits };
+              record {
+                inside = omega arith;
+                bits = rw (reads .at) (omega arith);
+                small = g .room .small;
+                bytes = rw same (omega arith);
+                waits = reads .puts .waits;
+              };
           pairs = g .pairs + 1;
           numbered = omega (arith, g .numbered);
           done = g .done ++ takenBits late x u;
           soFar = reads .puts .holds ∙ rw (g .soFar, append-assoc);
           rest =
-            g .rest
-            ∙ rw (cut-pair es i x y more hx hy, o, ← is-late, reads .state, reads .at, ← (drop-drop (width (pair x y)) (k .at) (unpack sent)))
-              (after-one (g .pairs) (g .done) (takenBits late x u) _);
-          counted = omega arith }
+              g .rest
+              ∙ rw (cut-pair es i x y more hx hy, o, ← is-late, reads .state, reads .at, ← (drop-drop (width (pair x y)) (k .at) (unpack sent)))
+              (after-one (g .pairs) (g .done) (takenBits late x u) (readPairs (nextOf (k .state) u) ps (drop (width (pair x y)) f)));
+          counted = omega arith;
+        }

@@ -56,14 +56,15 @@ module _ (d : List Bool) (x : ℕ) (h : 2 ≤ x) (fits : x ≤ length d) where
   unfolding heardOf
   implied-number =
       let n : num (drop 2 (take x d) ++ drop 2 (drop x d)) ≡ num d % 2 ^ x / 4 + num d / 2 ^ x / 4 * 2 ^ (x - 2) =
-          num-append (drop 2 (take x d)) (drop 2 (drop x d))
-          ∙ rw (high-length, num-drop, num-drop, num-take, num-drop) (ap (λ (m : ℕ). num d % 2 ^ x / 4 + m) (mul-comm (2 ^ (x - 2)) (num d / 2 ^ x / 4))) in
+      num-append (drop 2 (take x d)) (drop 2 (drop x d))
+      ∙ rw (high-length, num-drop, num-drop, num-take, num-drop) (ap (λ (m : ℕ). num d % 2 ^ x / 4 + m) (mul-comm (2 ^ (x - 2)) (num d / 2 ^ x / 4))) in
       record {
         u0 = rw (v0, v1, w0, w1);
         u1 = rw (v0, v1);
         u2 = rw (v0, w0);
         u3 = rw v0;
-        high = sym n }
+        high = sym n;
+      }
 
 heard-number : (d : List Bool) (x : ℕ) → 2 ≤ x → x ≤ length d → IsHeard (heardWord x d) (heardOf (num d) x)
 unfolding heardWord
@@ -132,7 +133,8 @@ module _ (l : List ℕ) (at x y d : ℕ) (hx : 2 ≤ x) (hy : 2 ≤ y) (room : a
           kept = keeps-by late s (heardWord x f) r is-heard;
           next = rw (is-heard .u1, is-heard .u2);
           takes = rw (n, ← m) (bits-num (takenBits late x (heardWord x f)));
-          small = rw (n, ← m) (num-lt (takenBits late x (heardWord x f))) }
+          small = rw (n, ← m) (num-lt (takenBits late x (heardWord x f)));
+        }
 
 -- the number that the code puts u4 upward together to fits
 pub heard-fits : (d x : ℕ) → 2 ≤ x → d < 1073741824 → (d / 2 ^ x / 4 * 2 ^ (x - 2) < 2147483648) × (d % 2 ^ x / 4 < 2147483648)
@@ -176,9 +178,17 @@ first-heard y f h e =
       kept = rw (← w0, ← w1) (sym (same-false (bit f 0) (bit f 1)));
       next = rw (xor-false (bit f 0), w0);
       takes = rw (n, ← m) (bits-num ((false ⊕ bit f 0) ∷ drop 2 f));
-      small = rw (n, ← m) (num-lt ((false ⊕ bit f 0) ∷ drop 2 f)) }
+      small = rw (n, ← m) (num-lt ((false ⊕ bit f 0) ∷ drop 2 f));
+    }
 
 pub heard-first : (l : List ℕ) (y d : ℕ) → 2 ≤ y → y ≤ 8 * length l → d ≡ num (take y (drop 0 (unpack l))) → FirstHeard y d (take (width (pair 0 y)) (drop 0 (unpack l)))
 heard-first l y d h room e =
     let z : 0 + y ≡ y = omega arith in
     rw (z, e) (first-heard y (take y (unpack l)) h (length-part l 0 y (omega arith)))
+
+pub first-takes : (l : List ℕ) (y : ℕ) → 2 ≤ y → y ≤ 8 * length l → length (takenBits false 0 (heardWord 0 (take (width (pair 0 y)) (drop 0 (unpack l))))) ≡ taken false (pair 0 y)
+unfolding heardWord takenBits
+first-takes l y h room =
+    let n = length-part l 0 (0 + y) (omega arith) in
+    let m = length-drop 2 (take (0 + y) (unpack l)) in
+    omega arith

@@ -5,3 +5,4 @@ pub mod CodeLoop
 pub mod CodeAll
 pub mod HearPair
 pub mod HearLoop
+pub mod HearAll

@@ -1,14 +1,14 @@
 -- One pair: what the code works out in numbers is the pair's word and its sent bits.
 use mathlib.Core.Path.{_≡_, refl, sym, ap, _∙_}
 use mathlib.Core.Bool.{Bool, true, false}
-use mathlib.Core.List.{List}
+use mathlib.Core.List.{List, []}
 use Prim.Native.Nat.{ℕ, zero, suc, _+_, _-_, _*_, _/_, _^_, _≤_, _<_}
 use native.Mathlib.Nat.{lt-of-lt-of-le, lt-of-le-of-lt, div-one, div-le-self}
 use native.Mathlib.Omega.{arith}
 use lib.ListN.{length, take, drop, length-drop}
 use lib.Pow.{pow-mono}
 use lib.Seq.{length-take-le}
-use Rattle.frame.specs.Written.{emptyWriter, Waits}
+use Rattle.frame.specs.Written.{emptyWriter, written, Waits}
 use Rattle.g9932.specs.Bits.{bit, bits, num, odd}
 use Rattle.g9932.specs.Order.{pair}
 use Rattle.g9932.specs.Sizes.{unpack}
@@ -129,6 +129,10 @@ module _ (l : List ℕ) (y g : ℕ) (h : 2 ≤ y) (room : y ≤ 8 * length l + 1
       let b : g < 2 ^ (y - 1) = rw hg (num-take-lt (y - 1) (unpack l)) in
       let d : 2 ^ (y - 1) ≤ 2 ^ 29 = pow-mono {j = 29} (omega arith) in
       lt-of-le-of-lt (div-le-self g 2) (lt-of-lt-of-le b d)
+
+pub written-empty : (l : List ℕ) → written emptyWriter l ≡ []
+unfolding written unpack bits
+written-empty l = refl
 
 pub empty-waits : Waits emptyWriter
 empty-waits = record { few = omega arith; small = omega arith }

@@ -74,9 +74,6 @@ pub record CodedWhole (es frame : List ℕ) (w : BitWriter) (after : List ℕ) :
   pub waits : Waits w
   pub counted : count w ≡ sum es
 
-pub record CodesAll (es frame after : List ℕ) : Type 0 where
-  pub sent : take (sum es) (unpack after) ≡ encodePairs zeroState (pairsOf es) (unpack frame)
-
 pub record Ready (es frame sent : List ℕ) : Type 0 where
   pub wide : Wide es
   pub few : 4 ≤ length es

@@ -5,7 +5,7 @@ use mathlib.Core.List.{List, [], _++_}
 use mathlib.Core.Path.{_≡_}
 use lib.ListN.{length, take, drop}
 use Rattle.frame.specs.declared.BitWriter.{BitWriter}
-use Rattle.frame.specs.Written.{written, Waits, count, Put}
+use Rattle.frame.specs.Written.{written, Waits, count, Put, Framed}
 use Rattle.g9932.proofs.Pairs.{sentTotal, takenTotal}
 use Rattle.g9932.specs.Answers.{breakIn, frameIn}
 use Rattle.g9932.specs.Bits.{_⊕_, weight, odd}
@@ -28,7 +28,8 @@ heardOf d x =
       u1 = odd d ⊕ odd (d / 2);
       u2 = odd d ⊕ odd (d / 2 ^ x);
       u3 = odd d;
-      high = d % 2 ^ x / 4 + d / 2 ^ x / 4 * 2 ^ (x - 2) }
+      high = d % 2 ^ x / 4 + d / 2 ^ x / 4 * 2 ^ (x - 2);
+    }
 
 -- its lowest bits, as a word
 abbrev pub wordBy : HeardWord → Word
@@ -97,3 +98,7 @@ pub record HearReady (es sent frame : List ℕ) : Type 0 where
   pub bits : sum es ≤ 8 * length sent
   pub small : length sent ≤ 7688
   pub bytes : takenTotal (pairsOf es) + 64 ≤ 8 * length frame
+
+pub record ReadsAll (es sent : List ℕ) (r : Found) (after : List ℕ) : Type 0 where
+  pub broken : r ≡ breakIn (readingOfAll es sent)
+  pub framed : r ≡ Nothing → Framed (frameIn (readingOfAll es sent)) after

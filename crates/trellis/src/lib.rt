@@ -6,10 +6,11 @@ ghost use mathlib.Core.Bool.{Bool, true, false};
 ghost use Prim.Native.Nat.{ℕ, _+_, _-_, _*_, _/_, _%_, _^_, _≤_, _<_};
 ghost use lib.ListN.{length, take, drop, getD};
 ghost use Rattle.g9932.specs.Bits.{weight as weightOf, bits};
-ghost use Rattle.g9932.specs.Order.{pair};
+ghost use Rattle.frame.specs.Written.{Framed};
+ghost use Rattle.g9932.specs.Order.{pair, pairsOf};
 ghost use Rattle.g9932.specs.Sizes.{unpack};
-ghost use Rattle.g9932.specs.Trellis.{taken, zeroState};
-ghost use Rattle.trellis.specs.Coding.{inputsOf, labelNumber, sentNumber, PairRoom, CodesPair, RoomFrom, CodesFrom, Wide, Ready, CodedWhole, CodesAll, firstCoder};
+ghost use Rattle.g9932.specs.Trellis.{taken, zeroState, encodePairs};
+ghost use Rattle.trellis.specs.Coding.{inputsOf, labelNumber, sentNumber, PairRoom, CodesPair, RoomFrom, CodesFrom, Wide, Ready, CodedWhole, firstCoder};
 use frame::BitWriter;
 use g9932::LowBits;
 use g9932::TrellisState;
@@ -195,7 +196,7 @@ fn code_all(frame: &[u8], entries: &[u8], sent: &mut [u8]) -> BitWriter
 // Codes a frame: the sent bits of its pairs, which the entries of b' are cut into. Called by proved code only.
 pub fn encode_pairs(frame: &[u8], entries: &[u8], sent: &mut [u8])
     requires { ⌜ Ready (now entries) (now frame) (now sent) ⌝ }
-    ensures { λ _. ⌜ CodesAll (now (entries .entry)) (now (frame .entry)) (now (sent .exit)) ⌝ }
+    ensures { λ _. ⌜ Framed (encodePairs zeroState (pairsOf (now (entries .entry))) (unpack (now (frame .entry)))) (now (sent .exit)) ⌝ }
 {
     let writer = code_all(frame, entries, sent);
     writer.finish(sent);

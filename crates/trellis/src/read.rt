@@ -6,10 +6,7 @@ ghost use lib.ListN.{length};
 ghost use Rattle.g9932.specs.Order.{pair};
 ghost use Rattle.g9932.specs.Trellis.{keepsCode};
 ghost use Rattle.trellis.specs.Coding.{firstCoder, Wide};
-ghost use Rattle.trellis.specs.Reading.{heardOf, wordBy, takenNumber, HearRoom, ReadsPair, HearRoomFrom, ReadsFrom};
-use frame::BitWriter;
-use g9932::Found;
-use g9932::TrellisState;
+ghost use Rattle.trellis.specs.Reading.{heardOf, wordBy, takenNumber, HearRoom, ReadsPair, HearRoomFrom, ReadsFrom, ReadWhole, HearReady, ReadsAll};
 use super::Coder;
 use super::entry;
 use super::label;
@@ -18,6 +15,9 @@ use super::power;
 use super::taken_bits;
 use super::weight;
 use super::zero_state;
+use frame::BitWriter;
+use g9932::Found;
+use g9932::TrellisState;
 
 // The word that a pair's labels imply: u0 to u3 and, as a number, u4 upward.
 pub struct HeardWord {
@@ -132,7 +132,14 @@ fn read_from(c: Coder, sent: &[u8], entries: &[u8], from: usize, frame: &mut [u8
     let mut i = from;
     while i + 1 < entries.len() {
         let late = entries.len() - i < 6;
-        let p = read_pair(k, sent, late, entry(entries, i), entry(entries, i + 1), frame);
+        let p = read_pair(
+            k,
+            sent,
+            late,
+            entry(entries, i),
+            entry(entries, i + 1),
+            frame,
+        );
         let kept = p.kept;
         let old = k.writer;
         if !kept {
@@ -149,4 +156,45 @@ fn read_from(c: Coder, sent: &[u8], entries: &[u8], from: usize, frame: &mut [u8
         broken: Found::Nothing,
         writer,
     }
+}
+
+// Reads all pairs: a first one with x = 0 where the count of entries is odd.
+fn read_all(sent: &[u8], entries: &[u8], frame: &mut [u8]) -> PairsRead
+    requires { ⌜ HearReady (now entries) (now sent) (now frame) ⌝ }
+    ensures { λ r. ⌜ ReadWhole (now (entries .entry)) (now (sent .entry)) r (now (frame .exit)) ⌝ }
+{
+    if entries.len() % 2 == 1 {
+        let first = read_first(sent, entry(entries, 0), frame);
+        let kept = first.kept;
+        let coder = first.coder;
+        if !kept {
+            let writer = coder.writer;
+            return PairsRead {
+                broken: Found::At(0),
+                writer,
+            };
+        }
+        return read_from(coder, sent, entries, 1, frame);
+    }
+    let start = Coder {
+        state: zero_state(),
+        at: 0,
+        writer: BitWriter::new(),
+    };
+    read_from(start, sent, entries, 0, frame)
+}
+
+// Reads sent bits back: the first pair that breaks the code, or else the frame, at the start of a buffer. Called by proved code only.
+pub fn read_pairs(sent: &[u8], entries: &[u8], frame: &mut [u8]) -> Found
+    requires { ⌜ HearReady (now entries) (now sent) (now frame) ⌝ }
+    ensures { λ r. ⌜ ReadsAll (now (entries .entry)) (now (sent .entry)) r (now (frame .exit)) ⌝ }
+{
+    let all = read_all(sent, entries, frame);
+    let broken = all.broken;
+    let writer = all.writer;
+    if let Found::At(k) = broken {
+        return Found::At(k);
+    }
+    writer.finish(frame);
+    Found::Nothing
 }

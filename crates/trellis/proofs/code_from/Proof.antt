@@ -1,7 +1,6 @@
 use Rattle.trellis.proofs.CodeLoop.{Going, going-start, going-end, pair-room, going-step}
 use Rattle.trellis.proofs.Entries.{pair-wide}
-use mathlib.Core.Path.{refl, sym}
-use borrow.Author.Needs.{needs}
+use mathlib.Core.Path.{refl}
 use lib.ListN.{length}
 use native.Mathlib.Omega.{arith}
 use Prim.Native.Nat.{_-_}

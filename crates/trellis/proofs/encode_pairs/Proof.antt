@@ -1,10 +1,8 @@
+use mathlib.Core.Path.{_∙_}
 use Rattle.trellis.proofs.CodeAll.{finish-room}
-use Rattle.g9932.specs.Sizes.{unpack}
 use Rattle.frame.proofs.Stores.{finished}
-use lib.ListN.{take}
 use native.Mathlib.Omega.{arith}
-use Prim.Native.Nat.{ℕ}
-use mathlib.Core.Path.{_∙_, sym, ap}
+use mathlib.Core.Path.{_∙_}
 use borrow.Author.Needs.{needs}
 use Rattle.trellis.proofs.encode_pairs.Statement.{statement}
 use Rattle.trellis.proofs.encode_pairs.Tie as tie
@@ -24,7 +22,7 @@ returns : tie.Need-returns
 returns c =
     let w = c .before .before .before .before .before .before .code-all in
     let h = finish-room (c .before .before .before .before .before .before .before .before .before .before .before .pre) (w .kept .1 .1 .0) (w .ensures) in
-    record { sent = sym (ap (λ (n : ℕ). take n (unpack (c .before .before .finish .last .1 .0))) (w .ensures .counted)) ∙ finished (w .result) (w .last .1 .1 .0) (c .before .before .finish .last .1 .0) (omega arith) (w .ensures .waits) (c .before .before .finish .ensures) ∙ w .ensures .whole }
+    rw (w .ensures .whole) at (finished (w .result) (w .last .1 .1 .0) (c .before .before .finish .last .1 .0) (omega arith) (omega (arith, c .before .before .finish .kept .1 .0)) (w .ensures .waits) (c .before .before .finish .ensures))
 
 pub encode-pairs-spec : {M : Type 1} → statement M
 encode-pairs-spec = tie.close (tie.spec code-all-requires finish-requires same-length returns)

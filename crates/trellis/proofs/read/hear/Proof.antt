@@ -5,10 +5,6 @@ use native.Mathlib.Omega.{arith}
 use borrow.Author.Needs.{needs}
 use Rattle.trellis.proofs.read.hear.Statement.{statement}
 use Rattle.trellis.proofs.read.hear.Tie as tie
-use Rattle.trellis.proofs.read.hear.Reads as reads
-use Rattle.trellis.proofs.read.hear.Lts as lts
-use Rattle.trellis.proofs.lowest.Reads as lowest-reads
-use Rattle.trellis.proofs.power.Reads as power-reads
 
 cast-w : tie.Need-cast-w
 cast-w c = search needs

@@ -1,8 +1,5 @@
-use borrow.Author.Needs.{needs}
 use Rattle.trellis.proofs.read.keeps.Statement.{statement}
 use Rattle.trellis.proofs.read.keeps.Tie as tie
-use Rattle.trellis.proofs.read.keeps.Reads as reads
-use Rattle.trellis.proofs.read.keeps.Lts as lts
 
 returns : tie.Need-returns
 returns c = rw (c .before .before .before .before .before .before .if1 .taken)

@@ -9,14 +9,6 @@ use mathlib.Core.Path.{_∙_, ap}
 use borrow.Author.Needs.{needs}
 use Rattle.trellis.proofs.read.read_first.Statement.{statement}
 use Rattle.trellis.proofs.read.read_first.Tie as tie
-use Rattle.trellis.proofs.read.read_first.Reads as reads
-use Rattle.trellis.proofs.read.read_first.Lts as lts
-use Rattle.frame.proofs.BitWriter.new.Reads as new-reads
-use Rattle.frame.proofs.BitWriter.put.Reads as put-reads
-use Rattle.frame.proofs.get.Reads as get-reads
-use Rattle.g9932.proofs.TrellisState.step.Reads as step-reads
-use Rattle.trellis.proofs.weight.Reads as weight-reads
-use Rattle.trellis.proofs.zero_state.Reads as zero-state-reads
 
 get-requires : tie.Need-get-requires
 get-requires c κs = search needs
@@ -62,7 +54,8 @@ returns c =
       kept = p .kept;
       state = c .before .before .before .before .before .before .before .step .ensures .0 ∙ ap (λ (s : TrellisState). nextState s false (odd (c .before .before .before .before .before .before .before .before .before .get .result))) (c .before .before .before .before .before .before .before .before .zero-state .ensures) ∙ p .next;
       at = omega arith;
-      puts = rw (c .before .before .before .before .before .new .ensures, c .before .before .before .weight .ensures .0, p .takes) at (c .before .before .put .ensures) }
+      puts = rw (c .before .before .before .before .before .new .ensures, c .before .before .before .weight .ensures .0, p .takes) at (c .before .before .put .ensures);
+    }
 
 pub read-first-spec : {M : Type 1} → statement M
 read-first-spec =

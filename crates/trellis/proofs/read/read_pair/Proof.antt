@@ -1,19 +1,9 @@
 use Rattle.trellis.proofs.HearPair.{labels-small, heard-high, heard-pair}
 use native.Mathlib.Omega.{arith}
-use Prim.Native.Nat.{_+_}
-use mathlib.Core.Path.{_∙_, sym, ap}
+use mathlib.Core.Path.{_∙_}
 use borrow.Author.Needs.{needs}
 use Rattle.trellis.proofs.read.read_pair.Statement.{statement}
 use Rattle.trellis.proofs.read.read_pair.Tie as tie
-use Rattle.trellis.proofs.read.read_pair.Reads as reads
-use Rattle.trellis.proofs.read.read_pair.Lts as lts
-use Rattle.frame.proofs.BitWriter.put.Reads as put-reads
-use Rattle.frame.proofs.get.Reads as get-reads
-use Rattle.g9932.proofs.TrellisState.step.Reads as step-reads
-use Rattle.trellis.proofs.read.hear.Reads as hear-reads
-use Rattle.trellis.proofs.read.keeps.Reads as keeps-reads
-use Rattle.trellis.proofs.read.taken_of.Reads as taken-of-reads
-use Rattle.trellis.proofs.taken_bits.Reads as taken-bits-reads
 
 add-get : tie.Need-add-get
 add-get c = search needs
@@ -61,7 +51,8 @@ returns c =
       kept = c .keeps .ensures ∙ p .kept;
       state = c .before .before .before .before .before .before .before .before .before .step .ensures .0 ∙ p .next;
       at = omega arith;
-      puts = rw (c .before .before .before .before .before .taken-bits .ensures .0, c .before .before .before .before .taken-of .ensures, p .takes) at (c .before .before .before .put .ensures) }
+      puts = rw (c .before .before .before .before .before .taken-bits .ensures .0, c .before .before .before .before .taken-of .ensures, p .takes) at (c .before .before .before .put .ensures);
+    }
 
 pub read-pair-spec : {M : Type 1} → statement M
 read-pair-spec =

@@ -2,10 +2,6 @@ use Rattle.trellis.specs.Reading.{takenNumber}
 use borrow.Author.Needs.{needs}
 use Rattle.trellis.proofs.read.taken_of.Statement.{statement}
 use Rattle.trellis.proofs.read.taken_of.Tie as tie
-use Rattle.trellis.proofs.read.taken_of.Reads as reads
-use Rattle.trellis.proofs.read.taken_of.Lts as lts
-use Rattle.trellis.proofs.label.Reads as label-reads
-use Rattle.trellis.proofs.weight.Reads as weight-reads
 
 weight-requires : tie.Need-weight-requires
 weight-requires c κs = search needs
