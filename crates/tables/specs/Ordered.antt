@@ -1,0 +1,54 @@
+-- What stands in the two arrays for t' and b', and what the functions that write them ask.
+use Prim.Native.Nat.{ℕ, _+_, _-_, _%_, _≤_}
+use mathlib.Core.Bool.{false}
+use mathlib.Core.List.{List}
+use mathlib.Core.Path.{_≡_}
+use lib.Dec.{leb}
+use lib.ListN.{length, take}
+use lib.Seq.{sets}
+use Rattle.g9932.specs.Sizes.{Tables}
+use Rattle.g9932.specs.Refusals.{Verdict, tableVerdict}
+use Rattle.g9932.specs.Order.{sum, filter, isOne, bitsOf, singles, others, loaded, ones, reorderedTones, entryCount, reorderedBits}
+use Rattle.g9932.specs.Answers.{verdictOf}
+use Rattle.g9932.specs.declared.Mode.{Mode}
+use Rattle.g9932.specs.declared.Mode.the-variants.{Coded}
+use Rattle.g9932.specs.declared.Checked.{Checked}
+use Rattle.tables.specs.declared.order.Counts.{Counts}
+
+-- the answer, and where nothing is refused t' and b' in the first NSC entries of two arrays
+pub record OrderedBy (v : Verdict) (m : Mode) (b t : List ℕ) (r : Checked) (order entries : List ℕ) : Type 0 where
+  pub answer : verdictOf r ≡ v
+  pub tones : v .number ≡ 0 → take (length t) order ≡ reorderedTones m b t
+  pub bits : v .number ≡ 0 → take (length t) entries ≡ reorderedBits m b t
+
+abbrev pub Ordered : Tables → Checked → List ℕ → List ℕ → Type 0
+Ordered T r order entries = OrderedBy (tableVerdict T) (T .mode) (T .bits) (T .tones) r order entries
+
+-- t' and b' are written
+pub record Written (m : Mode) (b t order entries : List ℕ) : Type 0 where
+  pub tones : take (length t) order ≡ reorderedTones m b t
+  pub bits : take (length t) entries ≡ reorderedBits m b t
+
+-- the three counts are those of the tones
+pub record CountsAre (c : Counts) (b t : List ℕ) : Type 0 where
+  pub sums : c .sum ≡ sum (bitsOf b t)
+  pub loads : c .loaded ≡ loaded b t
+  pub singly : c .ones ≡ ones b t
+
+-- what writing t' and b' asks: an even number of 1-bit tones, and where the entries of b' begin
+pub record CodedReady (b t : List ℕ) (one zeros : ℕ) : Type 0 where
+  pub size : length t ≤ 4096
+  pub singly : one ≡ ones b t
+  pub even : isOne (ones b t % 2) ≡ false
+  pub front : zeros ≡ length t - entryCount b t
+
+-- what placing the tones asks: room for the three runs, one behind the other in t'
+pub record PlaceReady (b t : List ℕ) (one from : ℕ) : Type 0 where
+  pub behind : one ≡ length (others b t)
+  pub tones : one + length (singles b t) ≤ 4096
+  pub bits : from + length (filter (leb 2) (bitsOf b t)) ≤ 4096
+
+-- and what it does to the two arrays
+pub record Placing (b t : List ℕ) (one from : ℕ) (order entries orderAfter entriesAfter : List ℕ) : Type 0 where
+  pub tones : orderAfter ≡ sets (sets order 0 (others b t)) one (singles b t)
+  pub bits : entriesAfter ≡ sets entries from (filter (leb 2) (bitsOf b t))
