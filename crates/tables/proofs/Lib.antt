@@ -1,0 +1,5 @@
+pub mod Faults
+pub mod Marks
+pub mod Runs
+pub mod Counts
+pub mod Pairs
