@@ -4,7 +4,7 @@ use mathlib.Core.Bool.{Bool, true, false, not}
 use mathlib.Core.List.{List, [], _∷_, _++_, append-nil, map-append}
 use mathlib.Core.Path.{_≡_, refl, sym, ap, _∙_}
 use native.Mathlib.Omega.{arith}
-use borrow.Author.Tests.{ltb-true, ltb-false, eqb-true, eqb-false, leb-true, leb-false, lt-ltb, lt-leb}
+use borrow.Author.Tests.{ltb-true, ltb-false, eqb-true, eqb-false, leb-true, leb-false, lt-ltb, lt-leb, le-leb, eq-eqb, ne-eqb}
 use lib.Dec.{ltb, leb, eqb}
 use lib.ListN.{length, getD, take, drop, replicate, length-append, length-map, length-replicate}
 use Rattle.g9932.specs.Bits.{weight}
@@ -15,10 +15,10 @@ use Rattle.tables.proofs.Runs.{drop-some}
 
 -- ---- one tone more, by its kind
 
-pub filter-yes : (p : ℕ → Bool) (x : ℕ) {xs ys : List ℕ} → xs ≡ x ∷ ys → p x ≡ true → filter p xs ≡ x ∷ filter p ys
+filter-yes : (p : ℕ → Bool) (x : ℕ) {xs ys : List ℕ} → xs ≡ x ∷ ys → p x ≡ true → filter p xs ≡ x ∷ filter p ys
 filter-yes p x {ys = ys} e q = ap (filter p) e ∙ rw q
 
-pub filter-no : (p : ℕ → Bool) (x : ℕ) {xs ys : List ℕ} → xs ≡ x ∷ ys → p x ≡ false → filter p xs ≡ filter p ys
+filter-no : (p : ℕ → Bool) (x : ℕ) {xs ys : List ℕ} → xs ≡ x ∷ ys → p x ≡ false → filter p xs ≡ filter p ys
 filter-no p x {ys = ys} e q = ap (filter p) e ∙ rw q
 
 -- the tones from place i on, and their bits, with the values that were read
@@ -27,6 +27,26 @@ tones-next t i x h = drop-some t i h ∙ ap (λ (w : ℕ). w ∷ drop (i + 1) t)
 
 pub bits-next : (b t : List ℕ) (i : ℕ) {k v : ℕ} → k ≡ entry t i → v ≡ entry b k → i < length t → bitsOf b (drop i t) ≡ v ∷ bitsOf b (drop (i + 1) t)
 bits-next b t i x y h = ap (bitsOf b) (tones-next t i x h) ∙ ap (λ (w : ℕ). w ∷ bitsOf b (drop (i + 1) t)) (sym y)
+
+-- the lists of tones by kind, and of counts of at least 2, from place i on
+module _ (b t : List ℕ) (i : ℕ) {k v : ℕ} (x : k ≡ entry t i) (y : v ≡ entry b k) (h : i < length t) where
+  pub single-here : v ≡ 1 → singles b (drop i t) ≡ k ∷ singles b (drop (i + 1) t)
+  single-here e = filter-yes (oneBit b) k (tones-next t i x h) (ap isOne (sym y) ∙ eq-eqb v 1 e)
+
+  pub single-past : (v ≡ 1 → ⊥) → singles b (drop i t) ≡ singles b (drop (i + 1) t)
+  single-past e = filter-no (oneBit b) k (tones-next t i x h) (ap isOne (sym y) ∙ ne-eqb v 1 e)
+
+  pub other-here : (v ≡ 1 → ⊥) → others b (drop i t) ≡ k ∷ others b (drop (i + 1) t)
+  other-here e = filter-yes (λ j. not (oneBit b j)) k (tones-next t i x h) (ap (λ (z : ℕ). not (isOne z)) (sym y) ∙ ap not (ne-eqb v 1 e))
+
+  pub other-past : v ≡ 1 → others b (drop i t) ≡ others b (drop (i + 1) t)
+  other-past e = filter-no (λ j. not (oneBit b j)) k (tones-next t i x h) (ap (λ (z : ℕ). not (isOne z)) (sym y) ∙ ap not (eq-eqb v 1 e))
+
+  pub count-here : 2 ≤ v → filter (leb 2) (bitsOf b (drop i t)) ≡ v ∷ filter (leb 2) (bitsOf b (drop (i + 1) t))
+  count-here e = filter-yes (leb 2) v (bits-next b t i x y h) (le-leb 2 v e)
+
+  pub count-past : v < 2 → filter (leb 2) (bitsOf b (drop i t)) ≡ filter (leb 2) (bitsOf b (drop (i + 1) t))
+  count-past e = filter-no (leb 2) v (bits-next b t i x y h) (lt-leb 2 v e)
 
 -- ---- counts
 

@@ -3,3 +3,4 @@ pub mod Marks
 pub mod Runs
 pub mod Counts
 pub mod Pairs
+pub mod Modes

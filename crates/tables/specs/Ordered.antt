@@ -24,6 +24,16 @@ pub record OrderedBy (v : Verdict) (m : Mode) (b t : List ℕ) (r : Checked) (or
 abbrev pub Ordered : Tables → Checked → List ℕ → List ℕ → Type 0
 Ordered T r order entries = OrderedBy (tableVerdict T) (T .mode) (T .bits) (T .tones) r order entries
 
+-- two arrays that hold any t' and b'; and room for those of t
+pub record Arrays (order entries : List ℕ) : Type 0 where
+  pub orderLength : length order ≡ 4096
+  pub entriesLength : length entries ≡ 4096
+
+pub record Room (t order entries : List ℕ) : Type 0 where
+  pub size : length t ≤ 4096
+  pub orderRoom : length t ≤ length order
+  pub entriesRoom : length t ≤ length entries
+
 -- t' and b' are written
 pub record Written (m : Mode) (b t order entries : List ℕ) : Type 0 where
   pub tones : take (length t) order ≡ reorderedTones m b t
@@ -37,18 +47,17 @@ pub record CountsAre (c : Counts) (b t : List ℕ) : Type 0 where
 
 -- what writing t' and b' asks: an even number of 1-bit tones, and where the entries of b' begin
 pub record CodedReady (b t : List ℕ) (one zeros : ℕ) : Type 0 where
-  pub size : length t ≤ 4096
   pub singly : one ≡ ones b t
   pub even : isOne (ones b t % 2) ≡ false
   pub front : zeros ≡ length t - entryCount b t
 
 -- what placing the tones asks: room for the three runs, one behind the other in t'
-pub record PlaceReady (b t : List ℕ) (one from : ℕ) : Type 0 where
-  pub behind : one ≡ length (others b t)
-  pub tones : one + length (singles b t) ≤ 4096
-  pub bits : from + length (filter (leb 2) (bitsOf b t)) ≤ 4096
+pub record PlaceReady (b t : List ℕ) (behind from orderLength entriesLength : ℕ) : Type 0 where
+  pub others : behind ≡ length (others b t)
+  pub singly : behind + length (singles b t) ≤ orderLength
+  pub counts : from + length (filter (leb 2) (bitsOf b t)) ≤ entriesLength
 
 -- and what it does to the two arrays
-pub record Placing (b t : List ℕ) (one from : ℕ) (order entries orderAfter entriesAfter : List ℕ) : Type 0 where
-  pub tones : orderAfter ≡ sets (sets order 0 (others b t)) one (singles b t)
+pub record Placing (b t : List ℕ) (behind from : ℕ) (order entries orderAfter entriesAfter : List ℕ) : Type 0 where
+  pub tones : orderAfter ≡ sets (sets order 0 (others b t)) behind (singles b t)
   pub bits : entriesAfter ≡ sets entries from (filter (leb 2) (bitsOf b t))

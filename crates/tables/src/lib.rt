@@ -9,7 +9,7 @@ ghost use Rattle.g9932.specs.Sizes.{Tables, tables, entry, toneOf};
 ghost use Rattle.g9932.specs.Refusals.{tableVerdict};
 ghost use Rattle.g9932.specs.Answers.{verdictOf, Reorders};
 ghost use Rattle.tables.specs.Checks.{modeVerdict};
-ghost use Rattle.tables.specs.Ordered.{OrderedBy, Ordered};
+ghost use Rattle.tables.specs.Ordered.{OrderedBy, Ordered, Arrays, Room};
 
 mod check; // refusals 1 to 6
 mod order; // refusals 7 to 9, t' and b'
@@ -81,15 +81,17 @@ pub fn check_tables(mode: Mode, bits: &[u8], gains: &[u16], tones: &[u16]) -> Ch
     order_tables(mode, bits, gains, tones, &mut order, &mut entries)
 }
 
-// Refusals 1 to 9. Where nothing is refused, t' and b' stand in the first NSC entries of the two arrays.
+// Refusals 1 to 9. Where nothing is refused, t' and b' stand in the first NSC entries of two lent arrays of 4,096.
+// Only proved code calls it, and shows their lengths.
 pub fn order_tables(
     mode: Mode,
     bits: &[u8],
     gains: &[u16],
     tones: &[u16],
-    order: &mut [u16; 4096],
-    entries: &mut [u8; 4096],
+    order: &mut [u16],
+    entries: &mut [u8],
 ) -> Checked
+    requires { ⌜ Arrays (now order) (now entries) ⌝ }
     ensures { λ r. ⌜ Ordered (tables mode (now (bits .entry)) (now (gains .entry)) (now (tones .entry))) r (now (order .exit)) (now (entries .exit)) ⌝ }
 {
     let r = check_lists(bits, gains, tones);
@@ -104,10 +106,10 @@ fn order_by(
     mode: Mode,
     bits: &[u8],
     tones: &[u16],
-    order: &mut [u16; 4096],
-    entries: &mut [u8; 4096],
+    order: &mut [u16],
+    entries: &mut [u8],
 ) -> Checked
-    requires { ⌜ length (now tones) ≤ 4096 ⌝ }
+    requires { ⌜ Room (now tones) (now order) (now entries) ⌝ }
     ensures { λ r. ⌜ OrderedBy (modeVerdict mode (now (bits .entry)) (now (tones .entry))) mode (now (bits .entry)) (now (tones .entry)) r (now (order .exit)) (now (entries .exit)) ⌝ }
 {
     match mode {
@@ -140,9 +142,10 @@ fn reorder_through(
     tones: &[u16],
     tones_out: &mut [u16],
     bits_out: &mut [u8],
-    order: &mut [u16; 4096],
-    entries: &mut [u8; 4096],
+    order: &mut [u16],
+    entries: &mut [u8],
 ) -> Checked
+    requires { ⌜ Arrays (now order) (now entries) ⌝ }
     ensures { λ r. ⌜ Reorders (tables mode (now (bits .entry)) (now (gains .entry)) (now (tones .entry))) (now («tones_out» .entry)) (now («bits_out» .entry)) r (now («tones_out» .exit)) (now («bits_out» .exit)) ⌝ }
 {
     let r = order_tables(mode, bits, gains, tones, order, entries);

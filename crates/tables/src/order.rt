@@ -12,7 +12,7 @@ ghost use Rattle.g9932.specs.Refusals.{pairTest};
 ghost use Rattle.g9932.specs.Order.{isOne, bitsOf, filter, singles, others, zeroInFront, pairsOf};
 ghost use Rattle.g9932.specs.declared.Mode.the-variants.{Uncoded, Coded};
 ghost use Rattle.tables.specs.Checks.{modeVerdict};
-ghost use Rattle.tables.specs.Ordered.{OrderedBy, CountsAre, Written, PlaceReady, CodedReady, Placing};
+ghost use Rattle.tables.specs.Ordered.{OrderedBy, Room, CountsAre, Written, PlaceReady, CodedReady, Placing};
 
 // Sums over the tones: of the bits, of the loaded tones, and of the 1-bit tones.
 pub struct Counts {
@@ -68,8 +68,8 @@ fn count_tones(bits: &[u8], tones: &[u16]) -> Counts
 }
 
 // Writes a sub-carrier at a place of t'.
-fn put_tone(order: &mut [u16; 4096], p: Place, k: Subcarrier)
-    requires { ⌜ (p .0 < 4096) × (k .0 < 65536) ⌝ }
+fn put_tone(order: &mut [u16], p: Place, k: Subcarrier)
+    requires { ⌜ (p .0 < length (now order)) × (k .0 < 65536) ⌝ }
     ensures { λ _. ⌜ now (order .exit) ≡ set (now (order .entry)) (p .0) (k .0) ⌝ }
 {
     let at = p.0;
@@ -80,10 +80,10 @@ fn put_tone(order: &mut [u16; 4096], p: Place, k: Subcarrier)
 pub fn order_plain(
     bits: &[u8],
     tones: &[u16],
-    order: &mut [u16; 4096],
-    entries: &mut [u8; 4096],
+    order: &mut [u16],
+    entries: &mut [u8],
 ) -> Checked
-    requires { ⌜ length (now tones) ≤ 4096 ⌝ }
+    requires { ⌜ Room (now tones) (now order) (now entries) ⌝ }
     ensures { λ r. ⌜ OrderedBy (modeVerdict Uncoded (now (bits .entry)) (now (tones .entry))) Uncoded (now (bits .entry)) (now (tones .entry)) r (now (order .exit)) (now (entries .exit)) ⌝ }
 {
     let mut sum: usize = 0;
@@ -100,8 +100,8 @@ pub fn order_plain(
 }
 
 // Writes `count` times `v` from `at` on.
-fn fill(out: &mut [u8; 4096], at: usize, count: usize, v: u8)
-    requires { ⌜ at + count ≤ 4096 ⌝ }
+fn fill(out: &mut [u8], at: usize, count: usize, v: u8)
+    requires { ⌜ at + count ≤ length (now out) ⌝ }
     ensures { λ _. ⌜ now (out .exit) ≡ sets (now (out .entry)) at (replicate count v) ⌝ }
 {
     let mut k = at;
@@ -113,21 +113,21 @@ fn fill(out: &mut [u8; 4096], at: usize, count: usize, v: u8)
     }
 }
 
-// Coded: writes the tones with 0 or at least 2 bits from the front of t', the 1-bit tones from `ones` on, and the counts of
+// Coded: writes the tones with 0 or at least 2 bits from the front of t', the 1-bit tones from `behind` on, and the counts of
 // at least 2 in b' from `from` on, all in t order.
 fn place_tones(
     bits: &[u8],
     tones: &[u16],
-    ones: usize,
+    behind: usize,
     from: usize,
-    order: &mut [u16; 4096],
-    entries: &mut [u8; 4096],
+    order: &mut [u16],
+    entries: &mut [u8],
 )
-    requires { ⌜ PlaceReady (now bits) (now tones) ones from ⌝ }
-    ensures { λ _. ⌜ Placing (now (bits .entry)) (now (tones .entry)) ones from (now (order .entry)) (now (entries .entry)) (now (order .exit)) (now (entries .exit)) ⌝ }
+    requires { ⌜ PlaceReady (now bits) (now tones) behind from (length (now order)) (length (now entries)) ⌝ }
+    ensures { λ _. ⌜ Placing (now (bits .entry)) (now (tones .entry)) behind from (now (order .entry)) (now (entries .entry)) (now (order .exit)) (now (entries .exit)) ⌝ }
 {
     let mut other = 0;
-    let mut one = ones;
+    let mut one = behind;
     let mut at = from;
     let mut i = 0;
     while i < tones.len() {
@@ -154,10 +154,11 @@ fn write_coded(
     tones: &[u16],
     ones: usize,
     zeros: usize,
-    order: &mut [u16; 4096],
-    entries: &mut [u8; 4096],
+    order: &mut [u16],
+    entries: &mut [u8],
 )
-    requires { ⌜ CodedReady (now bits) (now tones) ones zeros ⌝ }
+    requires ready { ⌜ CodedReady (now bits) (now tones) ones zeros ⌝ }
+    requires room { ⌜ Room (now tones) (now order) (now entries) ⌝ }
     ensures { λ _. ⌜ Written Coded (now (bits .entry)) (now (tones .entry)) (now (order .exit)) (now (entries .exit)) ⌝ }
 {
     let half = ones / 2;
@@ -167,8 +168,8 @@ fn write_coded(
 }
 
 // Entry j of the n entries of b' from `from` on, a 0 put in front where n is odd.
-fn paired_entry(entries: &[u8; 4096], from: usize, n: usize, j: usize) -> u8
-    requires { ⌜ (from + n ≤ 4096) × (j < n + n % 2) ⌝ }
+fn paired_entry(entries: &[u8], from: usize, n: usize, j: usize) -> u8
+    requires { ⌜ (from + n ≤ length (now entries)) × (j < n + n % 2) ⌝ }
     ensures { λ r. ⌜ r ≡ getD (zeroInFront (isOne (n % 2)) (take n (drop from (now (entries .entry))))) j 0 ⌝ }
 {
     if n % 2 == 1 {
@@ -191,8 +192,8 @@ fn holds_one(x: u8, y: u8) -> bool
 }
 
 // 9 PAIR: the first pair, of the n entries of b' from `from` on, that holds an entry of 1.
-fn first_pair(entries: &[u8; 4096], from: usize, n: usize) -> Found
-    requires { ⌜ from + n ≤ 4096 ⌝ }
+fn first_pair(entries: &[u8], from: usize, n: usize) -> Found
+    requires { ⌜ from + n ≤ length (now entries) ⌝ }
     ensures { λ r. ⌜ r ≡ first (pairTest (pairsOf (take n (drop from (now (entries .entry)))))) (length (pairsOf (take n (drop from (now (entries .entry)))))) ⌝ }
 {
     let mut k = 0;
@@ -211,10 +212,10 @@ fn first_pair(entries: &[u8; 4096], from: usize, n: usize) -> Found
 pub fn order_coded(
     bits: &[u8],
     tones: &[u16],
-    order: &mut [u16; 4096],
-    entries: &mut [u8; 4096],
+    order: &mut [u16],
+    entries: &mut [u8],
 ) -> Checked
-    requires { ⌜ length (now tones) ≤ 4096 ⌝ }
+    requires { ⌜ Room (now tones) (now order) (now entries) ⌝ }
     ensures { λ r. ⌜ OrderedBy (modeVerdict Coded (now (bits .entry)) (now (tones .entry))) Coded (now (bits .entry)) (now (tones .entry)) r (now (order .exit)) (now (entries .exit)) ⌝ }
 {
     let c = count_tones(bits, tones);
@@ -234,8 +235,8 @@ pub fn order_coded(
 }
 
 // Copies t' out of its array, as many entries as `out` has.
-pub fn copy_tones(order: &[u16; 4096], out: &mut [u16])
-    requires { ⌜ length (now out) ≤ 4096 ⌝ }
+pub fn copy_tones(order: &[u16], out: &mut [u16])
+    requires { ⌜ length (now out) ≤ length (now order) ⌝ }
     ensures { λ _. ⌜ now (out .exit) ≡ take (length (now (out .entry))) (now (order .entry)) ⌝ }
 {
     let mut i = 0;
@@ -246,8 +247,8 @@ pub fn copy_tones(order: &[u16; 4096], out: &mut [u16])
 }
 
 // Copies b' out of its array, as many entries as `out` has.
-pub fn copy_bits(entries: &[u8; 4096], out: &mut [u8])
-    requires { ⌜ length (now out) ≤ 4096 ⌝ }
+pub fn copy_bits(entries: &[u8], out: &mut [u8])
+    requires { ⌜ length (now out) ≤ length (now entries) ⌝ }
     ensures { λ _. ⌜ now (out .exit) ≡ take (length (now (out .entry))) (now (entries .entry)) ⌝ }
 {
     let mut i = 0;

@@ -1,45 +1,50 @@
+-- `copy_bits` meets its contract. The loop's invariant: writing what is left of the front of the array gives the front of the array.
+-- The measure is what is left of `out`.
+use borrow.Author.Needs.{needs}
+use native.Mathlib.Omega.{arith}
+use mathlib.Core.Path.{_≡_, refl}
+use Prim.Native.Nat.{_-_, _≤_}
+use denote.Ref.{now}
+use lib.ListN.{length, take, drop, length-set}
+use lib.Seq.{sets}
+use Rattle.tables.proofs.Runs.{sets-step, sets-done, copy-start, copy-next, copy-end}
 use Rattle.tables.proofs.order.copy_bits.Statement.{statement}
 use Rattle.tables.proofs.order.copy_bits.Tie as tie
-use Rattle.tables.proofs.order.copy_bits.Reads as reads
-use Rattle.tables.proofs.order.copy_bits.Lts as lts
 
 abbrev Inv-loop : tie.InvT-loop
-Inv-loop entries out₀ i₀ out i = ?
+Inv-loop entries out₀ i₀ out i = (i ≤ length out₀) × (length out ≡ length out₀) × (sets out i (drop i (take (length out₀) entries)) ≡ take (length out₀) entries)
 
 abbrev μ-loop : tie.MeasureT-loop
-μ-loop entries out₀ i₀ out i = ?
+μ-loop entries out₀ i₀ out i = length out - i
 
--- src/order.rt:254:5
 loop-holds : tie.Need-loop-holds Inv-loop μ-loop
-loop-holds c = ?
+loop-holds c = (omega arith, refl, copy-start (now (c .args .entries)) (now (c .args .out)) (c .pre))
 
--- src/order.rt:255:18
-element-copy-out-out : tie.Need-element-copy-out-out Inv-loop μ-loop
-element-copy-out-out c = ?
+shared-slice-read-out : tie.Need-shared-slice-read-out Inv-loop μ-loop
+shared-slice-read-out c = search needs
 
--- src/order.rt:255:9
 slice-write-out : tie.Need-slice-write-out Inv-loop μ-loop
-slice-write-out c = ?
+slice-write-out c = search needs
 
--- src/order.rt:256:9
 add-i : tie.Need-add-i Inv-loop μ-loop
-add-i c = ?
+add-i c = search needs
 
--- src/order.rt:254:5
 loop-less : tie.Need-loop-less Inv-loop μ-loop
-loop-less c = ?
+loop-less c = simp length-set (omega arith)
 
--- src/order.rt:254:5
 loop-again : tie.Need-loop-again Inv-loop μ-loop
-loop-again c = ?
+loop-again c =
+    let l = c .before .before .loop in
+    (omega arith, simp length-set (l .inv .1),
+    sets-step (l .out) (l .i) _ (copy-next (now (c .before .before .before .args .entries)) (now (c .before .before .before .args .out)) (c .before .before .before .pre) (l .i) (omega arith)) (l .inv .2))
 
--- src/order.rt:249:1
 same-length : tie.Need-same-length Inv-loop μ-loop
-same-length c = ?
+same-length c = search needs
 
--- src/order.rt:249:1
 returns : tie.Need-returns Inv-loop μ-loop
-returns c = ?
+returns c =
+    let l = c .before .loop in
+    sets-done (l .out) (l .i) (copy-end (now (c .before .before .args .entries)) (now (c .before .before .args .out)) (c .before .before .pre) (l .i) (omega arith)) (l .inv .2)
 
 pub copy-bits-spec : {M : Type 1} → statement M
 copy-bits-spec =
@@ -48,7 +53,7 @@ copy-bits-spec =
     Inv-loop
     μ-loop
     loop-holds
-    element-copy-out-out
+    shared-slice-read-out
     slice-write-out
     add-i
     loop-less

@@ -1,53 +1,56 @@
+-- `copy_tones` meets its contract. The loop's invariant: writing what is left of the front of the array gives the front of the array.
+-- The measure is what is left of `out`.
+use borrow.Author.Needs.{needs}
+use native.Mathlib.Omega.{arith}
+use mathlib.Core.Path.{_≡_, refl}
+use Prim.Native.Nat.{_-_, _≤_}
+use denote.Ref.{now}
+use lib.ListN.{length, take, drop, length-set}
+use lib.Seq.{sets}
+use Rattle.tables.proofs.Runs.{sets-step, sets-done, copy-start, copy-next, copy-end}
 use Rattle.tables.proofs.order.copy_tones.Statement.{statement}
 use Rattle.tables.proofs.order.copy_tones.Tie as tie
-use Rattle.tables.proofs.order.copy_tones.Reads as reads
-use Rattle.tables.proofs.order.copy_tones.Lts as lts
 
 abbrev Inv-loop : tie.InvT-loop
-Inv-loop order out₀ i₀ out i = ?
+Inv-loop order out₀ i₀ out i = (i ≤ length out₀) × (length out ≡ length out₀) × (sets out i (drop i (take (length out₀) order)) ≡ take (length out₀) order)
 
 abbrev μ-loop : tie.MeasureT-loop
-μ-loop order out₀ i₀ out i = ?
+μ-loop order out₀ i₀ out i = length out - i
 
--- src/order.rt:242:5
 loop-holds : tie.Need-loop-holds Inv-loop μ-loop
-loop-holds c = ?
+loop-holds c = (omega arith, refl, copy-start (now (c .args .order)) (now (c .args .out)) (c .pre))
 
--- src/order.rt:243:18
 mul-out : tie.Need-mul-out Inv-loop μ-loop
-mul-out c = ?
+mul-out c = search needs
 
--- src/order.rt:243:18
-element-copy-out-out : tie.Need-element-copy-out-out Inv-loop μ-loop
-element-copy-out-out c = ?
+shared-slice-read-out : tie.Need-shared-slice-read-out Inv-loop μ-loop
+shared-slice-read-out c = search needs
 
--- src/order.rt:243:9
 mul-out-2 : tie.Need-mul-out-2 Inv-loop μ-loop
-mul-out-2 c = ?
+mul-out-2 c = search needs
 
--- src/order.rt:243:9
 slice-write-out : tie.Need-slice-write-out Inv-loop μ-loop
-slice-write-out c = ?
+slice-write-out c = search needs
 
--- src/order.rt:244:9
 add-i : tie.Need-add-i Inv-loop μ-loop
-add-i c = ?
+add-i c = search needs
 
--- src/order.rt:242:5
 loop-less : tie.Need-loop-less Inv-loop μ-loop
-loop-less c = ?
+loop-less c = simp length-set (omega arith)
 
--- src/order.rt:242:5
 loop-again : tie.Need-loop-again Inv-loop μ-loop
-loop-again c = ?
+loop-again c =
+    let l = c .before .before .loop in
+    (omega arith, simp length-set (l .inv .1),
+    sets-step (l .out) (l .i) _ (copy-next (now (c .before .before .before .args .order)) (now (c .before .before .before .args .out)) (c .before .before .before .pre) (l .i) (omega arith)) (l .inv .2))
 
--- src/order.rt:237:1
 same-length : tie.Need-same-length Inv-loop μ-loop
-same-length c = ?
+same-length c = search needs
 
--- src/order.rt:237:1
 returns : tie.Need-returns Inv-loop μ-loop
-returns c = ?
+returns c =
+    let l = c .before .loop in
+    sets-done (l .out) (l .i) (copy-end (now (c .before .before .args .order)) (now (c .before .before .args .out)) (c .before .before .pre) (l .i) (omega arith)) (l .inv .2)
 
 pub copy-tones-spec : {M : Type 1} → statement M
 copy-tones-spec =
@@ -57,7 +60,7 @@ copy-tones-spec =
     μ-loop
     loop-holds
     mul-out
-    element-copy-out-out
+    shared-slice-read-out
     mul-out-2
     slice-write-out
     add-i

@@ -1,67 +1,78 @@
+-- `first_pair` meets its contract. The loop's invariant: no pair before k holds an entry of 1. The measure is the pairs left.
+use borrow.Author.Needs.{needs}
+use native.Mathlib.Omega.{arith}
+use mathlib.Core.Path.{_≡_, _∙_, sym}
+use mathlib.Core.Bool.{_||_}
+use Prim.Native.Nat.{_+_, _-_, _/_, _≤_}
+use denote.Ref.{now}
+use lib.ListN.{length}
+use Rattle.g9932.specs.Bits.{first}
+use Rattle.g9932.specs.Refusals.{pairTest}
+use Rattle.g9932.specs.Order.{pairsOf}
+use Rattle.g9932.specs.declared.Found.the-variants.{Nothing}
+use Rattle.g9932.proofs.Search.{first-none, first-more, first-at, first-end}
+use Rattle.tables.proofs.Pairs.{part, length-pairs, pair-test}
 use Rattle.tables.proofs.order.first_pair.Statement.{statement}
 use Rattle.tables.proofs.order.first_pair.Tie as tie
-use Rattle.tables.proofs.order.first_pair.Reads as reads
-use Rattle.tables.proofs.order.first_pair.Lts as lts
-use Rattle.tables.proofs.order.holds_one.Reads as holds-one-reads
-use Rattle.tables.proofs.order.paired_entry.Reads as paired-entry-reads
 
 abbrev Inv-loop : tie.InvT-loop
-Inv-loop entries from n k₀ k = ?
+Inv-loop entries from n k₀ k = (k ≤ (n + 1) / 2) × (first (pairTest (pairsOf (part entries from n))) k ≡ Nothing)
 
 abbrev μ-loop : tie.MeasureT-loop
-μ-loop entries from n k₀ k = ?
+μ-loop entries from n k₀ k = (n + 1) / 2 - k
 
--- src/order.rt:199:5
+-- the test of pair k, from the two entries that were read
+tested : (c : tie.After-holds-one Inv-loop μ-loop) → let a = c .before .before .before .before .before .before .args in
+    pairTest (pairsOf (part (now (a .entries)) (a .from) (a .n))) (c .before .before .before .before .loop .k) ≡ c .holds-one .result
+tested c =
+    let a = c .before .before .before .before .before .before .args in
+    pair-test (now (a .entries)) (a .from) (a .n) (c .before .before .before .before .before .before .pre) (c .before .before .before .before .loop .k) (omega arith) (c .before .before .paired-entry .ensures) (c .before .paired-entry2 .ensures)
+    ∙ sym (c .holds-one .ensures)
+
 loop-holds : tie.Need-loop-holds Inv-loop μ-loop
-loop-holds c = ?
+loop-holds c = (omega arith, first-none _)
 
--- src/order.rt:199:16
 add-loop : tie.Need-add-loop Inv-loop μ-loop
-add-loop c = ?
+add-loop c = search needs
 
--- src/order.rt:200:48
 mul-paired-entry : tie.Need-mul-paired-entry Inv-loop μ-loop
-mul-paired-entry c = ?
+mul-paired-entry c = search needs
 
--- src/order.rt:200:13
 paired-entry-requires : tie.Need-paired-entry-requires Inv-loop μ-loop
-paired-entry-requires c κs = ?
+paired-entry-requires c κs = search needs
 
--- src/order.rt:201:48
 mul-paired-entry-2 : tie.Need-mul-paired-entry-2 Inv-loop μ-loop
-mul-paired-entry-2 c = ?
+mul-paired-entry-2 c = search needs
 
--- src/order.rt:201:48
 add-paired-entry : tie.Need-add-paired-entry Inv-loop μ-loop
-add-paired-entry c = ?
+add-paired-entry c = search needs
 
--- src/order.rt:201:13
 paired-entry-requires-2 : tie.Need-paired-entry-requires-2 Inv-loop μ-loop
-paired-entry-requires-2 c κs = ?
+paired-entry-requires-2 c κs = search needs
 
--- src/order.rt:202:12
 holds-one-requires : tie.Need-holds-one-requires Inv-loop μ-loop
-holds-one-requires c κs = ?
+holds-one-requires c κs = search needs
 
--- src/order.rt:203:13
 returns : tie.Need-returns Inv-loop μ-loop
-returns c = ?
+returns c =
+    let a = c .before .before .before .before .before .before .before .args in
+    let l = length-pairs (now (a .entries)) (a .from) (a .n) (c .before .before .before .before .before .before .before .pre) in
+    first-at _ _ _ (c .before .before .before .before .before .loop .inv .1) (tested (c .before) ∙ c .if1 .taken) (omega arith)
 
--- src/order.rt:205:9
 add-k : tie.Need-add-k Inv-loop μ-loop
-add-k c = ?
+add-k c = search needs
 
--- src/order.rt:199:5
 loop-less : tie.Need-loop-less Inv-loop μ-loop
-loop-less c = ?
+loop-less c = search needs
 
--- src/order.rt:199:5
 loop-again : tie.Need-loop-again Inv-loop μ-loop
-loop-again c = ?
+loop-again c = (omega arith, first-more _ _ (c .before .before .before .before .before .loop .inv .1) (tested (c .before) ∙ c .if1 .left))
 
--- src/order.rt:194:1
 returns-2 : tie.Need-returns-2 Inv-loop μ-loop
-returns-2 c = ?
+returns-2 c =
+    let a = c .before .before .before .args in
+    let l = length-pairs (now (a .entries)) (a .from) (a .n) (c .before .before .before .pre) in
+    first-end _ _ _ (c .before .loop .inv .1) (omega arith) (omega arith)
 
 pub first-pair-spec : {M : Type 1} → statement M
 first-pair-spec =

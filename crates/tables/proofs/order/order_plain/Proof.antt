@@ -1,60 +1,94 @@
+-- `order_plain` meets its contract. The loop's invariant: writing what is left of t and of its bits gives what the whole gives,
+-- and the sum so far with the bits left is the sum of all. The measure is what is left of t.
+use borrow.Author.Needs.{needs}
+use native.Mathlib.Omega.{arith}
+use mathlib.Core.Path.{_≡_, refl, sym, ap, _∙_}
+use mathlib.Core.List.{List}
+use Prim.Native.Nat.{ℕ, _+_, _*_, _-_, _≤_}
+use denote.Ref.{now}
+use lib.ListN.{length, take, drop, length-set, length-map}
+use lib.Seq.{sets}
+use Rattle.g9932.specs.Sizes.{entry}
+use Rattle.g9932.specs.Order.{sum as total, bitsOf, reorderedTones, reorderedBits}
+use Rattle.tables.proofs.Runs.{sets-step, take-sets, drop-none}
+use Rattle.tables.proofs.Counts.{tones-next, bits-next}
+use Rattle.tables.proofs.Modes.{plain-verdict}
 use Rattle.tables.proofs.order.order_plain.Statement.{statement}
 use Rattle.tables.proofs.order.order_plain.Tie as tie
-use Rattle.tables.proofs.order.order_plain.Reads as reads
-use Rattle.tables.proofs.order.order_plain.Lts as lts
-use Rattle.tables.proofs.bits_at.Reads as bits-at-reads
-use Rattle.tables.proofs.order.put_tone.Reads as put-tone-reads
-use Rattle.tables.proofs.tone_at.Reads as tone-at-reads
 
 abbrev Inv-loop : tie.InvT-loop
-Inv-loop bits tones order₀ entries₀ sum₀ i₀ order entries sum i = ?
+Inv-loop bits tones order₀ entries₀ sum₀ i₀ order entries sum i =
+    (i ≤ length tones) × (length order ≡ length order₀) × (length entries ≡ length entries₀)
+    × (sets order i (drop i tones) ≡ sets order₀ 0 tones)
+    × (sets entries i (bitsOf bits (drop i tones)) ≡ sets entries₀ 0 (bitsOf bits tones))
+    × (sum + total (bitsOf bits (drop i tones)) ≡ total (bitsOf bits tones)) × (sum ≤ 255 * i)
 
 abbrev μ-loop : tie.MeasureT-loop
-μ-loop bits tones order₀ entries₀ sum₀ i₀ order entries sum i = ?
+μ-loop bits tones order₀ entries₀ sum₀ i₀ order entries sum i = length tones - i
 
--- src/order.rt:91:5
 loop-holds : tie.Need-loop-holds Inv-loop μ-loop
-loop-holds c = ?
+loop-holds c = (omega arith, refl, refl, refl, refl, omega arith, omega arith)
 
--- src/order.rt:92:13
 tone-at-requires : tie.Need-tone-at-requires Inv-loop μ-loop
-tone-at-requires c κs = ?
+tone-at-requires c κs = search needs
 
--- src/order.rt:93:13
 bits-at-requires : tie.Need-bits-at-requires Inv-loop μ-loop
-bits-at-requires c κs = ?
+bits-at-requires c κs = search needs
 
--- src/order.rt:94:9
 put-tone-requires : tie.Need-put-tone-requires Inv-loop μ-loop
-put-tone-requires c κs = ?
+put-tone-requires c κs =
+    let l = c .before .before .before .before .loop in
+    let r = c .before .before .before .before .before .before .before .before .before .pre .orderRoom in
+    (omega arith, omega (arith, c .before .before .tone-at .ensures, c .before .before .before .before .before .before .before .shared-slice-known2 .given (l .i)))
 
--- src/order.rt:95:9
-element-write-entries : tie.Need-element-write-entries Inv-loop μ-loop
-element-write-entries c = ?
+slice-write-entries : tie.Need-slice-write-entries Inv-loop μ-loop
+slice-write-entries c = omega (arith, c .before .before .before .before .before .before .before .before .before .before .before .before .pre .entriesRoom)
 
--- src/order.rt:96:16
 cast-sum : tie.Need-cast-sum Inv-loop μ-loop
-cast-sum c = ?
+cast-sum c = search needs
 
--- src/order.rt:96:9
 add-sum : tie.Need-add-sum Inv-loop μ-loop
-add-sum c = ?
+add-sum c = search needs
 
--- src/order.rt:97:9
 add-i : tie.Need-add-i Inv-loop μ-loop
-add-i c = ?
+add-i c = search needs
 
--- src/order.rt:91:5
 loop-less : tie.Need-loop-less Inv-loop μ-loop
-loop-less c = ?
+loop-less c = search needs
 
--- src/order.rt:91:5
 loop-again : tie.Need-loop-again Inv-loop μ-loop
-loop-again c = ?
+loop-again c =
+    let l = c .before .before .before .before .before .before .before .loop in
+    let b = now (c .before .before .before .before .before .before .before .before .before .before .before .before .args .bits) in
+    let t = now (c .before .before .before .before .before .before .before .before .before .before .before .before .args .tones) in
+    let k = c .before .before .before .before .before .tone-at in
+    let v = c .before .before .before .before .bits-at in
+    let p = c .before .before .put-tone in
+    let f = bits-next b t (l .i) (k .ensures) (v .ensures) (omega arith) in
+    let g = ap total f in
+    (omega arith, p .kept .0 ∙ l .inv .1, simp length-set (l .inv .2),
+    ap (λ (o : List ℕ). sets o (l .i + 1) (drop (l .i + 1) t)) (p .ensures) ∙ sets-step (l .order) (l .i) (k .result .0) (tones-next t (l .i) (k .ensures) (omega arith)) (l .inv .3),
+    sets-step (l .entries) (l .i) (v .result) f (l .inv .4), omega arith, omega arith)
 
--- src/order.rt:80:1
+same-length : tie.Need-same-length Inv-loop μ-loop
+same-length c = search needs
+
+same-length-2 : tie.Need-same-length-2 Inv-loop μ-loop
+same-length-2 c = search needs
+
 returns : tie.Need-returns Inv-loop μ-loop
-returns c = ?
+unfolding reorderedTones reorderedBits
+returns c =
+    let l = c .before .loop in
+    let b = now (c .before .before .before .before .before .before .args .bits) in
+    let t = now (c .before .before .before .before .before .before .args .tones) in
+    let r = c .before .before .before .before .before .before .pre in
+    let d = drop-none t (l .i) (omega arith) in
+    let g = ap (λ (s : List ℕ). total (bitsOf b s)) d in
+    record {
+      answer = plain-verdict b t (omega arith);
+      tones = λ _. ap (take (length t)) (sym (ap (sets (l .order) (l .i)) d) ∙ l .inv .3) ∙ take-sets (now (c .before .before .before .before .before .before .args .order)) t (length t) refl (r .orderRoom);
+      bits = λ _. ap (take (length t)) (sym (ap (λ (s : List ℕ). sets (l .entries) (l .i) (bitsOf b s)) d) ∙ l .inv .4) ∙ take-sets (now (c .before .before .before .before .before .before .args .entries)) (bitsOf b t) (length t) (length-map t (entry b)) (r .entriesRoom) }
 
 pub order-plain-spec : {M : Type 1} → statement M
 order-plain-spec =
@@ -66,10 +100,12 @@ order-plain-spec =
     tone-at-requires
     bits-at-requires
     put-tone-requires
-    element-write-entries
+    slice-write-entries
     cast-sum
     add-sum
     add-i
     loop-less
     loop-again
+    same-length
+    same-length-2
     returns)

@@ -1,40 +1,43 @@
+-- `paired_entry` meets its contract: past the 0 in front, entry j stands one place before.
+use denote.Ref.{now}
+use Rattle.tables.proofs.Pairs.{front-zero, front-odd, front-even}
+use mathlib.Core.Path.{_≡_, _∙_, ap, sym}
+use Prim.Native.Nat.{ℕ}
+use lib.ListN.{getD}
+use Rattle.tables.proofs.Pairs.{padded}
 use borrow.Author.Needs.{needs}
 use Rattle.tables.proofs.order.paired_entry.Statement.{statement}
 use Rattle.tables.proofs.order.paired_entry.Tie as tie
-use Rattle.tables.proofs.order.paired_entry.Reads as reads
-use Rattle.tables.proofs.order.paired_entry.Lts as lts
 
--- src/order.rt:176:13
 returns : tie.Need-returns
-returns c = ?
+returns c =
+    let a = c .before .before .args in
+    front-zero (now (a .entries)) (a .from) (a .n) (c .before .if1 .taken) ∙ ap (λ (j : ℕ). getD (padded (now (a .entries)) (a .from) (a .n)) j 0) (sym (c .if2 .taken))
 
--- src/order.rt:178:24
 add-result : tie.Need-add-result
 add-result c = search needs
 
--- src/order.rt:178:24
 sub-result : tie.Need-sub-result
 sub-result c = search needs
 
--- src/order.rt:178:16
-element-copy-out-result : tie.Need-element-copy-out-result
-element-copy-out-result c = search needs
+shared-slice-read-result : tie.Need-shared-slice-read-result
+shared-slice-read-result c = search needs
 
--- src/order.rt:178:9
 returns-2 : tie.Need-returns-2
-returns-2 c = ?
+returns-2 c =
+    let a = c .before .before .before .args in
+    front-odd (now (a .entries)) (a .from) (a .n) (a .j) (c .before .before .if1 .taken) (c .before .if2 .left) (c .before .before .before .pre .1)
 
--- src/order.rt:180:13
 add-result-2 : tie.Need-add-result-2
 add-result-2 c = search needs
 
--- src/order.rt:180:5
-element-copy-out-result-2 : tie.Need-element-copy-out-result-2
-element-copy-out-result-2 c = search needs
+shared-slice-read-result-2 : tie.Need-shared-slice-read-result-2
+shared-slice-read-result-2 c = search needs
 
--- src/order.rt:170:1
 returns-3 : tie.Need-returns-3
-returns-3 c = ?
+returns-3 c =
+    let a = c .before .before .args in
+    front-even (now (a .entries)) (a .from) (a .n) (a .j) (c .before .if1 .left) (c .before .before .pre .1)
 
 pub paired-entry-spec : {M : Type 1} → statement M
 paired-entry-spec =
@@ -43,8 +46,8 @@ paired-entry-spec =
     returns
     add-result
     sub-result
-    element-copy-out-result
+    shared-slice-read-result
     returns-2
     add-result-2
-    element-copy-out-result-2
+    shared-slice-read-result-2
     returns-3)

@@ -1,84 +1,171 @@
+-- `place_tones` meets its contract. The loop's invariant: writing the three lists of the tones left, each from its cursor, gives
+-- what the three whole lists give from the start. The measure is what is left of t.
+use borrow.Author.Needs.{needs}
+use native.Mathlib.Omega.{arith}
+use mathlib.Core.Path.{_≡_, refl, sym, ap, _∙_}
+use mathlib.Core.List.{List}
+use Prim.Native.Nat.{ℕ, _+_, _-_, _≤_}
+use denote.Ref.{now}
+use lib.Dec.{leb}
+use lib.ListN.{length, drop, length-set}
+use lib.Seq.{sets}
+use Rattle.g9932.specs.Order.{filter, bitsOf, singles, others}
+use Rattle.tables.proofs.Runs.{sets-step, front-step, behind-step, drop-none}
+use Rattle.tables.proofs.Counts.{single-here, single-past, other-here, other-past, count-here, count-past}
 use Rattle.tables.proofs.order.place_tones.Statement.{statement}
 use Rattle.tables.proofs.order.place_tones.Tie as tie
-use Rattle.tables.proofs.order.place_tones.Reads as reads
-use Rattle.tables.proofs.order.place_tones.Lts as lts
-use Rattle.tables.proofs.bits_at.Reads as bits-at-reads
-use Rattle.tables.proofs.order.put_tone.Reads as put-tone-reads
-use Rattle.tables.proofs.tone_at.Reads as tone-at-reads
 
 abbrev Inv-loop : tie.InvT-loop
-Inv-loop bits tones ones from order₀ entries₀ other₀ one₀ at₀ i₀ order entries other one at i = ?
+Inv-loop bits tones behind from order₀ entries₀ other₀ one₀ at₀ i₀ order entries other one at i =
+    (i ≤ length tones) × (length order ≡ length order₀) × (length entries ≡ length entries₀)
+    × (other + length (others bits (drop i tones)) ≡ behind) × (behind ≤ one)
+    × (one + length (singles bits (drop i tones)) ≡ behind + length (singles bits tones))
+    × (at + length (filter (leb 2) (bitsOf bits (drop i tones))) ≡ from + length (filter (leb 2) (bitsOf bits tones)))
+    × (sets (sets order other (others bits (drop i tones))) one (singles bits (drop i tones)) ≡ sets (sets order₀ 0 (others bits tones)) behind (singles bits tones))
+    × (sets entries at (filter (leb 2) (bitsOf bits (drop i tones))) ≡ sets entries₀ from (filter (leb 2) (bitsOf bits tones)))
 
 abbrev μ-loop : tie.MeasureT-loop
-μ-loop bits tones ones from order₀ entries₀ other₀ one₀ at₀ i₀ order entries other one at i = ?
+μ-loop bits tones behind from order₀ entries₀ other₀ one₀ at₀ i₀ order entries other one at i = length tones - i
 
--- src/order.rt:133:5
 loop-holds : tie.Need-loop-holds Inv-loop μ-loop
-loop-holds c = ?
+loop-holds c =
+    let r = c .before .before .before .before .pre in
+    (omega arith, refl, refl, omega (arith, r .others), omega arith, refl, refl, refl, refl)
 
--- src/order.rt:134:13
 tone-at-requires : tie.Need-tone-at-requires Inv-loop μ-loop
-tone-at-requires c κs = ?
+tone-at-requires c κs = search needs
 
--- src/order.rt:135:13
 bits-at-requires : tie.Need-bits-at-requires Inv-loop μ-loop
-bits-at-requires c κs = ?
+bits-at-requires c κs = search needs
 
--- src/order.rt:136:9
 add-i : tie.Need-add-i Inv-loop μ-loop
-add-i c = ?
+add-i c = search needs
 
--- src/order.rt:138:13
 put-tone-requires : tie.Need-put-tone-requires Inv-loop μ-loop
-put-tone-requires c κs = ?
+put-tone-requires c κs =
+    let l = c .before .before .before .before .before .loop in
+    let r = c .before .before .before .before .before .before .before .before .before .before .pre .singly in
+    let s = ap length (single-here (now (c .before .before .before .before .before .before .before .before .before .before .args .bits)) (now (c .before .before .before .before .before .before .before .before .before .before .args .tones)) (l .i) (c .before .before .before .tone-at .ensures) (c .before .before .bits-at .ensures) (omega arith) (c .before .if1 .taken)) in
+    (omega arith, omega (arith, c .before .before .before .tone-at .ensures, c .before .before .before .before .before .before .before .before .shared-slice-known2 .given (l .i)))
 
--- src/order.rt:139:13
 add-one : tie.Need-add-one Inv-loop μ-loop
-add-one c = ?
+add-one c =
+    let l = c .before .before .before .before .before .before .before .before .loop in
+    let r = c .before .before .before .before .before .before .before .before .before .before .before .before .before .pre .singly in
+    let g = c .before .before .before .before .before .before .before .before .before .before .before .before .before .good in
+    let s = ap length (single-here (now (c .before .before .before .before .before .before .before .before .before .before .before .before .before .args .bits)) (now (c .before .before .before .before .before .before .before .before .before .before .before .before .before .args .tones)) (l .i) (c .before .before .before .before .before .before .tone-at .ensures) (c .before .before .before .before .before .bits-at .ensures) (omega arith) (c .before .before .before .before .if1 .taken)) in
+    omega arith
 
--- src/order.rt:133:5
 loop-less : tie.Need-loop-less Inv-loop μ-loop
-loop-less c = ?
+loop-less c = search needs
 
--- src/order.rt:133:5
 loop-again : tie.Need-loop-again Inv-loop μ-loop
-loop-again c = ?
+loop-again c =
+    let l = c .before .before .before .before .before .before .before .before .loop in
+    let b = now (c .before .before .before .before .before .before .before .before .before .before .before .before .before .args .bits) in
+    let t = now (c .before .before .before .before .before .before .before .before .before .before .before .before .before .args .tones) in
+    let k = c .before .before .before .before .before .before .tone-at in
+    let v = c .before .before .before .before .before .bits-at in
+    let p = c .before .before .put-tone in
+    let e = c .before .before .before .before .if1 .taken in
+    let s = single-here b t (l .i) (k .ensures) (v .ensures) (omega arith) e in
+    let o = other-past b t (l .i) (k .ensures) (v .ensures) (omega arith) e in
+    let n = count-past b t (l .i) (k .ensures) (v .ensures) (omega arith) (omega arith) in
+    let s1 = ap length s in
+    let o1 = ap length o in
+    let n1 = ap length n in
+    (omega arith, p .kept .0 ∙ l .inv .1, l .inv .2, omega arith, omega arith, omega arith, omega arith,
+    behind-step (l .order) (l .other) (l .one) (k .result .0) (omega arith) (p .ensures) o s (l .inv .7),
+    sym (ap (sets (l .entries) (l .at)) n) ∙ l .inv .8)
 
--- src/order.rt:141:13
 put-tone-requires-2 : tie.Need-put-tone-requires-2 Inv-loop μ-loop
-put-tone-requires-2 c κs = ?
+put-tone-requires-2 c κs =
+    let l = c .before .before .before .before .before .loop in
+    let r = c .before .before .before .before .before .before .before .before .before .before .pre .singly in
+    let s = ap length (other-here (now (c .before .before .before .before .before .before .before .before .before .before .args .bits)) (now (c .before .before .before .before .before .before .before .before .before .before .args .tones)) (l .i) (c .before .before .before .tone-at .ensures) (c .before .before .bits-at .ensures) (omega arith) (c .before .if1 .left)) in
+    (omega arith, omega (arith, c .before .before .before .tone-at .ensures, c .before .before .before .before .before .before .before .before .shared-slice-known2 .given (l .i)))
 
--- src/order.rt:142:13
 add-other : tie.Need-add-other Inv-loop μ-loop
-add-other c = ?
+add-other c =
+    let l = c .before .before .before .before .before .before .before .before .loop in
+    let r = c .before .before .before .before .before .before .before .before .before .before .before .before .before .pre .singly in
+    let g = c .before .before .before .before .before .before .before .before .before .before .before .before .before .good in
+    let s = ap length (other-here (now (c .before .before .before .before .before .before .before .before .before .before .before .before .before .args .bits)) (now (c .before .before .before .before .before .before .before .before .before .before .before .before .before .args .tones)) (l .i) (c .before .before .before .before .before .before .tone-at .ensures) (c .before .before .before .before .before .bits-at .ensures) (omega arith) (c .before .before .before .before .if1 .left)) in
+    omega arith
 
--- src/order.rt:144:17
-element-write-entries : tie.Need-element-write-entries Inv-loop μ-loop
-element-write-entries c = ?
+slice-write-entries : tie.Need-slice-write-entries Inv-loop μ-loop
+slice-write-entries c =
+    let l = c .before .before .before .before .before .before .before .before .before .loop in
+    let r = c .before .before .before .before .before .before .before .before .before .before .before .before .before .before .pre .counts in
+    let n = ap length (count-here (now (c .before .before .before .before .before .before .before .before .before .before .before .before .before .before .args .bits)) (now (c .before .before .before .before .before .before .before .before .before .before .before .before .before .before .args .tones)) (l .i) (c .before .before .before .before .before .before .before .tone-at .ensures) (c .before .before .before .before .before .before .bits-at .ensures) (omega arith) (c .if2 .taken)) in
+    omega arith
 
--- src/order.rt:145:17
 add-at : tie.Need-add-at Inv-loop μ-loop
-add-at c = ?
+add-at c =
+    let l = c .before .before .before .before .before .before .before .before .before .loop in
+    let r = c .before .before .before .before .before .before .before .before .before .before .before .before .before .before .pre .counts in
+    let g = c .before .before .before .before .before .before .before .before .before .before .before .before .before .before .good in
+    let n = ap length (count-here (now (c .before .before .before .before .before .before .before .before .before .before .before .before .before .before .args .bits)) (now (c .before .before .before .before .before .before .before .before .before .before .before .before .before .before .args .tones)) (l .i) (c .before .before .before .before .before .before .before .tone-at .ensures) (c .before .before .before .before .before .before .bits-at .ensures) (omega arith) (c .if2 .taken)) in
+    omega arith
 
--- src/order.rt:133:5
 loop-less-2 : tie.Need-loop-less-2 Inv-loop μ-loop
-loop-less-2 c = ?
+loop-less-2 c = search needs
 
--- src/order.rt:133:5
 loop-again-2 : tie.Need-loop-again-2 Inv-loop μ-loop
-loop-again-2 c = ?
+loop-again-2 c =
+    let l = c .before .before .before .before .before .before .before .before .before .loop in
+    let b = now (c .before .before .before .before .before .before .before .before .before .before .before .before .before .before .args .bits) in
+    let t = now (c .before .before .before .before .before .before .before .before .before .before .before .before .before .before .args .tones) in
+    let k = c .before .before .before .before .before .before .before .tone-at in
+    let v = c .before .before .before .before .before .before .bits-at in
+    let p = c .before .before .before .put-tone2 in
+    let e = c .before .before .before .before .before .if1 .left in
+    let s = single-past b t (l .i) (k .ensures) (v .ensures) (omega arith) e in
+    let o = other-here b t (l .i) (k .ensures) (v .ensures) (omega arith) e in
+    let n = count-here b t (l .i) (k .ensures) (v .ensures) (omega arith) (c .if2 .taken) in
+    let s1 = ap length s in
+    let o1 = ap length o in
+    let n1 = ap length n in
+    (omega arith, p .kept .0 ∙ l .inv .1, simp length-set (l .inv .2), omega arith, omega arith, omega arith, omega arith,
+    front-step (l .order) (l .other) (l .one) (k .result .0) (p .ensures) o s (l .inv .7),
+    sets-step (l .entries) (l .at) (v .result) n (l .inv .8))
 
--- src/order.rt:133:5
 loop-less-3 : tie.Need-loop-less-3 Inv-loop μ-loop
-loop-less-3 c = ?
+loop-less-3 c = search needs
 
--- src/order.rt:133:5
 loop-again-3 : tie.Need-loop-again-3 Inv-loop μ-loop
-loop-again-3 c = ?
+loop-again-3 c =
+    let l = c .before .before .before .before .before .before .before .before .before .loop in
+    let b = now (c .before .before .before .before .before .before .before .before .before .before .before .before .before .before .args .bits) in
+    let t = now (c .before .before .before .before .before .before .before .before .before .before .before .before .before .before .args .tones) in
+    let k = c .before .before .before .before .before .before .before .tone-at in
+    let v = c .before .before .before .before .before .before .bits-at in
+    let p = c .before .before .before .put-tone2 in
+    let e = c .before .before .before .before .before .if1 .left in
+    let s = single-past b t (l .i) (k .ensures) (v .ensures) (omega arith) e in
+    let o = other-here b t (l .i) (k .ensures) (v .ensures) (omega arith) e in
+    let n = count-past b t (l .i) (k .ensures) (v .ensures) (omega arith) (c .if2 .left) in
+    let s1 = ap length s in
+    let o1 = ap length o in
+    let n1 = ap length n in
+    (omega arith, p .kept .0 ∙ l .inv .1, l .inv .2, omega arith, omega arith, omega arith, omega arith,
+    front-step (l .order) (l .other) (l .one) (k .result .0) (p .ensures) o s (l .inv .7),
+    sym (ap (sets (l .entries) (l .at)) n) ∙ l .inv .8)
 
--- src/order.rt:118:1
+same-length : tie.Need-same-length Inv-loop μ-loop
+same-length c = search needs
+
+same-length-2 : tie.Need-same-length-2 Inv-loop μ-loop
+same-length-2 c = search needs
+
 returns : tie.Need-returns Inv-loop μ-loop
-returns c = ?
+returns c =
+    let l = c .before .loop in
+    let b = now (c .before .before .before .before .before .before .args .bits) in
+    let d = drop-none (now (c .before .before .before .before .before .before .args .tones)) (l .i) (omega arith) in
+    record {
+      tones = sym (ap (λ (s : List ℕ). sets (sets (l .order) (l .other) (others b s)) (l .one) (singles b s)) d) ∙ l .inv .7;
+      bits = sym (ap (λ (s : List ℕ). sets (l .entries) (l .at) (filter (leb 2) (bitsOf b s))) d) ∙ l .inv .8 }
 
 pub place-tones-spec : {M : Type 1} → statement M
 place-tones-spec =
@@ -96,10 +183,12 @@ place-tones-spec =
     loop-again
     put-tone-requires-2
     add-other
-    element-write-entries
+    slice-write-entries
     add-at
     loop-less-2
     loop-again-2
     loop-less-3
     loop-again-3
+    same-length
+    same-length-2
     returns)
