@@ -6,7 +6,6 @@ use mathlib.Core.Path.{_≡_, refl, sym, ap, _∙_}
 use native.Mathlib.Omega.{arith}
 use borrow.Author.Tests.{ltb-false, eqb-true, not-false, ne-eqb}
 use lib.Dec.{ltb, eqb}
-use lib.ListN.{length}
 use Rattle.g9932.specs.Bits.{first}
 use Rattle.g9932.specs.Sizes.{Tables, tables}
 use Rattle.g9932.specs.Refusals.{Verdict, accepted, refuseIf, refuseAt, andThen, sizeTest, tableVerdict}
@@ -14,7 +13,6 @@ use Rattle.g9932.specs.declared.Found.{Found}
 use Rattle.g9932.specs.declared.Found.the-variants.{At, Nothing}
 use Rattle.g9932.specs.declared.Mode.{Mode}
 use Rattle.g9932.proofs.Search.{first-no, first-all}
-use Rattle.g9932.proofs.Verdicts.{test-none}
 use Rattle.tables.specs.Checks.{listVerdict, modeVerdict}
 
 or-none : (a b : Bool) → a || b ≡ false → (a ≡ false) × (b ≡ false)
@@ -56,13 +54,6 @@ size-facts g n m e =
       top = ltb-false _ _ (w1 .1);
       gainsFit = eqb-true _ _ (not-false (eqb n g) (w2 .1));
       tonesFit = ltb-false _ _ (w4 .1) }
-
--- tables that pass 1 to 6 have at most 4,096 tones
-pub tones-fit : (b g t : List ℕ) {l : ℕ} → accepted l ≡ listVerdict b g t → length t ≤ 4096
-unfolding listVerdict
-tones-fit b g t e =
-    let z = size-facts (length b) (length g) (length t) (test-none 0 _ _ (sym (ap (λ (v : Verdict). v .number) e)) .0) in
-    omega arith
 
 -- what follows a chain of refusals follows its last
 and-test : (n : ℕ) (b : Bool) (v w : Verdict) → andThen (refuseIf (suc n) b v) w ≡ refuseIf (suc n) b (andThen v w)

@@ -4,3 +4,4 @@ pub mod Runs
 pub mod Counts
 pub mod Pairs
 pub mod Modes
+pub mod Answers

@@ -73,14 +73,14 @@ module _ (arr : List ℕ) (from n : ℕ) where
         ap holdsOne e
 
 -- the N entries of b', in an array that holds b'
-pub entries-in : (b t arr : List ℕ) → isOne (ones b t % 2) ≡ false → length t ≤ length arr → take (length t) arr ≡ reorderedBits Coded b t
-    → take (entryCount b t) (drop (length t - entryCount b t) arr) ≡ entries b t
+pub entries-in : (b t arr : List ℕ) {n z : ℕ} → isOne (ones b t % 2) ≡ false → length t ≤ length arr → n ≡ entryCount b t → z ≡ length t - n
+    → take (length t) arr ≡ reorderedBits Coded b t → take n (drop z arr) ≡ entries b t
 unfolding reorderedBits
-entries-in b t arr even room e =
+entries-in b t arr {n} {z} even room pn pz e =
     let f = entries-fit b t even in
-    let z = length t - entryCount b t in
-    let s : z + entryCount b t ≡ length t = omega arith in
-    let u : take z arr ++ take (entryCount b t) (drop z arr) ≡ replicate z 0 ++ entries b t = sym (take-add z (entryCount b t) arr) ∙ ap (λ (n : ℕ). take n arr) s ∙ e in
-    sym (drop-at (take z arr) (take (entryCount b t) (drop z arr)) z (length-take-le z arr (omega arith)))
+    let s : z + n ≡ length t = omega arith in
+    let q : length t - entryCount b t ≡ z = omega arith in
+    let u : take z arr ++ take n (drop z arr) ≡ replicate z 0 ++ entries b t = sym (take-add z n arr) ∙ ap (λ (m : ℕ). take m arr) s ∙ e ∙ ap (λ (m : ℕ). replicate m 0 ++ entries b t) q in
+    sym (drop-at (take z arr) (take n (drop z arr)) z (length-take-le z arr (omega arith)))
     ∙ ap (drop z) u
     ∙ drop-at (replicate z 0) (entries b t) z (length-replicate z 0)

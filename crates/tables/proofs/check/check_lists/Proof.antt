@@ -1,3 +1,4 @@
+-- `check_lists` meets its contract: each return follows the chain of refusals 1 to 6 to the one that it makes.
 use denote.Ref.{now}
 use mathlib.Core.Path.{_≡_, refl, sym, _∙_}
 use mathlib.Core.Bool.{false, _||_}
@@ -12,6 +13,13 @@ use borrow.Author.Needs.{needs}
 use Rattle.tables.proofs.check.check_lists.Statement.{statement}
 use Rattle.tables.proofs.check.check_lists.Tie as tie
 
+-- 1 does not apply
+sized : (c : tie.Else1) → let a = c .before .before .before .before .before .args in sizeTest (length (now (a .bits))) (length (now (a .gains))) (length (now (a .tones))) ≡ false
+sized c = sym (c .before .wrong-size .ensures) ∙ c .if1 .left
+
+sizes : (c : tie.Else1) → let a = c .before .before .before .before .before .args in SizeFacts (length (now (a .bits))) (length (now (a .gains))) (length (now (a .tones)))
+sizes c = size-facts _ _ _ (sized c)
+
 -- past the pass over t: 1, 2 and 3 do not apply
 past-places : (c : tie.After-enum-told2) {x v : Verdict} → x ≡ v → let a = c .before .before .before .before .before .before .before .before .before .args in
     x ≡ refuseIf 1 (sizeTest (length (now (a .bits))) (length (now (a .gains))) (length (now (a .tones)))) (refuseAt 2 (first (toneTest (length (now (a .bits))) (now (a .tones))) (length (now (a .tones)))) (refuseAt 3 (first (twiceTest (now (a .tones))) (length (now (a .tones)))) v))
@@ -19,13 +27,6 @@ past-places c q =
     let a = c .before .before .before .before .before .before .before .before .before .args in
     let w = or-nothing (toneTest (length (now (a .bits))) (now (a .tones))) (twiceTest (now (a .tones))) (length (now (a .tones))) (sym (c .before .before .first-place-fault .ensures .found) ∙ c .enum-told2 .given .1) in
     test-past 1 (sized (c .before .before .before .before)) (found-past 2 (w .0) (found-past 3 (w .1) q))
-
-sizes : (c : tie.Else1) → let a = c .before .before .before .before .before .args in SizeFacts (length (now (a .bits))) (length (now (a .gains))) (length (now (a .tones)))
-sizes c = size-facts _ _ _ (sized c)
-
--- 1 does not apply
-sized : (c : tie.Else1) → let a = c .before .before .before .before .before .args in sizeTest (length (now (a .bits))) (length (now (a .gains))) (length (now (a .tones))) ≡ false
-sized c = sym (c .before .wrong-size .ensures) ∙ c .if1 .left
 
 wrong-size-requires : tie.Need-wrong-size-requires
 wrong-size-requires c κs = search needs
