@@ -29,7 +29,7 @@ order-by-requires c κs =
 returns : tie.Need-returns
 returns c =
     let a = c .before .before .before .before .before .before .before .before .before .args in
-    ordered-refused _ (lists-refused (a .mode) (now (a .bits)) (now (a .gains)) (now (a .tones)) _ (ap verdictOf (sym (c .before .r .given .1)) ∙ c .before .before .before .check-lists .ensures))
+    ordered-refused (c .before .r .given .0 .0) (lists-refused (a .mode) (now (a .bits)) (now (a .gains)) (now (a .tones)) (c .before .r .given .0 .0) (ap verdictOf (sym (c .before .r .given .1)) ∙ c .before .before .before .check-lists .ensures))
 
 same-length : tie.Need-same-length
 same-length c = search needs

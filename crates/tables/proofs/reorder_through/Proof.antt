@@ -70,7 +70,7 @@ same-length-6 c = search needs
 returns-3 : tie.Need-returns-3
 returns-3 c =
     let a = c .before .before .before .before .before .before .before .before .before .before .before .before .before .before .before .before .before .args in
-    reorder-refused (tables (a .mode) (now (a .bits)) (now (a .gains)) (now (a .tones))) (now (a .tones-out)) (now (a .bits-out)) _ (ap verdictOf (sym (c .before .r .given .1)) ∙ c .before .before .before .before .before .before .before .order-tables .ensures .answer)
+    reorder-refused (tables (a .mode) (now (a .bits)) (now (a .gains)) (now (a .tones))) (now (a .tones-out)) (now (a .bits-out)) (c .before .r .given .0 .0) (ap verdictOf (sym (c .before .r .given .1)) ∙ c .before .before .before .before .before .before .before .order-tables .ensures .answer)
 
 same-length-7 : tie.Need-same-length-7
 same-length-7 c = search needs
