@@ -37,7 +37,8 @@ ordered-refused x e =
     record {
       answer = e;
       tones = λ z. absurd (eqb-false _ _ (number-some x) (ap (λ (v : Verdict). v .number) e ∙ z));
-      bits = λ z. absurd (eqb-false _ _ (number-some x) (ap (λ (v : Verdict). v .number) e ∙ z)) }
+      bits = λ z. absurd (eqb-false _ _ (number-some x) (ap (λ (v : Verdict). v .number) e ∙ z));
+    }
 
 module _ (m : Mode) (b g t : List ℕ) where
   pub lists-refused : (x : Refusal) → verdictOf (Refused x) ≡ listVerdict b g t → verdictOf (Refused x) ≡ tableVerdict (tables m b g t)
@@ -50,7 +51,8 @@ module _ (m : Mode) (b g t : List ℕ) where
       record {
         answer = and-accepted l e (q .answer) ∙ sym (two-parts m b g t);
         tones = λ z. q .tones (n z);
-        bits = λ z. q .bits (n z) }
+        bits = λ z. q .bits (n z);
+      }
 
 -- accepted tables answer L
 table-accepted : (T : Tables) → tableVerdict T .number ≡ 0 → accepted (sizeOf T) ≡ tableVerdict T
@@ -80,7 +82,7 @@ unfolding tableVerdict
 table-fits T e = fits (T .bits) (T .gains) (T .tones) (test-none 0 _ _ (number-none e) .0)
 
 -- re-ordering: refused by the tables, refused for room, and done
-module _ (T : Tables) (tones bits : List ℕ) where
+module _ {T : Tables} {tones bits : List ℕ} where
   kept : (x : Refusal) → verdictOf (Refused x) ≡ orderVerdict T (length tones) (length bits) → Reorders T tones bits (Refused x) tones bits
   kept x e = record { answer = e; tonesHold = done-refused x _ _ e; bitsHold = done-refused x _ _ e }
 

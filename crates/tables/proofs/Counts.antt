@@ -188,10 +188,9 @@ count-twos (x ∷ xs) = go (leb 2 x) refl (count-twos xs)
 
 pub record Fits (b t : List ℕ) : Type 0 where
   pub halfLoaded : ones b t / 2 ≤ loaded b t
-  pub singly : ones b t ≤ length t
+  pub onesWithin : ones b t ≤ length t
   pub within : entryCount b t ≤ length t
   pub whole : (length t - entryCount b t) + (length (filter (leb 2) (bitsOf b t)) + ones b t / 2) ≡ length t
-  pub counted : length (entries b t) ≡ entryCount b t
 
 module _ (b t : List ℕ) (even : isOne (ones b t % 2) ≡ false) where
   pub entries-fit : Fits b t
@@ -200,13 +199,12 @@ module _ (b t : List ℕ) (even : isOne (ones b t % 2) ≡ false) where
       let w = loads (bitsOf b t) in
       let m = length-map t (entry b) in
       let u = length-twos (bitsOf b t) in
-      let e = ap length (twos-order b t) in
       record {
         halfLoaded = omega arith;
-        singly = omega arith;
+        onesWithin = omega arith;
         within = omega arith;
         whole = omega arith;
-        counted = simp (length-append, length-replicate) (omega arith) }
+      }
 
   -- N of its entries are not 0
   pub entries-count : count (ltb 0) (reorderedBits Coded b t) ≡ entryCount b t
@@ -216,4 +214,6 @@ module _ (b t : List ℕ) (even : isOne (ones b t % 2) ≡ false) where
       let c : List ℕ = filter (leb 2) (bitsOf b (reorderedTones Coded b t)) in
       let h : List ℕ = replicate (ones b t / 2) 2 in
       let f = entries-fit in
-      omega (arith, count-append z (c ++ h), count-append c h, count-zeros (length t - entryCount b t), count-pairs (ones b t / 2), count-twos (bitsOf b (reorderedTones Coded b t)), length-append c h, length-replicate {A = ℕ} (ones b t / 2) 2)
+      let e = ap length (twos-order b t) in
+      omega
+      (arith, count-append z (c ++ h), count-append c h, count-zeros (length t - entryCount b t), count-pairs (ones b t / 2), count-twos (bitsOf b (reorderedTones Coded b t)))

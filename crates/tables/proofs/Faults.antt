@@ -53,7 +53,8 @@ size-facts g n m e =
     record {
       top = ltb-false _ _ (w1 .1);
       gainsFit = eqb-true _ _ (not-false (eqb n g) (w2 .1));
-      tonesFit = ltb-false _ _ (w4 .1) }
+      tonesFit = ltb-false _ _ (w4 .1);
+    }
 
 -- what follows a chain of refusals follows its last
 and-test : (n : ℕ) (b : Bool) (v w : Verdict) → andThen (refuseIf (suc n) b v) w ≡ refuseIf (suc n) b (andThen v w)

@@ -1,16 +1,14 @@
--- Laws of the pairs: pair k of a list holds its entries 2k and 2k + 1, and the entries of b' stand at the end of its array.
+-- Laws of the pairs: pair k of a list holds its entries 2k and 2k + 1, from any array and place.
 use Prim.Native.Nat.{ℕ, zero, suc, _+_, _-_, _*_, _/_, _%_, _<_, _≤_}
 use mathlib.Core.Bool.{Bool, true, false, _||_}
-use mathlib.Core.List.{List, [], _∷_, _++_}
+use mathlib.Core.List.{List, [], _∷_}
 use mathlib.Core.Path.{_≡_, refl, sym, ap, _∙_}
 use native.Mathlib.Omega.{arith}
 use borrow.Author.Tests.{eqb-true, eqb-false, eq-eqb, ne-eqb}
-use lib.ListN.{length, getD, take, drop, replicate, length-drop, length-replicate}
-use lib.Seq.{take-add, drop-at, getD-take, getD-drop, length-take-le}
+use lib.ListN.{length, getD, take, drop, length-drop}
+use lib.Seq.{getD-take, getD-drop, length-take-le}
 use Rattle.g9932.specs.Refusals.{holdsOne, pairTest}
-use Rattle.g9932.specs.Order.{Pair, pair, isOne, inTwos, zeroInFront, pairsOf, ones, entryCount, entries, reorderedBits}
-use Rattle.g9932.specs.declared.Mode.the-variants.{Coded}
-use Rattle.tables.proofs.Counts.{Fits, entries-fit}
+use Rattle.g9932.specs.Order.{Pair, pair, isOne, inTwos, zeroInFront, pairsOf}
 
 length-twos : (l : List ℕ) → length (inTwos l) ≡ length l / 2
 length-twos [] = refl
@@ -71,16 +69,3 @@ module _ (arr : List ℕ) (from n : ℕ) where
         let l = length-front n part length-part in
         let e : getD (pairsOf part) k (pair 0 0) ≡ pair x y = ap (λ (ps : List Pair). getD ps k (pair 0 0)) pairs-cut ∙ pair-at padded k (omega arith) ∙ rw (← p, ← q) in
         ap holdsOne e
-
--- the N entries of b', in an array that holds b'
-pub entries-in : (b t arr : List ℕ) {n z : ℕ} → isOne (ones b t % 2) ≡ false → length t ≤ length arr → n ≡ entryCount b t → z ≡ length t - n
-    → take (length t) arr ≡ reorderedBits Coded b t → take n (drop z arr) ≡ entries b t
-unfolding reorderedBits
-entries-in b t arr {n} {z} even room pn pz e =
-    let f = entries-fit b t even in
-    let s : z + n ≡ length t = omega arith in
-    let q : length t - entryCount b t ≡ z = omega arith in
-    let u : take z arr ++ take n (drop z arr) ≡ replicate z 0 ++ entries b t = sym (take-add z n arr) ∙ ap (λ (m : ℕ). take m arr) s ∙ e ∙ ap (λ (m : ℕ). replicate m 0 ++ entries b t) q in
-    sym (drop-at (take z arr) (take n (drop z arr)) z (length-take-le z arr (omega arith)))
-    ∙ ap (drop z) u
-    ∙ drop-at (replicate z 0) (entries b t) z (length-replicate z 0)

@@ -41,21 +41,21 @@ pub record Written (m : Mode) (b t order entries : List ℕ) : Type 0 where
 
 -- the three counts are those of the tones
 pub record CountsAre (c : Counts) (b t : List ℕ) : Type 0 where
-  pub sums : c .sum ≡ sum (bitsOf b t)
-  pub loads : c .loaded ≡ loaded b t
-  pub singly : c .ones ≡ ones b t
+  pub sumIs : c .sum ≡ sum (bitsOf b t)
+  pub loadedIs : c .loaded ≡ loaded b t
+  pub onesIs : c .ones ≡ ones b t
 
 -- what writing t' and b' asks: an even number of 1-bit tones, and where the entries of b' begin
 pub record CodedReady (b t : List ℕ) (one zeros : ℕ) : Type 0 where
-  pub singly : one ≡ ones b t
+  pub onesIs : one ≡ ones b t
   pub even : isOne (ones b t % 2) ≡ false
-  pub front : zeros ≡ length t - entryCount b t
+  pub zerosIs : zeros ≡ length t - entryCount b t
 
--- what placing the tones asks: room for the three runs, one behind the other in t'
+-- what placing the tones asks: the 1-bit tones come behind the others, and there is room for all
 pub record PlaceReady (b t : List ℕ) (behind from orderLength entriesLength : ℕ) : Type 0 where
-  pub others : behind ≡ length (others b t)
-  pub singly : behind + length (singles b t) ≤ orderLength
-  pub counts : from + length (filter (leb 2) (bitsOf b t)) ≤ entriesLength
+  pub behindIs : behind ≡ length (others b t)
+  pub orderRoom : behind + length (singles b t) ≤ orderLength
+  pub entriesRoom : from + length (filter (leb 2) (bitsOf b t)) ≤ entriesLength
 
 -- and what it does to the two arrays
 pub record Placing (b t : List ℕ) (behind from : ℕ) (order entries orderAfter entriesAfter : List ℕ) : Type 0 where

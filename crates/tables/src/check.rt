@@ -1,6 +1,12 @@
 // Refusals 1 to 6: the sizes, the tone table, and the bit and gain tables by index.
-use super::{bits_at, gain_at, tone_at};
-use g9932::{Checked, Found, Place, Refusal, Subcarrier};
+use super::bits_at;
+use super::gain_at;
+use super::tone_at;
+use g9932::Checked;
+use g9932::Found;
+use g9932::Place;
+use g9932::Refusal;
+use g9932::Subcarrier;
 ghost use mathlib.Core.Path.{_≡_};
 ghost use mathlib.Core.Bool.{false};
 ghost use Prim.Native.Nat.{ℕ, _<_, _≤_};

@@ -1,7 +1,16 @@
 // Checking the bit, gain and tone tables, the frame size L, and the re-ordered tables t' and b' (document 01).
-use g9932::{Checked, Class, Mode, Place, Refusal, Subcarrier, Tone};
 use check::check_lists;
-use order::{copy_bits, copy_tones, order_coded, order_plain};
+use g9932::Checked;
+use g9932::Class;
+use g9932::Mode;
+use g9932::Place;
+use g9932::Refusal;
+use g9932::Subcarrier;
+use g9932::Tone;
+use order::copy_bits;
+use order::copy_tones;
+use order::order_coded;
+use order::order_uncoded;
 ghost use mathlib.Core.Path.{_≡_};
 ghost use Prim.Native.Nat.{_≤_};
 ghost use lib.ListN.{length};
@@ -113,7 +122,7 @@ fn order_by(
     ensures { λ r. ⌜ OrderedBy (modeVerdict mode (now (bits .entry)) (now (tones .entry))) mode (now (bits .entry)) (now (tones .entry)) r (now (order .exit)) (now (entries .exit)) ⌝ }
 {
     match mode {
-        Mode::Uncoded => order_plain(bits, tones, order, entries),
+        Mode::Uncoded => order_uncoded(bits, tones, order, entries),
         Mode::Coded => order_coded(bits, tones, order, entries),
     }
 }
@@ -131,7 +140,16 @@ pub fn reorder(
 {
     let mut order = [0u16; 4096];
     let mut entries = [0u8; 4096];
-    reorder_through(mode, bits, gains, tones, tones_out, bits_out, &mut order, &mut entries)
+    reorder_through(
+        mode,
+        bits,
+        gains,
+        tones,
+        tones_out,
+        bits_out,
+        &mut order,
+        &mut entries,
+    )
 }
 
 // Re-orders by way of two arrays, so that a lent buffer is written only when nothing can refuse any more.

@@ -1,6 +1,11 @@
 // Refusals 7 to 9, and the re-ordered tables t' and b' in two arrays.
-use super::{bits_at, tone_at};
-use g9932::{Checked, Found, Place, Refusal, Subcarrier};
+use super::bits_at;
+use super::tone_at;
+use g9932::Checked;
+use g9932::Found;
+use g9932::Place;
+use g9932::Refusal;
+use g9932::Subcarrier;
 ghost use mathlib.Core.Path.{_≡_};
 ghost use Prim.Native.Nat.{_+_, _%_, _<_, _≤_};
 ghost use mathlib.Core.Bool.{_||_};
@@ -77,12 +82,7 @@ fn put_tone(order: &mut [u16], p: Place, k: Subcarrier)
 }
 
 // Uncoded: t' is t, b' lists the bits in t order, and L is their sum.
-pub fn order_plain(
-    bits: &[u8],
-    tones: &[u16],
-    order: &mut [u16],
-    entries: &mut [u8],
-) -> Checked
+pub fn order_uncoded(bits: &[u8], tones: &[u16], order: &mut [u16], entries: &mut [u8]) -> Checked
     requires { ⌜ Room (now tones) (now order) (now entries) ⌝ }
     ensures { λ r. ⌜ OrderedBy (modeVerdict Uncoded (now (bits .entry)) (now (tones .entry))) Uncoded (now (bits .entry)) (now (tones .entry)) r (now (order .exit)) (now (entries .exit)) ⌝ }
 {
@@ -209,12 +209,7 @@ fn first_pair(entries: &[u8], from: usize, n: usize) -> Found
 }
 
 // Coded: refusals 7 to 9 and L, with t' and b' written before 9.
-pub fn order_coded(
-    bits: &[u8],
-    tones: &[u16],
-    order: &mut [u16],
-    entries: &mut [u8],
-) -> Checked
+pub fn order_coded(bits: &[u8], tones: &[u16], order: &mut [u16], entries: &mut [u8]) -> Checked
     requires { ⌜ Room (now tones) (now order) (now entries) ⌝ }
     ensures { λ r. ⌜ OrderedBy (modeVerdict Coded (now (bits .entry)) (now (tones .entry))) Coded (now (bits .entry)) (now (tones .entry)) r (now (order .exit)) (now (entries .exit)) ⌝ }
 {

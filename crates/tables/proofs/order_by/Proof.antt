@@ -6,8 +6,8 @@ use Rattle.tables.proofs.order_by.Tie as tie
 enum-told : tie.Need-enum-told
 enum-told c = search needs
 
-order-plain-requires : tie.Need-order-plain-requires
-order-plain-requires c κs = search needs
+order-uncoded-requires : tie.Need-order-uncoded-requires
+order-uncoded-requires c κs = search needs
 
 enum-told-2 : tie.Need-enum-told-2
 enum-told-2 c = search needs
@@ -22,7 +22,7 @@ same-length-2 : tie.Need-same-length-2
 same-length-2 c = search needs
 
 returns : tie.Need-returns
-returns c = rw (c .before .before .before .before .before .before .before .enum-told .given .1) (c .before .before .before .before .order-plain .ensures)
+returns c = rw (c .before .before .before .before .before .before .before .enum-told .given .1) (c .before .before .before .before .order-uncoded .ensures)
 
 same-length-3 : tie.Need-same-length-3
 same-length-3 c = search needs
@@ -38,7 +38,7 @@ order-by-spec =
     tie.close
     (tie.spec
     enum-told
-    order-plain-requires
+    order-uncoded-requires
     enum-told-2
     order-coded-requires
     same-length

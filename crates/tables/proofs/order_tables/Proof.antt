@@ -1,9 +1,6 @@
 -- `order_tables` meets its contract: refusals 1 to 6, and then those of the mode.
 use native.Mathlib.Omega.{arith}
-use denote.Ref.{now}
 use mathlib.Core.Path.{_≡_, sym, ap, _∙_}
-use Prim.Native.Nat.{_≤_}
-use lib.ListN.{length}
 use Rattle.g9932.specs.Answers.{verdictOf}
 use Rattle.tables.proofs.Answers.{lists-fit, ordered-refused, lists-refused, lists-accepted}
 use borrow.Author.Needs.{needs}
@@ -21,15 +18,14 @@ enum-told c = search needs
 
 order-by-requires : tie.Need-order-by-requires
 order-by-requires c κs =
-    let a = c .before .before .before .before .before .before .before .before .before .before .args in
-    let f = lists-fit (now (a .bits)) (now (a .gains)) (now (a .tones)) (ap verdictOf (sym (c .before .before .enum-told .given .1)) ∙ c .before .before .before .before .check-lists .ensures) in
+    let f = lists-fit _ _ _ (ap verdictOf (sym (c .before .before .enum-told .given .1)) ∙ c .before .before .before .before .check-lists .ensures) in
     let r = c .before .before .before .before .before .before .before .before .before .before .pre in
     record { size = f; orderRoom = omega (arith, r .orderLength); entriesRoom = omega (arith, r .entriesLength) }
 
 returns : tie.Need-returns
 returns c =
-    let a = c .before .before .before .before .before .before .before .before .before .args in
-    ordered-refused (c .before .r .given .0 .0) (lists-refused (a .mode) (now (a .bits)) (now (a .gains)) (now (a .tones)) (c .before .r .given .0 .0) (ap verdictOf (sym (c .before .r .given .1)) ∙ c .before .before .before .check-lists .ensures))
+    let x = c .before .r .given .0 .0 in
+    ordered-refused x (lists-refused _ _ _ _ x (ap verdictOf (sym (c .before .r .given .1)) ∙ c .before .before .before .check-lists .ensures))
 
 same-length : tie.Need-same-length
 same-length c = search needs
@@ -38,9 +34,7 @@ same-length-2 : tie.Need-same-length-2
 same-length-2 c = search needs
 
 returns-2 : tie.Need-returns-2
-returns-2 c =
-    let a = c .before .before .before .before .before .before .before .before .before .before .before .before .before .before .before .args in
-    lists-accepted (a .mode) (now (a .bits)) (now (a .gains)) (now (a .tones)) (ap verdictOf (sym (c .before .before .before .before .before .before .before .enum-told .given .1)) ∙ c .before .before .before .before .before .before .before .before .before .check-lists .ensures) (c .before .before .before .before .order-by .ensures)
+returns-2 c = lists-accepted _ _ _ _ (ap verdictOf (sym (c .before .before .before .before .before .before .before .enum-told .given .1)) ∙ c .before .before .before .before .before .before .before .before .before .check-lists .ensures) (c .before .before .before .before .order-by .ensures)
 
 pub order-tables-spec : {M : Type 1} → statement M
 order-tables-spec =

@@ -1,18 +1,21 @@
--- `reorder_through` meets its contract: a lent buffer is written only past refusals 1 to 10.
+-- `reorder_through` meets its contract: a lent buffer is written only where none of 1 to 10 refuses.
 use native.Mathlib.Omega.{arith}
-use denote.Ref.{now}
 use mathlib.Core.Path.{_≡_, sym, ap, _∙_}
-use mathlib.Core.List.{List}
-use Prim.Native.Nat.{ℕ}
+use Prim.Native.Nat.{ℕ, _≤_}
+use denote.Ref.{now}
 use lib.ListN.{length, take}
 use borrow.Author.Tests.{eq-eqb, ne-eqb}
-use Rattle.g9932.specs.Sizes.{Tables, tables}
-use Rattle.g9932.specs.Refusals.{Verdict, accepted, tableVerdict}
+use Rattle.g9932.specs.Sizes.{tables}
+use Rattle.g9932.specs.Refusals.{accepted, tableVerdict}
 use Rattle.g9932.specs.Answers.{verdictOf}
 use Rattle.tables.proofs.Answers.{number-none, table-fits, reorder-refused, reorder-room, reorder-done}
 use borrow.Author.Needs.{needs}
 use Rattle.tables.proofs.reorder_through.Statement.{statement}
 use Rattle.tables.proofs.reorder_through.Tie as tie
+
+-- the tables are accepted
+passed : (c : tie.After-r2) → let a = c .before .before .before .before .before .before .before .before .before .before .before .before .before .before .before .before .args in accepted (c .r2 .given .0 .0) ≡ tableVerdict (tables (a .mode) (now (a .bits)) (now (a .gains)) (now (a .tones)))
+passed c = ap verdictOf (sym (c .r2 .given .1)) ∙ c .before .before .before .before .before .before .order-tables .ensures .answer
 
 order-tables-requires : tie.Need-order-tables-requires
 order-tables-requires c κs = search needs
@@ -30,10 +33,7 @@ same-length-2 : tie.Need-same-length-2
 same-length-2 c = search needs
 
 returns : tie.Need-returns
-returns c =
-    let a = c .before .before .before .before .before .before .before .before .before .before .before .before .before .before .before .before .before .before .args in
-    let e = ap verdictOf (sym (c .before .before .r2 .given .1)) ∙ c .before .before .before .before .before .before .before .before .order-tables .ensures .answer in
-    reorder-room (tables (a .mode) (now (a .bits)) (now (a .gains)) (now (a .tones))) (now (a .tones-out)) (now (a .bits-out)) e (simp (ne-eqb _ _ (c .if1 .taken)))
+returns c = reorder-room (passed (c .before .before)) (simp (ne-eqb _ _ (c .if1 .taken)))
 
 same-length-3 : tie.Need-same-length-3
 same-length-3 c = search needs
@@ -42,24 +42,13 @@ same-length-4 : tie.Need-same-length-4
 same-length-4 c = search needs
 
 returns-2 : tie.Need-returns-2
-returns-2 c =
-    let a = c .before .before .before .before .before .before .before .before .before .before .before .before .before .before .before .before .before .before .before .args in
-    let e = ap verdictOf (sym (c .before .before .before .r2 .given .1)) ∙ c .before .before .before .before .before .before .before .before .before .order-tables .ensures .answer in
-    reorder-room (tables (a .mode) (now (a .bits)) (now (a .gains)) (now (a .tones))) (now (a .tones-out)) (now (a .bits-out)) e (simp (eq-eqb _ _ (c .before .if1 .left), ne-eqb _ _ (c .if2 .taken)))
+returns-2 c = reorder-room (passed (c .before .before .before)) (simp (eq-eqb _ _ (c .before .if1 .left), ne-eqb _ _ (c .if2 .taken)))
 
 copy-tones-requires : tie.Need-copy-tones-requires
-copy-tones-requires c κs =
-    let a = c .before .before .before .before .before .before .before .before .before .before .before .before .before .before .before .before .before .before .before .before .before .args in
-    let o = c .before .before .before .before .before .before .before .before .before .before .before .order-tables in
-    let f = table-fits (tables (a .mode) (now (a .bits)) (now (a .gains)) (now (a .tones))) (ap verdictOf (sym (c .before .before .before .before .before .r2 .given .1)) ∙ o .ensures .answer) in
-    omega (arith, c .before .before .before .if1 .left, o .kept .1 .1 .1 .1 .0, c .before .before .before .before .before .before .before .before .before .before .before .before .before .before .before .before .before .before .before .before .before .pre .orderLength)
+copy-tones-requires c κs = omega (arith, table-fits _ (passed (c .before .before .before .before .before)), c .before .before .before .if1 .left, c .before .before .before .before .before .before .before .before .before .before .before .order-tables .kept .1 .1 .1 .1 .0, c .before .before .before .before .before .before .before .before .before .before .before .before .before .before .before .before .before .before .before .before .before .pre .orderLength)
 
 copy-bits-requires : tie.Need-copy-bits-requires
-copy-bits-requires c κs =
-    let a = c .before .before .before .before .before .before .before .before .before .before .before .before .before .before .before .before .before .before .before .before .before .before .before .before .before .before .args in
-    let o = c .before .before .before .before .before .before .before .before .before .before .before .before .before .before .before .before .order-tables in
-    let f = table-fits (tables (a .mode) (now (a .bits)) (now (a .gains)) (now (a .tones))) (ap verdictOf (sym (c .before .before .before .before .before .before .before .before .before .before .r2 .given .1)) ∙ o .ensures .answer) in
-    omega (arith, c .before .before .before .before .before .before .before .if2 .left, o .kept .1 .1 .1 .1 .1 .0, c .before .before .before .before .before .before .before .before .before .before .before .before .before .before .before .before .before .before .before .before .before .before .before .before .before .before .pre .entriesLength)
+copy-bits-requires c κs = omega (arith, table-fits _ (passed (c .before .before .before .before .before .before .before .before .before .before)), c .before .before .before .before .before .before .before .if2 .left, c .before .before .before .before .before .before .before .before .before .before .before .before .before .before .before .before .order-tables .kept .1 .1 .1 .1 .1 .0, c .before .before .before .before .before .before .before .before .before .before .before .before .before .before .before .before .before .before .before .before .before .before .before .before .before .before .pre .entriesLength)
 
 same-length-5 : tie.Need-same-length-5
 same-length-5 c = search needs
@@ -68,9 +57,7 @@ same-length-6 : tie.Need-same-length-6
 same-length-6 c = search needs
 
 returns-3 : tie.Need-returns-3
-returns-3 c =
-    let a = c .before .before .before .before .before .before .before .before .before .before .before .before .before .before .before .before .before .args in
-    reorder-refused (tables (a .mode) (now (a .bits)) (now (a .gains)) (now (a .tones))) (now (a .tones-out)) (now (a .bits-out)) (c .before .r .given .0 .0) (ap verdictOf (sym (c .before .r .given .1)) ∙ c .before .before .before .before .before .before .before .order-tables .ensures .answer)
+returns-3 c = reorder-refused (c .before .r .given .0 .0) (ap verdictOf (sym (c .before .r .given .1)) ∙ c .before .before .before .before .before .before .before .order-tables .ensures .answer)
 
 same-length-7 : tie.Need-same-length-7
 same-length-7 c = search needs
@@ -86,12 +73,11 @@ same-length-10 c = search needs
 
 returns-4 : tie.Need-returns-4
 returns-4 c =
-    let a = c .before .before .before .before .before .before .before .before .before .before .before .before .before .before .before .before .before .before .before .before .before .before .before .before .before .before .before .before .before .args in
     let o = c .before .before .before .before .before .before .before .before .before .before .before .before .before .before .before .before .before .before .before .order-tables in
-    let e = ap verdictOf (sym (c .before .before .before .before .before .before .before .before .before .before .before .before .before .r2 .given .1)) ∙ o .ensures .answer in
+    let e = passed (c .before .before .before .before .before .before .before .before .before .before .before .before .before) in
     let p = c .before .before .before .before .before .before .before .before .before .before .before .if1 .left in
     let q = c .before .before .before .before .before .before .before .before .before .before .if2 .left in
-    reorder-done (tables (a .mode) (now (a .bits)) (now (a .gains)) (now (a .tones))) (now (a .tones-out)) (now (a .bits-out)) e p q
+    reorder-done e p q
     (c .before .before .before .before .before .before .before .copy-tones .ensures ∙ ap (λ (n : ℕ). take n (o .last .1 .1 .1 .1 .0)) p ∙ o .ensures .tones (number-none e))
     (c .before .before .copy-bits .ensures ∙ ap (λ (n : ℕ). take n (o .last .1 .1 .1 .1 .1 .0)) q ∙ o .ensures .bits (number-none e))
 

@@ -1,3 +1,4 @@
+-- `first_bits` meets its contract. The loop's invariant: no bit count before index i is above 15. The measure is what is left.
 use borrow.Author.Needs.{needs}
 use native.Mathlib.Omega.{arith}
 use mathlib.Core.Path.{_≡_, _∙_, ap, sym}

@@ -1,3 +1,5 @@
+-- `first_place_fault` meets its contract. The loop's invariant: neither 2 nor 3 applies to a place before i, and the entries
+-- before i are marked. The measure is what is left of t.
 use borrow.Author.Needs.{needs}
 use native.Mathlib.Omega.{arith}
 use mathlib.Core.Path.{_≡_, _∙_, ap, sym}
@@ -45,7 +47,8 @@ returns : tie.Need-returns Inv-loop μ-loop
 returns c =
     record {
       found = first-at _ _ _ (c .before .before .before .loop .inv .1) (simp (sym (c .before .tone-at .ensures), le-leb _ _ (c .if1 .taken))) (omega arith);
-      marks = λ e. let z : _≡_ {A = ℕ} 0 1 = cc in absurd (omega arith) }
+      marks = λ e. let z : _≡_ {A = ℕ} 0 1 = cc in absurd (omega arith);
+    }
 
 element-copy-out-if2 : tie.Need-element-copy-out-if2 Inv-loop μ-loop
 element-copy-out-if2 c = omega arith
@@ -54,7 +57,8 @@ returns-2 : tie.Need-returns-2 Inv-loop μ-loop
 returns-2 c =
     record {
       found = first-at _ _ _ (c .before .before .before .before .before .loop .inv .1) (marked (c .before .before) ∙ c .if2 .taken) (omega arith);
-      marks = λ e. let z : _≡_ {A = ℕ} 0 1 = cc in absurd (omega arith) }
+      marks = λ e. let z : _≡_ {A = ℕ} 0 1 = cc in absurd (omega arith);
+    }
 
 element-write-seen : tie.Need-element-write-seen Inv-loop μ-loop
 element-write-seen c = omega arith
@@ -67,16 +71,20 @@ loop-less c = search needs
 
 loop-again : tie.Need-loop-again Inv-loop μ-loop
 loop-again c =
-    let l = c .before .before .before .before .before .loop in
-    (omega arith, first-more _ _ (l .inv .1) (marked (c .before .before) ∙ c .if2 .left), simp length-set (l .inv .2),
-    marks-more (now (c .before .before .before .before .before .before .before .args .tones)) (l .i) (l .seen) (l .inv .3) (c .before .before .before .tone-at .ensures) (l .inv .2) (omega arith) (omega arith))
+    let l = c .before .before .before .before .before .loop in (
+      omega arith,
+      first-more _ _ (l .inv .1) (marked (c .before .before) ∙ c .if2 .left),
+      simp length-set (l .inv .2),
+      marks-more (now (c .before .before .before .before .before .before .before .args .tones)) (l .i) (l .seen) (l .inv .3) (c .before .before .before .tone-at .ensures) (l .inv .2) (omega arith) (omega arith),
+    )
 
 returns-3 : tie.Need-returns-3 Inv-loop μ-loop
 returns-3 c =
     let l = c .before .loop in
     record {
       found = first-end _ _ _ (l .inv .1) (omega arith) (omega arith);
-      marks = λ _. marks-end (now (c .before .before .before .args .tones)) (l .i) (l .seen) (l .inv .3) (omega arith) }
+      marks = λ _. marks-end (now (c .before .before .before .args .tones)) (l .i) (l .seen) (l .inv .3) (omega arith);
+    }
 
 pub first-place-fault-spec : {M : Type 1} → statement M
 first-place-fault-spec =

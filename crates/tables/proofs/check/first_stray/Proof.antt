@@ -1,3 +1,4 @@
+-- `first_stray` meets its contract. The loop's invariant: 5 applies to no index before i. The measure is what is left.
 use borrow.Author.Needs.{needs}
 use native.Mathlib.Omega.{arith}
 use mathlib.Core.Path.{_≡_, _∙_, ap, sym}

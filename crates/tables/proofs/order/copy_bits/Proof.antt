@@ -34,9 +34,11 @@ loop-less c = simp length-set (omega arith)
 
 loop-again : tie.Need-loop-again Inv-loop μ-loop
 loop-again c =
-    let l = c .before .before .loop in
-    (omega arith, simp length-set (l .inv .1),
-    sets-step (l .out) (l .i) _ (copy-next (now (c .before .before .before .args .entries)) (now (c .before .before .before .args .out)) (c .before .before .before .pre) (l .i) (omega arith)) (l .inv .2))
+    let l = c .before .before .loop in (
+      omega arith,
+      simp length-set (l .inv .1),
+      sets-step (l .out) (l .i) _ (copy-next (now (c .before .before .before .args .entries)) (now (c .before .before .before .args .out)) (c .before .before .before .pre) (l .i) (omega arith)) (l .inv .2),
+    )
 
 same-length : tie.Need-same-length Inv-loop μ-loop
 same-length c = search needs

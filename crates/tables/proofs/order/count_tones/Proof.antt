@@ -1,3 +1,5 @@
+-- `count_tones` meets its contract. The loop's invariant: each count so far with that of the tones left is that of all.
+-- The measure is what is left of t.
 use borrow.Author.Needs.{needs}
 use native.Mathlib.Omega.{arith}
 use mathlib.Core.Path.{_≡_, ap}
@@ -59,7 +61,7 @@ returns c =
     let e0 = ap sum e in
     let e1 = ap (count (ltb 0)) e in
     let e2 = ap (count isOne) e in
-    record { sums = omega arith; loads = omega arith; singly = omega arith }
+    record { sumIs = omega arith; loadedIs = omega arith; onesIs = omega arith }
 
 pub count-tones-spec : {M : Type 1} → statement M
 count-tones-spec =

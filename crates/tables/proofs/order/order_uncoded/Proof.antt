@@ -1,4 +1,4 @@
--- `order_plain` meets its contract. The loop's invariant: writing what is left of t and of its bits gives what the whole gives,
+-- `order_uncoded` meets its contract. The loop's invariant: writing what is left of t and of its bits gives what the whole gives,
 -- and the sum so far with the bits left is the sum of all. The measure is what is left of t.
 use borrow.Author.Needs.{needs}
 use native.Mathlib.Omega.{arith}
@@ -12,9 +12,9 @@ use Rattle.g9932.specs.Sizes.{entry}
 use Rattle.g9932.specs.Order.{sum as total, bitsOf, reorderedTones, reorderedBits}
 use Rattle.tables.proofs.Runs.{sets-step, take-sets, drop-none}
 use Rattle.tables.proofs.Counts.{tones-next, bits-next}
-use Rattle.tables.proofs.Modes.{plain-verdict}
-use Rattle.tables.proofs.order.order_plain.Statement.{statement}
-use Rattle.tables.proofs.order.order_plain.Tie as tie
+use Rattle.tables.proofs.Modes.{uncoded-verdict}
+use Rattle.tables.proofs.order.order_uncoded.Statement.{statement}
+use Rattle.tables.proofs.order.order_uncoded.Tie as tie
 
 abbrev Inv-loop : tie.InvT-loop
 Inv-loop bits tones order₀ entries₀ sum₀ i₀ order entries sum i =
@@ -65,10 +65,15 @@ loop-again c =
     let v = c .before .before .before .before .bits-at in
     let p = c .before .before .put-tone in
     let f = bits-next b t (l .i) (k .ensures) (v .ensures) (omega arith) in
-    let g = ap total f in
-    (omega arith, p .kept .0 ∙ l .inv .1, simp length-set (l .inv .2),
-    ap (λ (o : List ℕ). sets o (l .i + 1) (drop (l .i + 1) t)) (p .ensures) ∙ sets-step (l .order) (l .i) (k .result .0) (tones-next t (l .i) (k .ensures) (omega arith)) (l .inv .3),
-    sets-step (l .entries) (l .i) (v .result) f (l .inv .4), omega arith, omega arith)
+    let g = ap total f in (
+      omega arith,
+      p .kept .0 ∙ l .inv .1,
+      simp length-set (l .inv .2),
+      ap (λ (o : List ℕ). sets o (l .i + 1) (drop (l .i + 1) t)) (p .ensures) ∙ sets-step (l .order) (l .i) (k .result .0) (tones-next t (l .i) (k .ensures) (omega arith)) (l .inv .3),
+      sets-step (l .entries) (l .i) (v .result) f (l .inv .4),
+      omega arith,
+      omega arith,
+    )
 
 same-length : tie.Need-same-length Inv-loop μ-loop
 same-length c = search needs
@@ -86,12 +91,13 @@ returns c =
     let d = drop-none t (l .i) (omega arith) in
     let g = ap (λ (s : List ℕ). total (bitsOf b s)) d in
     record {
-      answer = plain-verdict b t (omega arith);
+      answer = uncoded-verdict b t (omega arith);
       tones = λ _. ap (take (length t)) (sym (ap (sets (l .order) (l .i)) d) ∙ l .inv .3) ∙ take-sets (now (c .before .before .before .before .before .before .args .order)) t (length t) refl (r .orderRoom);
-      bits = λ _. ap (take (length t)) (sym (ap (λ (s : List ℕ). sets (l .entries) (l .i) (bitsOf b s)) d) ∙ l .inv .4) ∙ take-sets (now (c .before .before .before .before .before .before .args .entries)) (bitsOf b t) (length t) (length-map t (entry b)) (r .entriesRoom) }
+      bits = λ _. ap (take (length t)) (sym (ap (λ (s : List ℕ). sets (l .entries) (l .i) (bitsOf b s)) d) ∙ l .inv .4) ∙ take-sets (now (c .before .before .before .before .before .before .args .entries)) (bitsOf b t) (length t) (length-map t (entry b)) (r .entriesRoom);
+    }
 
-pub order-plain-spec : {M : Type 1} → statement M
-order-plain-spec =
+pub order-uncoded-spec : {M : Type 1} → statement M
+order-uncoded-spec =
     tie.close
     (tie.spec
     Inv-loop
