@@ -1,13 +1,13 @@
 -- Laws of the answers: checking with t' and b' in two arrays, and re-ordering, from what the parts answer.
 use Prim.Native.Nat.{ℕ, _≤_}
-use mathlib.Core.Bool.{Bool, true, false, _||_}
+use mathlib.Core.Bool.{true, false, _||_}
 use mathlib.Core.List.{List}
 use mathlib.Core.Path.{_≡_, refl, sym, ap, _∙_}
 use native.Mathlib.Omega.{arith}
 use borrow.Author.Tests.{eq-eqb, eqb-false}
 use lib.ListN.{length}
 use Rattle.g9932.specs.Sizes.{Tables, tables}
-use Rattle.g9932.specs.Refusals.{numberOf, Verdict, accepted, sizeTest, roomTest, tableVerdict}
+use Rattle.g9932.specs.Refusals.{Verdict, accepted, sizeTest, roomTest, tableVerdict}
 use Rattle.g9932.specs.Symbol.{orderOf, entriesOf, sizeOf}
 use Rattle.g9932.specs.Answers.{verdictOf, orderVerdict, Reorders}
 use Rattle.g9932.specs.declared.Mode.{Mode}
@@ -18,7 +18,7 @@ use Rattle.g9932.specs.declared.Checked.the-variants.{Accepted, Refused}
 use Rattle.g9932.proofs.Verdicts.{test-here, test-past, found-past, test-none, found-none, number-some, and-refused, and-accepted, and-none, done-refused, done-accepted}
 use Rattle.tables.specs.Checks.{listVerdict, modeVerdict}
 use Rattle.tables.specs.Ordered.{OrderedBy}
-use Rattle.tables.proofs.Faults.{SizeFacts, size-facts, two-parts}
+use Rattle.tables.proofs.Faults.{size-facts, two-parts}
 
 pub number-none : {l : ℕ} {v : Verdict} → accepted l ≡ v → v .number ≡ 0
 number-none e = sym (ap (λ (v : Verdict). v .number) e)

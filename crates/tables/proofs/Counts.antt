@@ -5,11 +5,11 @@ use mathlib.Core.List.{List, [], _∷_, _++_, append-nil, map-append}
 use mathlib.Core.Path.{_≡_, refl, sym, ap, _∙_}
 use native.Mathlib.Omega.{arith}
 use borrow.Author.Tests.{ltb-true, ltb-false, eqb-true, eqb-false, leb-true, leb-false, lt-ltb, lt-leb, le-leb, eq-eqb, ne-eqb}
-use lib.Dec.{ltb, leb, eqb}
-use lib.ListN.{length, getD, take, drop, replicate, length-append, length-map, length-replicate}
+use lib.Dec.{ltb, leb}
+use lib.ListN.{length, drop, replicate, length-map}
 use Rattle.g9932.specs.Bits.{weight}
 use Rattle.g9932.specs.Sizes.{entry}
-use Rattle.g9932.specs.Order.{sum, count, consIf, filter, isOne, bitsOf, oneBit, singles, others, loaded, ones, entryCount, entries, reorderedTones, reorderedBits}
+use Rattle.g9932.specs.Order.{sum, count, consIf, filter, isOne, bitsOf, oneBit, singles, others, loaded, ones, entryCount, reorderedTones, reorderedBits}
 use Rattle.g9932.specs.declared.Mode.the-variants.{Coded}
 use Rattle.tables.proofs.Runs.{drop-some}
 

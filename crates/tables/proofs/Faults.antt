@@ -2,12 +2,12 @@
 use Prim.Native.Nat.{ℕ, zero, suc, _<_, _≤_}
 use mathlib.Core.Bool.{Bool, true, false, not, _||_}
 use mathlib.Core.List.{List}
-use mathlib.Core.Path.{_≡_, refl, sym, ap, _∙_}
+use mathlib.Core.Path.{_≡_, refl, sym, ap}
 use native.Mathlib.Omega.{arith}
-use borrow.Author.Tests.{ltb-false, eqb-true, not-false, ne-eqb}
+use borrow.Author.Tests.{ltb-false, ne-eqb}
 use lib.Dec.{ltb, eqb}
 use Rattle.g9932.specs.Bits.{first}
-use Rattle.g9932.specs.Sizes.{Tables, tables}
+use Rattle.g9932.specs.Sizes.{tables}
 use Rattle.g9932.specs.Refusals.{Verdict, accepted, refuseIf, refuseAt, andThen, sizeTest, tableVerdict}
 use Rattle.g9932.specs.declared.Found.{Found}
 use Rattle.g9932.specs.declared.Found.the-variants.{At, Nothing}
@@ -39,12 +39,11 @@ module _ (p q : ℕ → Bool) (n : ℕ) where
   or-second e = first-same (λ k. p k || q k) q n (λ k l. ap (λ (x : Bool). x || q k) (first-no p n e k l))
 
 -- what the size test leaves
-pub record SizeFacts (g gains nsc : ℕ) : Type 0 where
+pub record SizeFacts (g nsc : ℕ) : Type 0 where
   pub top : g ≤ 4096
-  pub gainsFit : gains ≡ g
   pub tonesFit : nsc ≤ g
 
-pub size-facts : (g n m : ℕ) → sizeTest g n m ≡ false → SizeFacts g n m
+pub size-facts : (g n m : ℕ) → sizeTest g n m ≡ false → SizeFacts g m
 size-facts g n m e =
     let w4 = or-none (ltb g 1 || ltb 4096 g || not (eqb n g) || ltb m 1) (ltb g m) e in
     let w3 = or-none (ltb g 1 || ltb 4096 g || not (eqb n g)) (ltb m 1) (w4 .0) in
@@ -52,7 +51,6 @@ size-facts g n m e =
     let w1 = or-none (ltb g 1) (ltb 4096 g) (w2 .0) in
     record {
       top = ltb-false _ _ (w1 .1);
-      gainsFit = eqb-true _ _ (not-false (eqb n g) (w2 .1));
       tonesFit = ltb-false _ _ (w4 .1);
     }
 

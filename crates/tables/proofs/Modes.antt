@@ -1,6 +1,6 @@
 -- Laws of refusals 7 to 9: none applies uncoded; coded, the counts decide 7, 8 and L. And of t' and b' written in runs of stores.
-use Prim.Native.Nat.{ℕ, _+_, _-_, _*_, _/_, _%_, _<_, _≤_}
-use mathlib.Core.Bool.{Bool, true, false}
+use Prim.Native.Nat.{ℕ, _+_, _-_, _/_, _%_, _<_, _≤_}
+use mathlib.Core.Bool.{false}
 use mathlib.Core.List.{List, _++_}
 use mathlib.Core.Path.{_≡_, refl, sym, ap, _∙_}
 use native.Mathlib.Omega.{arith}
@@ -20,7 +20,7 @@ use Rattle.tables.specs.declared.order.Counts.{Counts}
 use Rattle.tables.specs.Checks.{modeVerdict}
 use Rattle.tables.specs.Ordered.{CountsAre, CodedReady, Written}
 use Rattle.tables.proofs.Runs.{sets-sets, take-sets}
-use Rattle.tables.proofs.Counts.{Loads, loads, length-split, twos-order, Fits, entries-fit, entries-count}
+use Rattle.tables.proofs.Counts.{loads, length-split, twos-order, entries-fit, entries-count}
 
 pub uncoded-verdict : (b t : List ℕ) {l : ℕ} → l ≡ sum (bitsOf b t) → accepted l ≡ modeVerdict Uncoded b t
 unfolding modeVerdict codedPairs frameSize

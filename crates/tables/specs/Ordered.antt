@@ -11,7 +11,6 @@ use Rattle.g9932.specs.Refusals.{Verdict, tableVerdict}
 use Rattle.g9932.specs.Order.{sum, filter, isOne, bitsOf, singles, others, loaded, ones, reorderedTones, entryCount, reorderedBits}
 use Rattle.g9932.specs.Answers.{verdictOf}
 use Rattle.g9932.specs.declared.Mode.{Mode}
-use Rattle.g9932.specs.declared.Mode.the-variants.{Coded}
 use Rattle.g9932.specs.declared.Checked.{Checked}
 use Rattle.tables.specs.declared.order.Counts.{Counts}
 

@@ -9,12 +9,12 @@ use g9932::Refusal;
 use g9932::Subcarrier;
 ghost use mathlib.Core.Path.{_≡_};
 ghost use mathlib.Core.Bool.{false};
-ghost use Prim.Native.Nat.{ℕ, _<_, _≤_};
-ghost use lib.ListN.{length, getD, replicate};
+ghost use Prim.Native.Nat.{_<_, _≤_};
+ghost use lib.ListN.{length, replicate};
 ghost use Rattle.g9932.specs.Bits.{first};
 ghost use Rattle.g9932.specs.Refusals.{sizeTest, toneTest, bitsTest, strayBy, strayTest};
 ghost use Rattle.g9932.specs.Answers.{verdictOf};
-ghost use Rattle.tables.specs.Checks.{placeFault, indexBy, indexFault, Marks, Passed, listVerdict};
+ghost use Rattle.tables.specs.Checks.{indexBy, indexFault, Marks, Passed, listVerdict};
 
 // 1 SIZE, of the three lengths.
 fn wrong_size(g: usize, gains: usize, nsc: usize) -> bool

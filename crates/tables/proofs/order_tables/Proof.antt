@@ -1,6 +1,6 @@
 -- `order_tables` meets its contract: refusals 1 to 6, and then those of the mode.
 use native.Mathlib.Omega.{arith}
-use mathlib.Core.Path.{_≡_, sym, ap, _∙_}
+use mathlib.Core.Path.{sym, ap, _∙_}
 use Rattle.g9932.specs.Answers.{verdictOf}
 use Rattle.tables.proofs.Answers.{lists-fit, ordered-refused, lists-refused, lists-accepted}
 use borrow.Author.Needs.{needs}

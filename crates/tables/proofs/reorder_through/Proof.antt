@@ -1,9 +1,9 @@
 -- `reorder_through` meets its contract: a lent buffer is written only where none of 1 to 10 refuses.
 use native.Mathlib.Omega.{arith}
 use mathlib.Core.Path.{_≡_, sym, ap, _∙_}
-use Prim.Native.Nat.{ℕ, _≤_}
+use Prim.Native.Nat.{ℕ}
 use denote.Ref.{now}
-use lib.ListN.{length, take}
+use lib.ListN.{take}
 use borrow.Author.Tests.{eq-eqb, ne-eqb}
 use Rattle.g9932.specs.Sizes.{tables}
 use Rattle.g9932.specs.Refusals.{accepted, tableVerdict}

@@ -5,7 +5,6 @@ use mathlib.Core.Bool.{false, _||_}
 use lib.ListN.{length}
 use Rattle.g9932.specs.Bits.{first}
 use Rattle.g9932.specs.Refusals.{Verdict, refuseIf, refuseAt, sizeTest, toneTest, twiceTest, bitsTest, strayTest, gainTest}
-use Rattle.g9932.specs.declared.Found.the-variants.{Nothing}
 use Rattle.g9932.proofs.Verdicts.{test-here, test-past, found-here, found-past}
 use Rattle.tables.specs.Checks.{listVerdict}
 use Rattle.tables.proofs.Faults.{SizeFacts, size-facts, or-nothing, or-second}
@@ -17,7 +16,7 @@ use Rattle.tables.proofs.check.check_lists.Tie as tie
 sized : (c : tie.Else1) → let a = c .before .before .before .before .before .args in sizeTest (length (now (a .bits))) (length (now (a .gains))) (length (now (a .tones))) ≡ false
 sized c = sym (c .before .wrong-size .ensures) ∙ c .if1 .left
 
-sizes : (c : tie.Else1) → let a = c .before .before .before .before .before .args in SizeFacts (length (now (a .bits))) (length (now (a .gains))) (length (now (a .tones)))
+sizes : (c : tie.Else1) → let a = c .before .before .before .before .before .args in SizeFacts (length (now (a .bits))) (length (now (a .tones)))
 sizes c = size-facts _ _ _ (sized c)
 
 -- past the pass over t: 1, 2 and 3 do not apply

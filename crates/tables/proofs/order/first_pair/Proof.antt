@@ -2,10 +2,8 @@
 use borrow.Author.Needs.{needs}
 use native.Mathlib.Omega.{arith}
 use mathlib.Core.Path.{_≡_, _∙_, sym}
-use mathlib.Core.Bool.{_||_}
 use Prim.Native.Nat.{_+_, _-_, _/_, _≤_}
 use denote.Ref.{now}
-use lib.ListN.{length}
 use Rattle.g9932.specs.Bits.{first}
 use Rattle.g9932.specs.Refusals.{pairTest}
 use Rattle.g9932.specs.Order.{pairsOf}

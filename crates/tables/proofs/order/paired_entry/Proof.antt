@@ -1,10 +1,9 @@
 -- `paired_entry` meets its contract: past the 0 in front, entry j stands one place before.
 use denote.Ref.{now}
-use Rattle.tables.proofs.Pairs.{front-zero, front-odd, front-even}
-use mathlib.Core.Path.{_≡_, _∙_, ap, sym}
+use Rattle.tables.proofs.Pairs.{padded, front-zero, front-odd, front-even}
+use mathlib.Core.Path.{_∙_, ap, sym}
 use Prim.Native.Nat.{ℕ}
 use lib.ListN.{getD}
-use Rattle.tables.proofs.Pairs.{padded}
 use borrow.Author.Needs.{needs}
 use Rattle.tables.proofs.order.paired_entry.Statement.{statement}
 use Rattle.tables.proofs.order.paired_entry.Tie as tie
