@@ -1,0 +1,55 @@
+-- `first_tone` meets its contract. The loop's invariant: no entry before place i is G or more. The measure is what is left of t.
+use borrow.Author.Needs.{needs}
+use native.Mathlib.Omega.{arith}
+use mathlib.Core.Path.{_≡_, _∙_, ap, sym}
+use Prim.Native.Nat.{_-_, _≤_}
+use lib.ListN.{length}
+use lib.Dec.{leb}
+use borrow.Author.Tests.{le-leb, lt-leb}
+use Rattle.g9932.specs.Bits.{first}
+use Rattle.g9932.specs.Refusals.{toneTest}
+use Rattle.g9932.specs.declared.Found.the-variants.{Nothing}
+use Rattle.g9932.proofs.Search.{first-none, first-more, first-at, first-end}
+use Rattle.tables.proofs.check.first_tone.Statement.{statement}
+use Rattle.tables.proofs.check.first_tone.Tie as tie
+
+abbrev Inv-loop : tie.InvT-loop
+Inv-loop g tones i₀ i = (i ≤ length tones) × (first (toneTest g tones) i ≡ Nothing)
+
+abbrev μ-loop : tie.MeasureT-loop
+μ-loop g tones i₀ i = length tones - i
+
+loop-holds : tie.Need-loop-holds Inv-loop μ-loop
+loop-holds c = (omega arith, first-none _)
+
+tone-at-requires : tie.Need-tone-at-requires Inv-loop μ-loop
+tone-at-requires c κs = search needs
+
+returns : tie.Need-returns Inv-loop μ-loop
+returns c = first-at _ _ _ (c .before .before .before .before .loop .inv .1) (ap (leb (c .before .before .before .before .before .before .args .g)) (sym (c .before .before .tone-at .ensures)) ∙ le-leb _ _ (c .if1 .taken)) (omega arith)
+
+add-i : tie.Need-add-i Inv-loop μ-loop
+add-i c = search needs
+
+loop-less : tie.Need-loop-less Inv-loop μ-loop
+loop-less c = search needs
+
+loop-again : tie.Need-loop-again Inv-loop μ-loop
+loop-again c = (omega arith, first-more _ _ (c .before .before .before .before .loop .inv .1) (ap (leb (c .before .before .before .before .before .before .args .g)) (sym (c .before .before .tone-at .ensures)) ∙ lt-leb _ _ (c .if1 .left)))
+
+returns-2 : tie.Need-returns-2 Inv-loop μ-loop
+returns-2 c = first-end _ _ _ (c .before .loop .inv .1) (omega arith) (omega arith)
+
+pub first-tone-spec : {M : Type 1} → statement M
+first-tone-spec =
+    tie.close
+    (tie.spec
+    Inv-loop
+    μ-loop
+    loop-holds
+    tone-at-requires
+    returns
+    add-i
+    loop-less
+    loop-again
+    returns-2)

@@ -1,0 +1,53 @@
+-- Refusals 1 to 9 in two parts, and the tests that one pass makes together.
+use Prim.Native.Nat.{ℕ, _<_}
+use mathlib.Core.Bool.{Bool, false, _||_}
+use mathlib.Core.List.{List}
+use mathlib.Core.Path.{_≡_}
+use lib.Dec.{ltb}
+use lib.ListN.{length, getD}
+use Rattle.g9932.specs.Bits.{first}
+use Rattle.g9932.specs.Sizes.{entry}
+use Rattle.g9932.specs.Refusals.{Verdict, accepted, refuseIf, refuseAt, sizeTest, toneTest, member, twiceTest, bitsTest, strayBy, strayTest, gainBy, gainTest, oddTest, fewTest, pairTest}
+use Rattle.g9932.specs.Order.{codedPairs, frameSize}
+use Rattle.g9932.specs.declared.Found.{Found}
+use Rattle.g9932.specs.declared.Found.the-variants.{Nothing}
+use Rattle.g9932.specs.declared.Mode.{Mode}
+
+-- 2 or 3 applies to a place in t
+abbrev pub placeFault : ℕ → List ℕ → ℕ → Bool
+placeFault g t k = toneTest g t k || twiceTest t k
+
+-- 4, 5 or 6 applies to an index
+abbrev pub indexBy : Bool → ℕ → ℕ → Bool
+indexBy inT bits gain = ltb 15 bits || (strayBy inT bits gain || gainBy bits gain)
+
+abbrev pub indexFault : List ℕ → List ℕ → List ℕ → ℕ → Bool
+indexFault b g t k = indexBy (member k t) (entry b k) (entry g k)
+
+-- the members of a list of tones are marked
+abbrev pub Marks : List ℕ → List Bool → Type 0
+Marks t seen = (k : ℕ) → k < 4096 → getD seen k false ≡ member k t
+
+-- what the pass over t finds, and the marks that it leaves where it finds nothing
+pub record Passed (g : ℕ) (t : List ℕ) (r : Found) (seen : List Bool) : Type 0 where
+  pub found : r ≡ first (placeFault g t) (length t)
+  pub marks : r ≡ Nothing → Marks t seen
+
+-- refusals 1 to 6
+unfoldable pub listVerdict : List ℕ → List ℕ → List ℕ → Verdict
+listVerdict b g t =
+    refuseIf 1 (sizeTest (length b) (length g) (length t))
+    (refuseAt 2 (first (toneTest (length b) t) (length t))
+    (refuseAt 3 (first (twiceTest t) (length t))
+    (refuseAt 4 (first (bitsTest b) (length b))
+    (refuseAt 5 (first (strayTest b g t) (length b))
+    (refuseAt 6 (first (gainTest b g) (length b))
+    (accepted 0))))))
+
+-- refusals 7 to 9, and L
+unfoldable pub modeVerdict : Mode → List ℕ → List ℕ → Verdict
+modeVerdict m b t =
+    refuseIf 7 (oddTest m b t)
+    (refuseIf 8 (fewTest m b t)
+    (refuseAt 9 (first (pairTest (codedPairs m b t)) (length (codedPairs m b t)))
+    (accepted (frameSize m b t))))

@@ -1,0 +1,179 @@
+// Refusals 1 to 6: the sizes, the tone table, and the bit and gain tables by index.
+use super::bits_at;
+use super::gain_at;
+use super::tone_at;
+use g9932::Checked;
+use g9932::Found;
+use g9932::Place;
+use g9932::Refusal;
+use g9932::Subcarrier;
+ghost use mathlib.Core.Path.{_≡_};
+ghost use mathlib.Core.Bool.{false};
+ghost use Prim.Native.Nat.{_<_, _≤_};
+ghost use lib.ListN.{length, replicate};
+ghost use Rattle.g9932.specs.Bits.{first};
+ghost use Rattle.g9932.specs.Refusals.{sizeTest, toneTest, bitsTest, strayBy, strayTest};
+ghost use Rattle.g9932.specs.Answers.{verdictOf};
+ghost use Rattle.tables.specs.Checks.{indexBy, indexFault, Marks, Passed, listVerdict};
+
+// 1 SIZE, of the three lengths.
+fn wrong_size(g: usize, gains: usize, nsc: usize) -> bool
+    ensures { λ r. ⌜ r ≡ sizeTest g gains nsc ⌝ }
+{
+    if g < 1 {
+        return true;
+    }
+    if 4096 < g {
+        return true;
+    }
+    if gains != g {
+        return true;
+    }
+    if nsc < 1 {
+        return true;
+    }
+    g < nsc
+}
+
+// The first place in t where 2 TONE or 3 TWICE applies. Marks each entry that it passes.
+fn first_place_fault(g: usize, tones: &[u16], seen: &mut [bool; 4096]) -> Found
+    requires clear { ⌜ now seen ≡ replicate 4096 false ⌝ }
+    requires size { ⌜ g ≤ 4096 ⌝ }
+    ensures { λ r. ⌜ Passed g (now (tones .entry)) r (now (seen .exit)) ⌝ }
+{
+    let mut i = 0;
+    while i < tones.len() {
+        let k = tone_at(tones, Place(i));
+        let at = k.0;
+        if g <= at {
+            return Found::At(i);
+        }
+        if seen[at] {
+            return Found::At(i);
+        }
+        seen[at] = true;
+        i += 1;
+    }
+    Found::Nothing
+}
+
+// 2 TONE: the first place whose entry is G or more.
+fn first_tone(g: usize, tones: &[u16]) -> Found
+    ensures { λ r. ⌜ r ≡ first (toneTest g (now (tones .entry))) (length (now (tones .entry))) ⌝ }
+{
+    let mut i = 0;
+    while i < tones.len() {
+        let k = tone_at(tones, Place(i));
+        if g <= k.0 {
+            return Found::At(i);
+        }
+        i += 1;
+    }
+    Found::Nothing
+}
+
+// 5 STRAY, of one index.
+fn is_stray(seen: bool, bits: u8, gain: u16) -> bool
+    ensures { λ r. ⌜ r ≡ strayBy seen bits gain ⌝ }
+{
+    if seen {
+        return false;
+    }
+    if 0 < bits {
+        return true;
+    }
+    0 < gain
+}
+
+// Does 4 BITS, 5 STRAY or 6 GAIN apply to an index?
+fn is_fault(seen: bool, bits: u8, gain: u16) -> bool
+    ensures { λ r. ⌜ r ≡ indexBy seen bits gain ⌝ }
+{
+    if 15 < bits {
+        return true;
+    }
+    if is_stray(seen, bits, gain) {
+        return true;
+    }
+    if 4095 < gain {
+        return true;
+    }
+    if 0 < bits {
+        return gain == 0;
+    }
+    false
+}
+
+// The smallest index to which 4 BITS, 5 STRAY or 6 GAIN applies. `seen` marks the members of t.
+fn first_index_fault(bits: &[u8], gains: &[u16], tones: &[u16], seen: &[bool; 4096]) -> Found
+    requires size { ⌜ length (now bits) ≤ 4096 ⌝ }
+    requires marks { ⌜ Marks (now tones) (now seen) ⌝ }
+    ensures { λ r. ⌜ r ≡ first (indexFault (now (bits .entry)) (now (gains .entry)) (now (tones .entry))) (length (now (bits .entry))) ⌝ }
+{
+    let mut i = 0;
+    while i < bits.len() {
+        let k = Subcarrier(i);
+        if is_fault(seen[i], bits_at(bits, k), gain_at(gains, k)) {
+            return Found::At(i);
+        }
+        i += 1;
+    }
+    Found::Nothing
+}
+
+// 4 BITS: the smallest index with a bit count above 15.
+fn first_bits(bits: &[u8]) -> Found
+    ensures { λ r. ⌜ r ≡ first (bitsTest (now (bits .entry))) (length (now (bits .entry))) ⌝ }
+{
+    let mut i = 0;
+    while i < bits.len() {
+        if 15 < bits_at(bits, Subcarrier(i)) {
+            return Found::At(i);
+        }
+        i += 1;
+    }
+    Found::Nothing
+}
+
+// 5 STRAY: the smallest index that is not in t and has bits or gain above 0. `seen` marks the members of t.
+fn first_stray(bits: &[u8], gains: &[u16], tones: &[u16], seen: &[bool; 4096]) -> Found
+    requires size { ⌜ length (now bits) ≤ 4096 ⌝ }
+    requires marks { ⌜ Marks (now tones) (now seen) ⌝ }
+    ensures { λ r. ⌜ r ≡ first (strayTest (now (bits .entry)) (now (gains .entry)) (now (tones .entry))) (length (now (bits .entry))) ⌝ }
+{
+    let mut i = 0;
+    while i < bits.len() {
+        let k = Subcarrier(i);
+        if is_stray(seen[i], bits_at(bits, k), gain_at(gains, k)) {
+            return Found::At(i);
+        }
+        i += 1;
+    }
+    Found::Nothing
+}
+
+// Refusals 1 to 6. One pass over t and one over the indices accept; which number applies is looked for only after that.
+pub fn check_lists(bits: &[u8], gains: &[u16], tones: &[u16]) -> Checked
+    ensures { λ r. ⌜ verdictOf r ≡ listVerdict (now (bits .entry)) (now (gains .entry)) (now (tones .entry)) ⌝ }
+{
+    if wrong_size(bits.len(), gains.len(), tones.len()) {
+        return Checked::Refused(Refusal::Size);
+    }
+    let mut seen = [false; 4096];
+    if let Found::At(twice) = first_place_fault(bits.len(), tones, &mut seen) {
+        if let Found::At(p) = first_tone(bits.len(), tones) {
+            return Checked::Refused(Refusal::Tone(Place(p)));
+        }
+        return Checked::Refused(Refusal::Twice(Place(twice)));
+    }
+    if let Found::At(gain) = first_index_fault(bits, gains, tones, &seen) {
+        if let Found::At(k) = first_bits(bits) {
+            return Checked::Refused(Refusal::Bits(Subcarrier(k)));
+        }
+        if let Found::At(k) = first_stray(bits, gains, tones, &seen) {
+            return Checked::Refused(Refusal::Stray(Subcarrier(k)));
+        }
+        return Checked::Refused(Refusal::Gain(Subcarrier(gain)));
+    }
+    Checked::Accepted(0)
+}
