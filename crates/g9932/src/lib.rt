@@ -55,7 +55,7 @@ pub struct FillerBit {
     pub register: u32,
 }
 
-// The first place at which a test holds.
+// The first number at which a test holds: a place, a sub-carrier index or a pair, as the search says.
 pub enum Found {
     At(usize),
     Nothing,

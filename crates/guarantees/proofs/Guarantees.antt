@@ -1,26 +1,30 @@
 -- Every promise over the definitions of document 01, in full. Each proof cites the part that shows it.
 -- The words are those of specs/Words.antt and of crate g9932.
 use Prim.Native.Nat.{ℕ, _+_, _-_, _/_, _%_, _^_, _≤_, _<_}
-use mathlib.Core.Bool.{true, cond, not}
-use mathlib.Core.List.{List}
+use mathlib.Core.Bool.{Bool, true, cond, not}
+use mathlib.Core.List.{List, [], _∷_}
 use mathlib.Core.Logic.{_↔_, _≢_}
 use mathlib.Core.Path.{_≡_}
 use lib.Dec.{eqb}
 use lib.IntN.{ℤ}
-use lib.ListN.{length, getD}
+use lib.ListN.{length, take, drop, getD}
 use Rattle.g9932.specs.Bits.{_⊕_, bits, bit, odd}
 use Rattle.g9932.specs.Sizes.{Tables, unpack, Point}
 use Rattle.g9932.specs.Refusals.{refused}
-use Rattle.g9932.specs.Order.{sum, count, bitsOf}
+use Rattle.g9932.specs.Order.{sum, count, bitsOf, entryCount, pairCount}
+use Rattle.g9932.specs.Trellis.{Word, lowBitsOf, sentBits}
+use Rattle.g9932.specs.Points.{pointOf}
 use Rattle.g9932.specs.Filler.{nextRegister, drawn, registerAfter}
-use Rattle.g9932.specs.Symbol.{orderOf, entriesOf, classesOf, pairsIn, sizeOf, sentIn, turned}
+use Rattle.g9932.specs.Symbol.{orderOf, bitsIn, classesOf, pairsIn, sizeOf, sentIn, writePoints, writtenPoints}
 use Rattle.g9932.specs.Answers.{encodeOf, Read, readOf, toneDone, mapLabel, readPoint}
+use Rattle.g9932.specs.declared.Class.{Class}
+use Rattle.g9932.specs.declared.Class.the-variants.{Data}
 use Rattle.g9932.specs.declared.Found.the-variants.{At, Nothing}
 use Rattle.g9932.specs.declared.Mode.the-variants.{Uncoded, Coded}
 use Rattle.g9932.proofs.Figures as Figures
 use Rattle.g9932.proofs.Packed as Packed
 use Rattle.g9932.proofs.Reordering as Reordering
-use Rattle.guarantees.specs.Words.{AcceptedTables, AcceptedFrame, ValidRegister, RightLength, Ready, firstMonitored, nonZero, negated, secondBit, fillerBit}
+use Rattle.guarantees.specs.Words.{AcceptedTables, AcceptedFrame, ValidRegister, RightLength, Ready, firstMonitored, nonZero, negated, secondBit, fillerBit, turned}
 use Rattle.guarantees.proofs.HalfTurn as HalfTurn
 use Rattle.guarantees.proofs.Mapping as Mapping
 use Rattle.guarantees.proofs.RoundTrip as RoundTrip
@@ -89,8 +93,30 @@ module _ (T : Tables) (ok : AcceptedTables T) where
   pub rearranged : (k : ℕ) → count (eqb k) (orderOf T) ≡ count (eqb k) (T .tones)
   rearranged k = Reordering.count-order (T .bits) (T .tones) (T .mode) (eqb k)
 
-  pub bits-kept : sum (entriesOf T) ≡ sum (T .bits)
+  pub bits-kept : sum (bitsIn T) ≡ sum (T .bits)
   bits-kept = Totals.bits-kept T ok
+
+  -- t', b' and the points have NSC entries each
+  pub lengths : (r : ℕ) (f : List ℕ)
+      → (length (orderOf T) ≡ length (T .tones)) × (length (bitsIn T) ≡ length (T .tones)) × (length (writtenPoints T r f) ≡ length (T .tones))
+  lengths = Totals.lengths T ok
+
+  -- N is counted in b' as document 01 works it out of the tones, and P pairs are cut
+  pub counts : T .mode ≡ Coded
+      → (nonZero T ≡ entryCount (T .bits) (T .tones)) × (length (pairsIn T) ≡ pairCount (T .bits) (T .tones))
+  counts = Totals.counts T ok
+
+-- ---- which bits go where
+
+-- Sent bits go v then w, lowest first:
+pub sent-low : (x y : ℕ) (u : Word) → 2 ≤ x → length (u .high) ≡ x + y - 4 → 2 ≤ y
+    → (take 2 (sentBits x u) ≡ lowBitsOf u .v0 ∷ lowBitsOf u .v1 ∷ []) × (take 2 (drop x (sentBits x u)) ≡ lowBitsOf u .w0 ∷ lowBitsOf u .w1 ∷ [])
+sent-low = Totals.sent-low
+
+-- so the first of two paired 1-bit tones gets v0, the second v1 (w0 and w1 where their entry is the second of its coded pair).
+pub two-ones : (r : ℕ) (cs : List Class) (b0 b1 : Bool) (d : List Bool)
+    → writePoints r (Data 1 ∷ Data 1 ∷ cs) (b0 ∷ b1 ∷ d) ≡ pointOf 1 (b0 ∷ []) ∷ pointOf 1 (b1 ∷ []) ∷ writePoints r cs d
+two-ones = Totals.two-ones
 
 -- ---- one tone
 
@@ -102,12 +128,12 @@ mapped-read = Mapping.mapped-read
 pub read-mapped : (b l : ℕ) (p : Point) → readPoint b p ≡ toneDone l → mapLabel b l ≡ toneDone p
 read-mapped = Mapping.read-mapped
 
--- and labels are below 2 to the b only.
+-- and labels are below 2 to the b.
 pub labels-below : (b l : ℕ) (p : Point) → readPoint b p ≡ toneDone l → l < 2 ^ b
 labels-below = Mapping.labels-below
 
 -- From 2 bits on the two lowest bits of a label are the second lowest bits of its coordinates: v1 of X, v0 of Y.
--- Every turn is read off that: half a turn complements both, a quarter turn exchanges them and complements one.
+-- What a turn does to the two lowest bits can be read off the coordinates' signs.
 pub low-bits : (b l : ℕ) (p : Point) → 2 ≤ b → mapLabel b l ≡ toneDone p
     → (secondBit (p .px) ≡ bit (bits b l) 1) × (secondBit (p .py) ≡ bit (bits b l) 0)
 low-bits = Mapping.low-bits

@@ -1,21 +1,29 @@
 -- How many bits: on the tones, in the frame, in b' and in the bit table; and the filler bits by their number.
-use Prim.Native.Nat.{ℕ, _+_, _-_, _/_, _^_, _≤_, _<_}
+use Prim.Native.Nat.{ℕ, zero, suc, _+_, _-_, _/_, _^_, _≤_, _<_}
 use mathlib.Core.Bool.{Bool, true}
-use mathlib.Core.List.{List}
-use mathlib.Core.Path.{_≡_, sym, ap, ap₂, _∙_}
+use mathlib.Core.List.{List, [], _∷_}
+use mathlib.Core.Path.{_≡_, refl, sym, ap, ap₂, _∙_}
 use native.Mathlib.Omega.{arith}
-use lib.ListN.{length}
+use lib.Dec.{ltb}
+use lib.ListN.{length, take, drop, length-map}
+use lib.Seq.{drop-at, length-take-le}
 use Rattle.g9932.specs.Bits.{_⊕_, bit, odd}
 use Rattle.g9932.specs.Sizes.{Tables, frameBits}
-use Rattle.g9932.specs.Order.{sum, bitsOf}
+use Rattle.g9932.specs.Order.{sum, count, bitsOf, entryCount, pairCount, reorderedBits}
+use Rattle.g9932.specs.Trellis.{Word, lowBitsOf, sentBits}
+use Rattle.g9932.specs.Points.{pointOf}
 use Rattle.g9932.specs.Filler.{resetRegister, nextRegister, drawn, afterDraws, registerAfter}
-use Rattle.g9932.specs.Symbol.{orderOf, classesOf, entriesOf, pairsIn, sizeOf, sentIn}
+use Rattle.g9932.specs.Symbol.{classAt, orderOf, classesOf, bitsIn, pairsIn, sizeOf, sentIn, writePoints, writtenPoints}
+use Rattle.g9932.specs.declared.Class.{Class}
+use Rattle.g9932.specs.declared.Class.the-variants.{Data}
+use Rattle.g9932.specs.declared.Mode.{Mode}
 use Rattle.g9932.specs.declared.Mode.the-variants.{Uncoded, Coded}
 use Rattle.g9932.proofs.Accepted.{Accepted, accepted-tables}
 use Rattle.g9932.proofs.Filler.{seed-valid, valid-seed, next-valid, register-valid, to-come, drawn-bit, first-ones, recurs}
 use Rattle.g9932.proofs.Packed.{length-frame}
-use Rattle.g9932.proofs.Reordering.{sum-order, sum-reordered}
-use Rattle.guarantees.specs.Words.{AcceptedTables, AcceptedFrame, ValidRegister, fillerBit}
+use Rattle.g9932.proofs.Reordering.{sum-order, sum-reordered, nonzero-entries}
+use Rattle.g9932.proofs.Symbols.{length-write}
+use Rattle.guarantees.specs.Words.{AcceptedTables, AcceptedFrame, ValidRegister, nonZero, fillerBit}
 use Rattle.guarantees.proofs.Sent.{size-uncoded, length-sentOf}
 
 module _ (T : Tables) (ok : AcceptedTables T) where
@@ -34,8 +42,38 @@ module _ (T : Tables) (ok : AcceptedTables T) where
   pub bits-sent : (f : List ℕ) → AcceptedFrame T f → length (sentIn T f) ≡ sum (bitsOf (T .bits) (orderOf T))
   bits-sent f a = length-sentOf T facts (frameBits (sizeOf T) f) (length-frame (sizeOf T) f (a .passes)) ∙ sym in-order
 
-  pub bits-kept : sum (entriesOf T) ≡ sum (T .bits)
+  pub bits-kept : sum (bitsIn T) ≡ sum (T .bits)
   bits-kept = sum-reordered (T .bits) (T .tones) (T .mode) (λ m. facts .coded m .onesEven) ∙ facts .bitsSum
+
+  pub lengths : (r : ℕ) (f : List ℕ)
+      → (length (orderOf T) ≡ length (T .tones)) × (length (bitsIn T) ≡ length (T .tones)) × (length (writtenPoints T r f) ≡ length (T .tones))
+  unfolding writtenPoints
+  lengths r f =
+      (facts .orderLength, facts .reorderedLength,
+       length-write r (classesOf T) (sentIn T f) ∙ length-map (orderOf T) (classAt T) ∙ facts .orderLength)
+
+  pub counts : T .mode ≡ Coded
+      → (nonZero T ≡ entryCount (T .bits) (T .tones)) × (length (pairsIn T) ≡ pairCount (T .bits) (T .tones))
+  counts m =
+      let c = facts .coded m in
+      (ap (λ (n : Mode). count (ltb 0) (reorderedBits n (T .bits) (T .tones))) m ∙ nonzero-entries (T .bits) (T .tones) ∙ c .entriesLength, c .pairsLength)
+
+-- ---- which bits go where
+
+pub sent-low : (x y : ℕ) (u : Word) → 2 ≤ x → length (u .high) ≡ x + y - 4 → 2 ≤ y
+    → (take 2 (sentBits x u) ≡ lowBitsOf u .v0 ∷ lowBitsOf u .v1 ∷ []) × (take 2 (drop x (sentBits x u)) ≡ lowBitsOf u .w0 ∷ lowBitsOf u .w1 ∷ [])
+unfolding sentBits
+sent-low zero y u h e k = absurd (omega arith)
+sent-low (suc a) y u h e k =
+    let v : List Bool = lowBitsOf u .v0 ∷ lowBitsOf u .v1 ∷ take (suc a - 2) (u .high) in
+    let w : List Bool = lowBitsOf u .w0 ∷ lowBitsOf u .w1 ∷ drop (suc a - 2) (u .high) in
+    let l : length v ≡ suc a = let n = length-take-le (suc a - 2) (u .high) (omega arith) in omega arith in
+    (refl, ap (take 2) (drop-at v w (suc a) l))
+
+pub two-ones : (r : ℕ) (cs : List Class) (b0 b1 : Bool) (d : List Bool)
+    → writePoints r (Data 1 ∷ Data 1 ∷ cs) (b0 ∷ b1 ∷ d) ≡ pointOf 1 (b0 ∷ []) ∷ pointOf 1 (b1 ∷ []) ∷ writePoints r cs d
+unfolding writePoints
+two-ones r cs b0 b1 d = refl
 
 -- ---- filler bits
 

@@ -1,7 +1,7 @@
 -- Document 01, "The words of demand 3".
 use Prim.Native.Nat.{ℕ, _-_, _/_, _<_}
 use mathlib.Core.Bool.{Bool, true, false, not}
-use mathlib.Core.List.{List}
+use mathlib.Core.List.{List, map}
 use mathlib.Core.Path.{_≡_}
 use lib.Dec.{ltb}
 use lib.IntN.{ℤ, pos, negsuc, negℤ}
@@ -11,7 +11,7 @@ use Rattle.g9932.specs.Sizes.{Tables, bytesFor, Point, point}
 use Rattle.g9932.specs.Refusals.{tableVerdict, frameTest, seedTest}
 use Rattle.g9932.specs.Order.{count}
 use Rattle.g9932.specs.Filler.{resetRegister, drawn}
-use Rattle.g9932.specs.Symbol.{classesOf, entriesOf, sizeOf}
+use Rattle.g9932.specs.Symbol.{classesOf, bitsIn, sizeOf}
 use Rattle.g9932.specs.declared.Found.{Found}
 use Rattle.g9932.specs.declared.Class.{Class}
 use Rattle.g9932.specs.declared.Class.the-variants.{Data, Monitored, Silent}
@@ -51,9 +51,12 @@ firstMonitored T = first (λ k. isMonitored (getD (classesOf T) k Silent)) (leng
 
 -- The count of non-zero re-ordered entries is N. The 0 put in front of an odd count isn't in it.
 abbrev pub nonZero : Tables → ℕ
-nonZero T = count (ltb 0) (entriesOf T)
+nonZero T = count (ltb 0) (bitsIn T)
 
--- Half a turn puts (−X, −Y) for (X, Y): the opposite point.
+-- Half a turn puts (−X, −Y) for (X, Y) at every place in t', whatever the tone's class: on each of the two lists, and on one point.
+abbrev pub turned : List ℤ → List ℤ
+turned xs = map negℤ xs
+
 abbrev pub negated : Point → Point
 negated p = point (negℤ (p .px)) (negℤ (p .py))
 
