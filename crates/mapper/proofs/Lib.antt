@@ -1,3 +1,4 @@
 pub mod Tones
+pub mod Origin
 pub mod MapLoop
 pub mod ReadLoop

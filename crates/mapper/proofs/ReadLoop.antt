@@ -14,26 +14,28 @@ use Rattle.g9932.proofs.Search.{first-none, first-more, first-at, first-end}
 use Rattle.g9932.proofs.Words.{length-bits}
 use Rattle.g9932.specs.Bits.{bits, first, orAt}
 use Rattle.g9932.specs.Filler.{afterDraws, draws, registerAfter}
-use Rattle.g9932.specs.Sizes.{Point, point, origin, points, unpack}
+use Rattle.g9932.specs.Sizes.{entry, toneOf, Point, point, origin, points, unpack}
 use Rattle.g9932.specs.Symbol.{inConstellation, isFiller, toneBits, offgridTest, monitorTest, gatherBits}
 use Rattle.g9932.specs.declared.Class.{Class}
-use Rattle.g9932.specs.declared.Class.the-variants.{Data, Monitored, Silent}
+use Rattle.g9932.specs.declared.Class.the-variants.{Silent}
+use Rattle.g9932.specs.declared.Tone.{Tone}
 use Rattle.g9932.specs.declared.Found.{Found}
 use Rattle.g9932.specs.declared.Found.the-variants.{At, Nothing}
-use Rattle.mapper.specs.Reading.{ReadsTone, ReadsAll}
+use Rattle.mapper.specs.Mapping.{classesBy, Carries}
+use Rattle.mapper.specs.Reading.{ReadsTone, ReadRoom, ReadsAll}
 use Rattle.mapper.specs.declared.read.ToneRead.{ToneRead}
 use Rattle.mapper.specs.declared.read.TonesRead.{TonesRead}
-use Rattle.mapper.proofs.Tones.{drop-class}
+use Rattle.mapper.proofs.Tones.{length-classes, class-at, carries-at, drop-class}
 
 -- the point at a place of two lists
-pub point-at : (xs ys : List ℤ) (i : ℕ) → i < length xs → i < length ys → getD (points xs ys) i origin ≡ point (getD xs i (pos 0)) (getD ys i (pos 0))
+point-at : (xs ys : List ℤ) (i : ℕ) → i < length xs → i < length ys → getD (points xs ys) i origin ≡ point (getD xs i (pos 0)) (getD ys i (pos 0))
 unfolding points
 point-at [] ys i h k = absurd (omega arith)
 point-at (x ∷ xs) [] i h k = absurd (omega arith)
 point-at (x ∷ xs) (y ∷ ys) zero h k = refl
 point-at (x ∷ xs) (y ∷ ys) (suc i) h k = point-at xs ys i (omega arith) (omega arith)
 
-pub length-points : (xs ys : List ℤ) → length xs ≡ length ys → length (points xs ys) ≡ length xs
+length-points : (xs ys : List ℤ) → length xs ≡ length ys → length (points xs ys) ≡ length xs
 unfolding points
 length-points [] ys h = refl
 length-points (x ∷ xs) [] h = absurd (omega arith)
@@ -78,7 +80,7 @@ module _ {cs : List Class} {r : ℕ} {q : List Point} {sent₀ sent : List ℕ} 
         counted = omega (arith, g .counted, g .inside) }
 
   -- a place that is refused
-  pub listening-off : i < length cs → offgridTest cs q i ≡ true
+  listening-off : i < length cs → offgridTest cs q i ≡ true
       → ReadsAll cs r q (record { offgrid = At i; monitor = monitor; register = register; writer = w }) sent
   listening-off h t =
       record {
@@ -106,13 +108,13 @@ module _ (cs : List Class) (r : ℕ) (q : List Point) (sent₀ sent after : List
   is-on : t .on ≡ true → inConstellation (getD cs i Silent) (getD q i origin) ≡ true
   is-on e = sym (reads .onIs) ∙ e
 
-  pub is-off : t .on ≡ false → offgridTest cs q i ≡ true
+  is-off : t .on ≡ false → offgridTest cs q i ≡ true
   is-off e = ap not (sym (reads .onIs) ∙ e)
 
-  pub label-fits : t .on ≡ true → t .label < 2 ^ t .bits
+  label-fits : t .on ≡ true → t .label < 2 ^ t .bits
   label-fits e = reads .small (is-on e)
 
-  pub listening-step : t .on ≡ true → length after ≡ length sent → Put w sent (bits (t .bits) (t .label)) v after
+  listening-step : t .on ≡ true → length after ≡ length sent → Put w sent (bits (t .bits) (t .label)) v after
       → Listening cs r q sent₀ after (orAt monitor (not (t .filler)) i) (t .register) v (i + 1)
   unfolding first
   listening-step e same puts =
@@ -127,3 +129,44 @@ module _ (cs : List Class) (r : ℕ) (q : List Point) (sent₀ sent after : List
         whole = rw (puts .holds, b, append-assoc, ← (gather-step cs q i h k)) (g .whole);
         waits = puts .waits;
         counted = omega (arith, puts .counted, g .counted, reads .most, length-bits (t .bits) (t .label)) }
+
+-- ---- as the code has it: the classes of t', two lists of coordinates, and the tone t at place i
+module _ (b g order : List ℕ) (xs ys : List ℤ) (sent₀ : List ℕ) (room : ReadRoom b order xs ys sent₀) (r : ℕ) (sent : List ℕ) (monitor : Found) (register : ℕ)
+    (w : BitWriter) (i : ℕ) (l : Listening (classesBy b g order) r (points xs ys) sent₀ sent monitor register w i) (t : Tone) (h : i < length order)
+    (is : t ≡ toneOf (entry b (entry order i)) (entry g (entry order i))) where
+  class-is : t .class ≡ getD (classesBy b g order) i Silent
+  class-is = ap (λ (t : Tone). t .class) is ∙ sym (class-at b g order i h)
+
+  pub tone-carries : Carries (t .class)
+  tone-carries = rw class-is (carries-at b g order (room .bitsMost) i h)
+
+  module _ (u : ToneRead) (reads : ReadsTone (t .class) register (point (getD xs i (pos 0)) (getD ys i (pos 0))) u) where
+    in-classes : i < length (classesBy b g order)
+    in-classes = rw (length-classes b g order) h
+
+    in-points : i < length (points xs ys)
+    in-points = rw (length-points xs ys (room .xsLength ∙ sym (room .ysLength)), room .xsLength) h
+
+    reads-at : ReadsTone (getD (classesBy b g order) i Silent) register (getD (points xs ys) i origin) u
+    reads-at =
+        rw (point-at xs ys i (rw (room .xsLength) h) (rw (room .ysLength) h))
+        (rw class-is at reads)
+
+    pub tone-off : u .on ≡ false
+        → ReadsAll (classesBy b g order) r (points xs ys) (record { offgrid = At i; monitor = monitor; register = register; writer = w }) sent
+    tone-off e =
+        listening-off l (rw (length-classes b g order) (room .orderMost)) in-classes
+        (is-off (classesBy b g order) r (points xs ys) sent₀ sent sent monitor register w w i u l in-classes in-points reads-at e)
+
+    pub put-room : u .on ≡ true → (u .bits ≤ 32) × (u .label < 2 ^ u .bits) × (w .next + 8 ≤ length sent) × Waits w
+    put-room e =
+        let n = l .counted in
+        let m = l .sentLength in
+        let k = room .sentLength in
+        let o = room .orderMost in
+        (omega (arith, reads .most), label-fits (classesBy b g order) r (points xs ys) sent₀ sent sent monitor register w w i u l in-classes in-points reads-at e, omega arith, l .waits)
+
+    pub tone-on : (v : BitWriter) (after : List ℕ) → u .on ≡ true → length after ≡ length sent → Put w sent (bits (u .bits) (u .label)) v after
+        → Listening (classesBy b g order) r (points xs ys) sent₀ after (orAt monitor (not (u .filler)) i) (u .register) v (i + 1)
+    tone-on v after e same puts =
+        listening-step (classesBy b g order) r (points xs ys) sent₀ sent after monitor register w v i u l in-classes in-points reads-at e same puts

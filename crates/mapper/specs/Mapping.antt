@@ -7,7 +7,8 @@ use lib.IntN.{ℤ}
 use lib.ListN.{length, drop}
 use Rattle.g9932.proofs.Symbols.{loads}
 use Rattle.g9932.specs.Sizes.{entry, toneOf, Point, point, unpack}
-use Rattle.g9932.specs.Filler.{afterDraws, draws, registerAfter}
+use Rattle.g9932.specs.Filler.{drawn, afterDraws, draws, registerAfter}
+use Rattle.g9932.specs.Points.{pointOf}
 use Rattle.g9932.specs.Symbol.{load, tonePoint, writePoints}
 use Rattle.g9932.specs.declared.Class.{Class}
 use Rattle.g9932.specs.declared.Class.the-variants.{Data, Monitored, Silent}
@@ -29,6 +30,12 @@ pub record Maps (c : Class) (r at : ℕ) (d : List Bool) (m : Mark) : Type 0 whe
   pub pointIs : point (m .x) (m .y) ≡ tonePoint r c (drop at d)
   pub atIs : m .at ≡ at + load c
   pub registerIs : m .register ≡ afterDraws (draws c) r
+
+-- a monitored tone, whatever bits are left
+pub record MapsFiller (r at : ℕ) (m : Mark) : Type 0 where
+  pub pointIs : point (m .x) (m .y) ≡ pointOf 2 (drawn 2 r)
+  pub atIs : m .at ≡ at
+  pub registerIs : m .register ≡ afterDraws 2 r
 
 -- ---- all tones
 
