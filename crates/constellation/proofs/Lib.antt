@@ -1,0 +1,4 @@
+pub mod Lanes
+pub mod Halves
+pub mod Mapping
+pub mod Sizes
