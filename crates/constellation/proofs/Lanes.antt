@@ -4,10 +4,11 @@ use Prim.Native.Nat.{ℕ, zero, suc, _+_, _*_, _/_, _%_, _^_, _<_, min, max}
 use mathlib.Core.Bool.{Bool, true, false, _||_}
 use mathlib.Core.List.{List, [], _∷_, _++_, map}
 use mathlib.Core.Path.{_≡_, refl, sym, ap, _∙_}
-use native.Mathlib.Nat.{mod-eq-of-lt, mul-comm, mul-assoc, pow-suc}
+use native.Mathlib.Nat.{mod-eq-of-lt, mul-comm, mul-assoc, one-mul, pow-suc}
 use native.Mathlib.Omega.{arith}
 use lib.Bits.{bitAnd, bitOr, and-step, or-step, and-zero-r, or-zero-r}
 use lib.ListN.{length, take, drop, replicate, length-replicate}
+use lib.Pow.{shl-exact}
 use Rattle.g9932.specs.Bits.{weight, num, odd, bits}
 use Rattle.g9932.proofs.Words.{half-weight, weight-le, num-bits, num-append, num-take, num-drop}
 
@@ -118,6 +119,9 @@ gaps-worth (suc k) = omega (arith, gaps-worth k)
 
 shl-worth : (k : ℕ) (l : List Slot) → worth l * 2 ^ k % 2 ^ 32 ≡ worth (take 32 (gaps k ++ l))
 shl-worth k l = sym (ap num (map-take 32 (gaps k ++ l)) ∙ num-take 32 (map value (gaps k ++ l)) ∙ ap (λ (n : ℕ). n % 2 ^ 32) (up-worth k l))
+
+pub shl-one : (k : ℕ) → k < 32 → 1 * 2 ^ k % 2 ^ 32 ≡ 2 ^ k
+shl-one k h = shl-exact {a = 1} 1 k 32 (omega arith) (omega arith) ∙ one-mul (2 ^ k)
 
 -- ---- steps of a chain: a word over the same word shifted, where a mask of 32 bits keeps them
 

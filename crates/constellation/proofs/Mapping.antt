@@ -21,7 +21,7 @@ use Rattle.g9932.proofs.Search.{first-no}
 use Rattle.g9932.proofs.Coordinates.{three, five, coords, axisBits-pos, coords-length}
 use Rattle.g9932.proofs.Constellations.{point-coords}
 use Rattle.constellation.proofs.Lanes.{twice}
-use Rattle.constellation.proofs.Sizes.{own-bits, word-lt}
+use Rattle.constellation.proofs.Sizes.{own-bits, word-lt, bits-lt, half-le}
 use Rattle.constellation.specs.Widened.{pairs, oddLabel, topFive, topFour, widened, wordOf, xBits, yBits, axis, half}
 
 -- two functions of numbers agree below n, by a test of all of them
@@ -186,3 +186,16 @@ point-word b l h k s =
     let p : pointOf b (bits b l) ≡ point (twosComplement (true ∷ coords (bits b l) .xs)) (twosComplement (true ∷ coords (bits b l) .ys)) =
     rw (length-bits b l) at (point-coords (bits b l)) in
     p ∙ ap₂ point (x ∙ ap (axis (half (pairs b))) (sym (own .0))) (y ∙ ap (axis (half (pairs b))) (sym (own .1)))
+
+-- both parts of a label's word, from one number
+pub record Parts (b l both : ℕ) : Type 0 where
+  pub x : both / 65536 ≡ xBits (wordOf b l)
+  pub y : both % 65536 ≡ yBits (wordOf b l)
+  pub xSmall : both / 65536 < 256
+  pub ySmall : both % 65536 < 256
+
+pub parts-law : (b l both : ℕ) → 1 ≤ b → b ≤ 15 → l < 2 ^ b → both ≡ 65536 * xBits (wordOf b l) + yBits (wordOf b l) → Parts b l both
+parts-law b l both h k s e =
+    let u = bits-lt (pairs b) (wordOf b l) (omega arith) (word-lt b l h s) in
+    let m = half-le (pairs b) (omega arith) in
+    record { x = omega arith; y = omega arith; xSmall = omega arith; ySmall = omega arith }

@@ -18,7 +18,7 @@ use Rattle.constellation.specs.Widened.{pairs, oddLabel, topFive, topFou
 
 -- ---- words
 
-five-lt : (k l : ℕ) → l < 2 ^ (2 * k + 3) → topFive k l < 32
+pub five-lt : (k l : ℕ) → l < 2 ^ (2 * k + 3) → topFive k l < 32
 unfolding topFive
 five-lt zero l h = omega arith
 five-lt (suc j) l h = let e : 2 * suc j + 3 ≡ 5 + 2 * j = omega arith in shr-lt 5 (2 * j) (rw e at h)
@@ -31,6 +31,9 @@ pub widened-lt : (k l : ℕ) → l < 2 ^ (2 * k + 3) → widened k l < 2 ^ (4 + 
 unfolding widened
 widened-lt k l h =
     rw (pow-add 2 4 (2 * k)) (digits-lt {m = 16} (four-lt (topFive k l) (five-lt k l h)) (mod-lt l (pow-pos (2 * k))))
+
+pub label-16 : (k l : ℕ) → k ≤ 6 → l < 2 ^ (2 * k + 3) → l < 32768
+label-16 k l h s = lt-of-lt-of-le s (pow-mono {i = 2 * k + 3} {j = 15} (omega arith))
 
 pub label-lt : (b l : ℕ) → 1 ≤ b → l < 2 ^ b → oddLabel b l < 2 ^ (2 * pairs b + 3)
 label-lt b l h k = go (ltb b 2) refl

@@ -2,6 +2,7 @@
 ghost use mathlib.Core.Path.{_≡_};
 ghost use Prim.Native.Nat.{_+_, _*_, _/_, _%_, _^_, _<_, _≤_};
 ghost use lib.Bits.{bitXor};
+ghost use lib.IntN.{pos, _+ℤ_};
 ghost use Rattle.g9932.specs.Bits.{bits as bitsOf, num};
 ghost use Rattle.g9932.specs.Sizes.{point};
 ghost use Rattle.g9932.specs.Points.{pointOf, labelOf, sameInt};
@@ -129,12 +130,19 @@ pub fn map_label(bits: u8, label: u32) -> Mapped
     Mapped::Point { x: c.x, y: c.y }
 }
 
+// A coordinate and 65,535.
+fn raised(z: i16) -> u32
+    ensures { λ r. ⌜ pos r ≡ z +ℤ pos 65535 ⌝ }
+{
+    (z as i32 + 65535) as u32
+}
+
 // The bits of a coordinate, if it has such bits: its own cut to the width.
-fn place(half: u32, k: u32, z: i16) -> u32
+fn place(k: u32, half: u32, z: i16) -> u32
     requires { ⌜ (k ≤ 6) × (half ≡ halfOf k) ⌝ }
     ensures { λ r. ⌜ Placed half z r ⌝ }
 {
-    (((z as i32 + (half as i32 + 65535)) as u32) / 2) & (half - 1)
+    ((raised(z) + half) / 2) & (half - 1)
 }
 
 // The word whose bits of X and Y these are.
@@ -180,12 +188,12 @@ pub fn label_of(b: u32, x: i16, y: i16) -> Sought
 {
     let k = pairs(b);
     let h = half(k);
-    let ex = place(h, k, x);
-    let ey = place(h, k, y);
+    let ex = place(k, h, x);
+    let ey = place(k, h, y);
     let word = together(ex, ey);
     let label = lowest(narrowed(k, word), b);
     let back = widened(k, odd_label(b, label));
-    let found = (back == word) & same(axis(h, ex), x) & same(axis(h, ey), y);
+    let found = (back == word) & (same(axis(h, ex), x) & same(axis(h, ey), y));
     Sought { found, label }
 }
 

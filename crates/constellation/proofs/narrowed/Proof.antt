@@ -1,44 +1,42 @@
+-- `constellation::narrowed` meets its contract: the table undoes what widens each of the 32 top fives.
+use native.Mathlib.Omega.{arith}
+use mathlib.Core.Path.{refl}
+use lib.Pow.{shr-lt}
+use Rattle.g9932.specs.Bits.{first}
+use Prim.Native.Nat.{_*_}
+use Rattle.constellation.specs.Widened.{topFour}
+use Rattle.constellation.proofs.Tops.{narrowed-law}
 use borrow.Author.Needs.{needs}
 use Rattle.constellation.proofs.narrowed.Statement.{statement}
 use Rattle.constellation.proofs.narrowed.Tie as tie
-use Rattle.constellation.proofs.narrowed.Reads as reads
-use Rattle.constellation.proofs.narrowed.Lts as lts
 
--- src/lib.rt:157:48
 mul-narrowing : tie.Need-mul-narrowing
 mul-narrowing c = search needs
 
--- src/lib.rt:157:39
 shr-narrowing : tie.Need-shr-narrowing
 shr-narrowing c = search needs
 
--- src/lib.rt:157:34
 mul-narrowing-2 : tie.Need-mul-narrowing-2
-mul-narrowing-2 c = ?
+mul-narrowing-2 c = record { fits = omega (arith, shr-lt 4 (2 * c .args .k) (c .pre .1)) }
 
--- src/lib.rt:157:34
 cast-narrowing : tie.Need-cast-narrowing
-cast-narrowing c = ?
+cast-narrowing c = record { fits = omega (arith, shr-lt 4 (2 * c .args .k) (c .pre .1)) }
 
--- src/lib.rt:157:23
 shr-narrowing-2 : tie.Need-shr-narrowing-2
-shr-narrowing-2 c = ?
+shr-narrowing-2 c = omega (arith, shr-lt 4 (2 * c .args .k) (c .pre .1))
 
--- src/lib.rt:157:21
 cast-narrowing-2 : tie.Need-cast-narrowing-2
 cast-narrowing-2 c = search needs
 
--- src/lib.rt:158:27
 mul-result : tie.Need-mul-result
 mul-result c = search needs
 
--- src/lib.rt:158:13
 shl-result : tie.Need-shl-result
 shl-result c = search needs
 
--- src/lib.rt:153:1
 returns : tie.Need-returns
-returns c = ?
+unfolding first topFour
+returns c = narrowed-law _ refl (c .args .k) (c .args .word) (c .pre .0)
 
 pub narrowed-spec : {M : Type 1} → statement M
 narrowed-spec =
