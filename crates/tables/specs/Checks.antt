@@ -12,8 +12,8 @@ use Rattle.g9932.specs.Order.{codedPairs, frameSize}
 use Rattle.g9932.specs.declared.Found.{Found}
 use Rattle.g9932.specs.declared.Found.the-variants.{Nothing}
 use Rattle.g9932.specs.declared.Mode.{Mode}
-use Rattle.tables.specs.declared.check.Rule.{Rule}
-use Rattle.tables.specs.declared.check.Rule.the-variants.{Bits, Stray}
+use Rattle.tables.specs.declared.lists.Rule.{Rule}
+use Rattle.tables.specs.declared.lists.Rule.the-variants.{Bits, Stray}
 
 -- 2 or 3 applies to a place in t
 abbrev pub placeFault : ℕ → List ℕ → ℕ → Bool

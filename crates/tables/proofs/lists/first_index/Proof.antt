@@ -12,8 +12,8 @@ use Rattle.g9932.specs.Refusals.{member}
 use Rattle.tables.specs.Checks.{ruleBy, ruleTest}
 use Rattle.g9932.specs.declared.Found.the-variants.{Nothing}
 use Rattle.g9932.proofs.Search.{first-none, first-more, first-at, first-end}
-use Rattle.tables.proofs.check.first_index.Statement.{statement}
-use Rattle.tables.proofs.check.first_index.Tie as tie
+use Rattle.tables.proofs.lists.first_index.Statement.{statement}
+use Rattle.tables.proofs.lists.first_index.Tie as tie
 
 abbrev Inv-loop : tie.InvT-loop
 Inv-loop rule bits gains tones seen i₀ i = (i ≤ length bits) × (first (ruleTest rule bits gains tones) i ≡ Nothing)

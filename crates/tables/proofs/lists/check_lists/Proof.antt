@@ -9,8 +9,8 @@ use Rattle.g9932.proofs.Verdicts.{test-here, test-past, found-here, found-past}
 use Rattle.tables.specs.Checks.{listVerdict}
 use Rattle.tables.proofs.Faults.{SizeFacts, size-facts, or-nothing, or-second}
 use borrow.Author.Needs.{needs}
-use Rattle.tables.proofs.check.check_lists.Statement.{statement}
-use Rattle.tables.proofs.check.check_lists.Tie as tie
+use Rattle.tables.proofs.lists.check_lists.Statement.{statement}
+use Rattle.tables.proofs.lists.check_lists.Tie as tie
 
 -- 1 does not apply
 sized : (c : tie.Else1) → let a = c .before .before .before .before .before .args in sizeTest (length (now (a .bits))) (length (now (a .gains))) (length (now (a .tones))) ≡ false

@@ -13,8 +13,8 @@ use Rattle.g9932.specs.Refusals.{member}
 use Rattle.tables.specs.Checks.{indexBy, indexFault}
 use Rattle.g9932.specs.declared.Found.the-variants.{Nothing}
 use Rattle.g9932.proofs.Search.{first-none, first-more, first-at, first-end}
-use Rattle.tables.proofs.check.first_index_fault.Statement.{statement}
-use Rattle.tables.proofs.check.first_index_fault.Tie as tie
+use Rattle.tables.proofs.lists.first_index_fault.Statement.{statement}
+use Rattle.tables.proofs.lists.first_index_fault.Tie as tie
 
 abbrev Inv-loop : tie.InvT-loop
 Inv-loop bits gains tones seen i₀ i = (i ≤ length bits) × (first (indexFault bits gains tones) i ≡ Nothing)

@@ -1,7 +1,7 @@
 -- `breaks` meets its contract, by the rule.
 use borrow.Author.Needs.{needs}
-use Rattle.tables.proofs.check.breaks.Statement.{statement}
-use Rattle.tables.proofs.check.breaks.Tie as tie
+use Rattle.tables.proofs.lists.breaks.Statement.{statement}
+use Rattle.tables.proofs.lists.breaks.Tie as tie
 
 enum-told : tie.Need-enum-told
 enum-told c = search needs
