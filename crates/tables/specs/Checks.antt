@@ -12,6 +12,8 @@ use Rattle.g9932.specs.Order.{codedPairs, frameSize}
 use Rattle.g9932.specs.declared.Found.{Found}
 use Rattle.g9932.specs.declared.Found.the-variants.{Nothing}
 use Rattle.g9932.specs.declared.Mode.{Mode}
+use Rattle.tables.specs.declared.lists.Rule.{Rule}
+use Rattle.tables.specs.declared.lists.Rule.the-variants.{Bits, Stray}
 
 -- 2 or 3 applies to a place in t
 abbrev pub placeFault : ℕ → List ℕ → ℕ → Bool
@@ -23,6 +25,14 @@ indexBy inT bits gain = ltb 15 bits || (strayBy inT bits gain || gainBy bits gai
 
 abbrev pub indexFault : List ℕ → List ℕ → List ℕ → ℕ → Bool
 indexFault b g t k = indexBy (member k t) (entry b k) (entry g k)
+
+-- 4 or 5, looked for by itself
+abbrev pub ruleBy : Rule → Bool → ℕ → ℕ → Bool
+ruleBy Bits inT bits gain = ltb 15 bits
+ruleBy Stray inT bits gain = strayBy inT bits gain
+
+abbrev pub ruleTest : Rule → List ℕ → List ℕ → List ℕ → ℕ → Bool
+ruleTest rule b g t k = ruleBy rule (member k t) (entry b k) (entry g k)
 
 -- the members of a list of tones are marked
 abbrev pub Marks : List ℕ → List Bool → Type 0

@@ -1,5 +1,4 @@
 // Checking the bit, gain and tone tables, the frame size L, and the re-ordered tables t' and b' (document 01).
-use check::check_lists;
 use g9932::Checked;
 use g9932::Class;
 use g9932::Mode;
@@ -7,6 +6,7 @@ use g9932::Place;
 use g9932::Refusal;
 use g9932::Subcarrier;
 use g9932::Tone;
+use lists::check_lists;
 use order::copy_bits;
 use order::copy_tones;
 use order::order_coded;
@@ -18,7 +18,7 @@ ghost use Rattle.g9932.specs.Answers.{verdictOf, Reorders};
 ghost use Rattle.tables.specs.Checks.{modeVerdict};
 ghost use Rattle.tables.specs.Ordered.{OrderedBy, Ordered, Arrays, Room};
 
-mod check; // refusals 1 to 6
+mod lists; // refusals 1 to 6
 mod order; // refusals 7 to 9, t' and b'
 
 // The sub-carrier at a place of a tone table; 0 past its end.

@@ -2,8 +2,8 @@
 use mathlib.Core.Path.{_∙_, sym}
 use borrow.Author.Tests.{lt-ltb, le-ltb}
 use borrow.Author.Needs.{needs}
-use Rattle.tables.proofs.check.is_fault.Statement.{statement}
-use Rattle.tables.proofs.check.is_fault.Tie as tie
+use Rattle.tables.proofs.lists.is_fault.Statement.{statement}
+use Rattle.tables.proofs.lists.is_fault.Tie as tie
 
 returns : tie.Need-returns
 returns c = simp (lt-ltb _ _ (c .if1 .taken))

@@ -9,8 +9,8 @@ use Rattle.g9932.proofs.Verdicts.{test-here, test-past, found-here, found-past}
 use Rattle.tables.specs.Checks.{listVerdict}
 use Rattle.tables.proofs.Faults.{SizeFacts, size-facts, or-nothing, or-second}
 use borrow.Author.Needs.{needs}
-use Rattle.tables.proofs.check.check_lists.Statement.{statement}
-use Rattle.tables.proofs.check.check_lists.Tie as tie
+use Rattle.tables.proofs.lists.check_lists.Statement.{statement}
+use Rattle.tables.proofs.lists.check_lists.Tie as tie
 
 -- 1 does not apply
 sized : (c : tie.Else1) → let a = c .before .before .before .before .before .args in sizeTest (length (now (a .bits))) (length (now (a .gains))) (length (now (a .tones))) ≡ false
@@ -70,21 +70,21 @@ first-index-fault-requires c κs = (sizes (c .before .before .before .before .be
 enum-known-gain : tie.Need-enum-known-gain
 enum-known-gain c = search needs
 
-first-bits-requires : tie.Need-first-bits-requires
-first-bits-requires c κs = search needs
+first-index-requires : tie.Need-first-index-requires
+first-index-requires c κs = (sizes (c .before .before .before .before .before .before .before .before .before .before) .top, c .before .before .before .before .before .before .before .before .first-place-fault .ensures .marks (c .before .before .before .before .before .before .enum-told2 .given .1))
 
 enum-known-k : tie.Need-enum-known-k
 enum-known-k c = search needs
 
 returns-4 : tie.Need-returns-4
 unfolding listVerdict
-returns-4 c = past-places (c .before .before .before .before .before .before .before .before .before) (found-here 4 _ (sym (c .before .before .before .first-bits .ensures) ∙ c .before .k .given .1))
+returns-4 c = past-places (c .before .before .before .before .before .before .before .before .before .before) (found-here 4 _ (sym (c .before .before .before .first-index .ensures) ∙ c .before .k .given .1))
 
 enum-told-3 : tie.Need-enum-told-3
 enum-told-3 c = search needs
 
-first-stray-requires : tie.Need-first-stray-requires
-first-stray-requires c κs = (sizes (c .before .before .before .before .before .before .before .before .before .before .before .before .before) .top, c .before .before .before .before .before .before .before .before .before .before .before .first-place-fault .ensures .marks (c .before .before .before .before .before .before .before .before .before .enum-told2 .given .1))
+first-index-requires-2 : tie.Need-first-index-requires-2
+first-index-requires-2 c κs = (sizes (c .before .before .before .before .before .before .before .before .before .before .before .before .before .before) .top, c .before .before .before .before .before .before .before .before .before .before .before .before .first-place-fault .ensures .marks (c .before .before .before .before .before .before .before .before .before .before .enum-told2 .given .1))
 
 enum-known-k-2 : tie.Need-enum-known-k-2
 enum-known-k-2 c = search needs
@@ -92,9 +92,9 @@ enum-known-k-2 c = search needs
 returns-5 : tie.Need-returns-5
 unfolding listVerdict
 returns-5 c =
-    past-places (c .before .before .before .before .before .before .before .before .before .before .before .before .before)
-    (found-past 4 (sym (c .before .before .before .before .before .before .before .first-bits .ensures) ∙ c .before .before .before .before .before .enum-told3 .given .1)
-    (found-here 5 _ (sym (c .before .before .before .first-stray .ensures) ∙ c .before .k2 .given .1)))
+    past-places (c .before .before .before .before .before .before .before .before .before .before .before .before .before .before)
+    (found-past 4 (sym (c .before .before .before .before .before .before .before .first-index .ensures) ∙ c .before .before .before .before .before .enum-told3 .given .1)
+    (found-here 5 _ (sym (c .before .before .before .first-index2 .ensures) ∙ c .before .k2 .given .1)))
 
 enum-told-4 : tie.Need-enum-told-4
 enum-told-4 c = search needs
@@ -102,16 +102,16 @@ enum-told-4 c = search needs
 returns-6 : tie.Need-returns-6
 unfolding listVerdict
 returns-6 c =
-    let a = c .before .before .before .before .before .before .before .before .before .before .before .before .before .before .before .before .before .before .before .before .before .args in
+    let a = c .before .before .before .before .before .before .before .before .before .before .before .before .before .before .before .before .before .before .before .before .before .before .args in
     let n = length (now (a .bits)) in
     let stray = strayTest (now (a .bits)) (now (a .gains)) (now (a .tones)) in
     let gain = gainTest (now (a .bits)) (now (a .gains)) in
-    let e4 = sym (c .before .before .before .before .before .before .first-bits .ensures) ∙ c .before .before .before .before .enum-told3 .given .1 in
-    let e5 = sym (c .before .before .first-stray .ensures) ∙ c .enum-told4 .given .1 in
+    let e4 = sym (c .before .before .before .before .before .before .first-index .ensures) ∙ c .before .before .before .before .enum-told3 .given .1 in
+    let e5 = sym (c .before .before .first-index2 .ensures) ∙ c .enum-told4 .given .1 in
     let s4 = or-second (bitsTest (now (a .bits))) (λ k. stray k || gain k) n e4 in
     let s5 = or-second stray gain n e5 in
-    past-places (c .before .before .before .before .before .before .before .before .before .before .before .before)
-    (found-past 4 e4 (found-past 5 e5 (found-here 6 _ (sym s5 ∙ sym s4 ∙ sym (c .before .before .before .before .before .before .before .before .before .before .first-index-fault .ensures) ∙ c .before .before .before .before .before .before .before .before .gain .given .1))))
+    past-places (c .before .before .before .before .before .before .before .before .before .before .before .before .before)
+    (found-past 4 e4 (found-past 5 e5 (found-here 6 _ (sym s5 ∙ sym s4 ∙ sym (c .before .before .before .before .before .before .before .before .before .before .before .first-index-fault .ensures) ∙ c .before .before .before .before .before .before .before .before .before .gain .given .1))))
 
 enum-told-5 : tie.Need-enum-told-5
 enum-told-5 c = search needs
@@ -143,11 +143,11 @@ check-lists-spec =
     enum-told-2
     first-index-fault-requires
     enum-known-gain
-    first-bits-requires
+    first-index-requires
     enum-known-k
     returns-4
     enum-told-3
-    first-stray-requires
+    first-index-requires-2
     enum-known-k-2
     returns-5
     enum-told-4

@@ -1,4 +1,5 @@
--- `first_stray` meets its contract. The loop's invariant: 5 applies to no index before i. The measure is what is left.
+-- `first_index_fault` meets its contract. The loop's invariant: none of 4, 5 and 6 applies to an index before i. The measure is
+-- what is left.
 use borrow.Author.Needs.{needs}
 use native.Mathlib.Omega.{arith}
 use mathlib.Core.Path.{_≡_, _∙_, ap, sym}
@@ -8,35 +9,36 @@ use lib.ListN.{length}
 use denote.Ref.{now}
 use Rattle.g9932.specs.Bits.{first}
 use Rattle.g9932.specs.Sizes.{entry}
-use Rattle.g9932.specs.Refusals.{member, strayBy, strayTest}
+use Rattle.g9932.specs.Refusals.{member}
+use Rattle.tables.specs.Checks.{indexBy, indexFault}
 use Rattle.g9932.specs.declared.Found.the-variants.{Nothing}
 use Rattle.g9932.proofs.Search.{first-none, first-more, first-at, first-end}
-use Rattle.tables.proofs.check.first_stray.Statement.{statement}
-use Rattle.tables.proofs.check.first_stray.Tie as tie
+use Rattle.tables.proofs.lists.first_index_fault.Statement.{statement}
+use Rattle.tables.proofs.lists.first_index_fault.Tie as tie
 
 abbrev Inv-loop : tie.InvT-loop
-Inv-loop bits gains tones seen i₀ i = (i ≤ length bits) × (first (strayTest bits gains tones) i ≡ Nothing)
+Inv-loop bits gains tones seen i₀ i = (i ≤ length bits) × (first (indexFault bits gains tones) i ≡ Nothing)
 
 abbrev μ-loop : tie.MeasureT-loop
 μ-loop bits gains tones seen i₀ i = length bits - i
 
 -- the test at index i, from the mark, the bits and the gain that were read
-tested : (c : tie.After-is-stray Inv-loop μ-loop) → let a = c .before .before .before .before .before .before .before .before .before .args in strayTest (now (a .bits)) (now (a .gains)) (now (a .tones)) (c .before .before .before .before .before .loop .i) ≡ c .is-stray .result
+tested : (c : tie.After-is-fault Inv-loop μ-loop) → let a = c .before .before .before .before .before .before .before .before .before .args in indexFault (now (a .bits)) (now (a .gains)) (now (a .tones)) (c .before .before .before .before .before .loop .i) ≡ c .is-fault .result
 tested c =
     let a = c .before .before .before .before .before .before .before .before .before .args in
     let i = c .before .before .before .before .before .loop .i in
     let m = c .before .before .before .before .before .before .before .before .before .pre .1 i (omega arith) in
     sym
-    (c .is-stray .ensures
-    ∙ ap (λ (x : Bool). strayBy x (c .before .before .bits-at .result) (c .before .gain-at .result)) m
-    ∙ ap (λ (x : ℕ). strayBy (member i (now (a .tones))) x (c .before .gain-at .result)) (c .before .before .bits-at .ensures)
-    ∙ ap (strayBy (member i (now (a .tones))) (entry (now (a .bits)) i)) (c .before .gain-at .ensures))
+    (c .is-fault .ensures
+    ∙ ap (λ (x : Bool). indexBy x (c .before .before .bits-at .result) (c .before .gain-at .result)) m
+    ∙ ap (λ (x : ℕ). indexBy (member i (now (a .tones))) x (c .before .gain-at .result)) (c .before .before .bits-at .ensures)
+    ∙ ap (indexBy (member i (now (a .tones))) (entry (now (a .bits)) i)) (c .before .gain-at .ensures))
 
 loop-holds : tie.Need-loop-holds Inv-loop μ-loop
 loop-holds c = (omega arith, first-none _)
 
-element-copy-out-is-stray : tie.Need-element-copy-out-is-stray Inv-loop μ-loop
-element-copy-out-is-stray c = search needs
+element-copy-out-is-fault : tie.Need-element-copy-out-is-fault Inv-loop μ-loop
+element-copy-out-is-fault c = search needs
 
 bits-at-requires : tie.Need-bits-at-requires Inv-loop μ-loop
 bits-at-requires c κs = search needs
@@ -44,8 +46,8 @@ bits-at-requires c κs = search needs
 gain-at-requires : tie.Need-gain-at-requires Inv-loop μ-loop
 gain-at-requires c κs = search needs
 
-is-stray-requires : tie.Need-is-stray-requires Inv-loop μ-loop
-is-stray-requires c κs = search needs
+is-fault-requires : tie.Need-is-fault-requires Inv-loop μ-loop
+is-fault-requires c κs = search needs
 
 returns : tie.Need-returns Inv-loop μ-loop
 returns c = first-at _ _ _ (c .before .before .before .before .before .before .loop .inv .1) (tested (c .before) ∙ c .if1 .taken) (omega arith)
@@ -62,17 +64,17 @@ loop-again c = (omega arith, first-more _ _ (c .before .before .before .before .
 returns-2 : tie.Need-returns-2 Inv-loop μ-loop
 returns-2 c = first-end _ _ _ (c .before .loop .inv .1) (omega arith) (omega arith)
 
-pub first-stray-spec : {M : Type 1} → statement M
-first-stray-spec =
+pub first-index-fault-spec : {M : Type 1} → statement M
+first-index-fault-spec =
     tie.close
     (tie.spec
     Inv-loop
     μ-loop
     loop-holds
-    element-copy-out-is-stray
+    element-copy-out-is-fault
     bits-at-requires
     gain-at-requires
-    is-stray-requires
+    is-fault-requires
     returns
     add-i
     loop-less

@@ -12,9 +12,9 @@ ghost use mathlib.Core.Bool.{false};
 ghost use Prim.Native.Nat.{_<_, _≤_};
 ghost use lib.ListN.{length, replicate};
 ghost use Rattle.g9932.specs.Bits.{first};
-ghost use Rattle.g9932.specs.Refusals.{sizeTest, toneTest, bitsTest, strayBy, strayTest};
+ghost use Rattle.g9932.specs.Refusals.{sizeTest, toneTest, strayBy};
 ghost use Rattle.g9932.specs.Answers.{verdictOf};
-ghost use Rattle.tables.specs.Checks.{indexBy, indexFault, Marks, Passed, listVerdict};
+ghost use Rattle.tables.specs.Checks.{indexBy, indexFault, ruleBy, ruleTest, Marks, Passed, listVerdict};
 
 // 1 SIZE, of the three lengths.
 fn wrong_size(g: usize, gains: usize, nsc: usize) -> bool
@@ -121,30 +121,32 @@ fn first_index_fault(bits: &[u8], gains: &[u16], tones: &[u16], seen: &[bool; 40
     Found::Nothing
 }
 
-// 4 BITS: the smallest index with a bit count above 15.
-fn first_bits(bits: &[u8]) -> Found
-    ensures { λ r. ⌜ r ≡ first (bitsTest (now (bits .entry))) (length (now (bits .entry))) ⌝ }
-{
-    let mut i = 0;
-    while i < bits.len() {
-        if 15 < bits_at(bits, Subcarrier(i)) {
-            return Found::At(i);
-        }
-        i += 1;
-    }
-    Found::Nothing
+// 4 BITS or 5 STRAY, looked for by itself.
+pub enum Rule {
+    Bits,
+    Stray,
 }
 
-// 5 STRAY: the smallest index that is not in t and has bits or gain above 0. `seen` marks the members of t.
-fn first_stray(bits: &[u8], gains: &[u16], tones: &[u16], seen: &[bool; 4096]) -> Found
+// Does the rule apply to an index?
+fn breaks(rule: Rule, seen: bool, bits: u8, gain: u16) -> bool
+    ensures { λ r. ⌜ r ≡ ruleBy rule seen bits gain ⌝ }
+{
+    match rule {
+        Rule::Bits => 15 < bits,
+        Rule::Stray => is_stray(seen, bits, gain),
+    }
+}
+
+// The smallest index to which the rule applies. `seen` marks the members of t.
+fn first_index(rule: Rule, bits: &[u8], gains: &[u16], tones: &[u16], seen: &[bool; 4096]) -> Found
     requires size { ⌜ length (now bits) ≤ 4096 ⌝ }
     requires marks { ⌜ Marks (now tones) (now seen) ⌝ }
-    ensures { λ r. ⌜ r ≡ first (strayTest (now (bits .entry)) (now (gains .entry)) (now (tones .entry))) (length (now (bits .entry))) ⌝ }
+    ensures { λ r. ⌜ r ≡ first (ruleTest rule (now (bits .entry)) (now (gains .entry)) (now (tones .entry))) (length (now (bits .entry))) ⌝ }
 {
     let mut i = 0;
     while i < bits.len() {
         let k = Subcarrier(i);
-        if is_stray(seen[i], bits_at(bits, k), gain_at(gains, k)) {
+        if breaks(rule, seen[i], bits_at(bits, k), gain_at(gains, k)) {
             return Found::At(i);
         }
         i += 1;
@@ -167,10 +169,10 @@ pub fn check_lists(bits: &[u8], gains: &[u16], tones: &[u16]) -> Checked
         return Checked::Refused(Refusal::Twice(Place(twice)));
     }
     if let Found::At(gain) = first_index_fault(bits, gains, tones, &seen) {
-        if let Found::At(k) = first_bits(bits) {
+        if let Found::At(k) = first_index(Rule::Bits, bits, gains, tones, &seen) {
             return Checked::Refused(Refusal::Bits(Subcarrier(k)));
         }
-        if let Found::At(k) = first_stray(bits, gains, tones, &seen) {
+        if let Found::At(k) = first_index(Rule::Stray, bits, gains, tones, &seen) {
             return Checked::Refused(Refusal::Stray(Subcarrier(k)));
         }
         return Checked::Refused(Refusal::Gain(Subcarrier(gain)));

@@ -1,8 +1,8 @@
 -- `is_stray` meets its contract, by its tests.
 use borrow.Author.Tests.{lt-ltb, le-ltb}
 use borrow.Author.Needs.{needs}
-use Rattle.tables.proofs.check.is_stray.Statement.{statement}
-use Rattle.tables.proofs.check.is_stray.Tie as tie
+use Rattle.tables.proofs.lists.is_stray.Statement.{statement}
+use Rattle.tables.proofs.lists.is_stray.Tie as tie
 
 returns : tie.Need-returns
 returns c = search needs

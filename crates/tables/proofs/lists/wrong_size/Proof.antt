@@ -1,7 +1,7 @@
 -- `wrong_size` meets its contract, one return for each part of the test.
 use borrow.Author.Tests.{lt-ltb, le-ltb, eq-eqb, ne-eqb}
-use Rattle.tables.proofs.check.wrong_size.Statement.{statement}
-use Rattle.tables.proofs.check.wrong_size.Tie as tie
+use Rattle.tables.proofs.lists.wrong_size.Statement.{statement}
+use Rattle.tables.proofs.lists.wrong_size.Tie as tie
 
 returns : tie.Need-returns
 returns c = simp (lt-ltb _ _ (c .if1 .taken))

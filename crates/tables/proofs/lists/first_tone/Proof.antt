@@ -10,8 +10,8 @@ use Rattle.g9932.specs.Bits.{first}
 use Rattle.g9932.specs.Refusals.{toneTest}
 use Rattle.g9932.specs.declared.Found.the-variants.{Nothing}
 use Rattle.g9932.proofs.Search.{first-none, first-more, first-at, first-end}
-use Rattle.tables.proofs.check.first_tone.Statement.{statement}
-use Rattle.tables.proofs.check.first_tone.Tie as tie
+use Rattle.tables.proofs.lists.first_tone.Statement.{statement}
+use Rattle.tables.proofs.lists.first_tone.Tie as tie
 
 abbrev Inv-loop : tie.InvT-loop
 Inv-loop g tones i₀ i = (i ≤ length tones) × (first (toneTest g tones) i ≡ Nothing)

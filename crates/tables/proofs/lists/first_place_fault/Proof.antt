@@ -15,8 +15,8 @@ use Rattle.g9932.specs.declared.Found.the-variants.{Nothing}
 use Rattle.g9932.proofs.Search.{first-none, first-more, first-at, first-end}
 use Rattle.tables.specs.Checks.{placeFault, Marks}
 use Rattle.tables.proofs.Marks.{marks-none, marks-more, marks-end}
-use Rattle.tables.proofs.check.first_place_fault.Statement.{statement}
-use Rattle.tables.proofs.check.first_place_fault.Tie as tie
+use Rattle.tables.proofs.lists.first_place_fault.Statement.{statement}
+use Rattle.tables.proofs.lists.first_place_fault.Tie as tie
 
 abbrev Inv-loop : tie.InvT-loop
 Inv-loop g tones seen₀ i₀ seen i = (i ≤ length tones) × (first (placeFault g tones) i ≡ Nothing) × (length seen ≡ 4096) × Marks (take i tones) seen

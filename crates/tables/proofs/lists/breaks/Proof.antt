@@ -1,0 +1,22 @@
+-- `breaks` meets its contract, by the rule.
+use borrow.Author.Needs.{needs}
+use Rattle.tables.proofs.lists.breaks.Statement.{statement}
+use Rattle.tables.proofs.lists.breaks.Tie as tie
+
+enum-told : tie.Need-enum-told
+enum-told c = search needs
+
+enum-told-2 : tie.Need-enum-told-2
+enum-told-2 c = search needs
+
+is-stray-requires : tie.Need-is-stray-requires
+is-stray-requires c κs = search needs
+
+returns : tie.Need-returns
+returns c = rw (c .enum-told .given .1)
+
+returns-2 : tie.Need-returns-2
+returns-2 c = rw (c .before .enum-told2 .given .1) (c .is-stray .ensures)
+
+pub breaks-spec : {M : Type 1} → statement M
+breaks-spec = tie.close (tie.spec enum-told enum-told-2 is-stray-requires returns returns-2)
