@@ -66,7 +66,6 @@ module _ (late : Bool) (s : TrellisState) (x y : ℕ) (f : List Bool) (hx : 2 �
         sends = rw (n, ← m) (bits-num (sentBits x u));
         small = rw (n, ← m) (num-lt (sentBits x u));
       }
-<<<<<<< HEAD
 
 -- a part of a packed buffer that is there has its length
 pub length-part : (l : List ℕ) (at n : ℕ) → at + n ≤ 8 * length l → length (take n (drop at (unpack l))) ≡ n
@@ -137,5 +136,3 @@ written-empty l = refl
 
 pub empty-waits : Waits emptyWriter
 empty-waits = record { few = omega arith; small = omega arith }
-=======
->>>>>>> constellation

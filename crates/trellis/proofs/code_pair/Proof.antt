@@ -31,16 +31,7 @@ labels-requires c κs =
 put-requires : tie.Need-put-requires
 put-requires c κs =
     let q = c .before .before .before .before .before .before .before .before .before .before .before .before .before .pre in
-<<<<<<< HEAD
     let p = got-pair (c .before .before .before .before .before .before .before .before .before .before .before .before .before .args .late) (c .before .before .before .before .before .before .before .before .before .before .before .before .before .args .c .state) (c .before .before .before .before .before .before .before .before .before .before .before .before .before .args .x) (c .before .before .before .before .before .before .before .before .before .before .before .before .before .args .y) (c .before .before .before .before .before .before .before .before .before .before .before .before .before .args .frame .now) (c .before .before .before .before .before .before .before .before .before .before .before .before .before .args .c .at) (c .before .before .before .before .before .before .before .before .taken-bits .result) (c .before .before .before .before .before .before .before .get .result) (c .before .before .before .before .before .before .inputs-of .result) (c .before .before .before .before .before .before .before .before .before .before .before .before .before .pre .0) (c .before .before .before .before .before .before .before .before .before .before .before .before .before .pre .2) (c .before .before .before .before .before .before .before .before .before .before .before .before .before .pre .4 .bits) (c .before .before .before .before .before .before .before .before .taken-bits .ensures .0) (c .before .before .before .before .before .before .before .get .ensures) (c .before .before .before .before .before .before .inputs-of .ensures) (c .before .before .before .before .before .step .result .low) (c .labels .result) (c .before .before .before .before .before .step .ensures .1) (c .labels .ensures) in
-=======
-    let n : ℕ = taken (a .late) (pair (a .x) (a .y)) in
-    let f : List Bool = take n (drop (a .c .at) (unpack (a .frame .now))) in
-    let hf : length f ≡ n = length-part (a .frame .now) (a .c .at) n (q .4 .bits) in
-    let hi = c .before .before .before .before .before .before .inputs-of .ensures ∙ ap (inputsOf (a .late) (a .c .state)) (c .before .before .before .before .before .before .before .get .ensures ∙ ap (λ (m : ℕ). num (take m (drop (a .c .at) (unpack (a .frame .now))))) (c .before .before .before .before .before .before .before .before .taken-bits .ensures .0)) in
-    let p : PairCoded (a .late) (a .c .state) (a .x) (a .y) f (c .before .before .before .before .before .before .inputs-of .result) (c .labels .result) =
-    pair-coded (a .late) (a .c .state) (a .x) (a .y) f (q .0) (q .2) hf (c .before .before .before .before .before .before .inputs-of .result) (c .before .before .before .before .before .step .result .low) (c .labels .result) hi (c .before .before .before .before .before .step .ensures .1) (c .labels .ensures) in
->>>>>>> constellation
     (omega arith, p .small, q .4 .bytes, q .4 .waits)
 
 same-length : tie.Need-same-length
@@ -48,18 +39,7 @@ same-length c = search needs
 
 returns : tie.Need-returns
 returns c =
-<<<<<<< HEAD
     let p = got-pair (c .before .before .before .before .before .before .before .before .before .before .before .before .before .before .before .before .args .late) (c .before .before .before .before .before .before .before .before .before .before .before .before .before .before .before .before .args .c .state) (c .before .before .before .before .before .before .before .before .before .before .before .before .before .before .before .before .args .x) (c .before .before .before .before .before .before .before .before .before .before .before .before .before .before .before .before .args .y) (c .before .before .before .before .before .before .before .before .before .before .before .before .before .before .before .before .args .frame .now) (c .before .before .before .before .before .before .before .before .before .before .before .before .before .before .before .before .args .c .at) (c .before .before .before .before .before .before .before .before .before .before .before .taken-bits .result) (c .before .before .before .before .before .before .before .before .before .before .get .result) (c .before .before .before .before .before .before .before .before .before .inputs-of .result) (c .before .before .before .before .before .before .before .before .before .before .before .before .before .before .before .before .pre .0) (c .before .before .before .before .before .before .before .before .before .before .before .before .before .before .before .before .pre .2) (c .before .before .before .before .before .before .before .before .before .before .before .before .before .before .before .before .pre .4 .bits) (c .before .before .before .before .before .before .before .before .before .before .before .taken-bits .ensures .0) (c .before .before .before .before .before .before .before .before .before .before .get .ensures) (c .before .before .before .before .before .before .before .before .before .inputs-of .ensures) (c .before .before .before .before .before .before .before .before .step .result .low) (c .before .before .before .labels .result) (c .before .before .before .before .before .before .before .before .step .ensures .1) (c .before .before .before .labels .ensures) in
-=======
-    let a = c .before .before .before .before .before .before .before .before .before .before .before .before .before .before .before .before .args in
-    let q = c .before .before .before .before .before .before .before .before .before .before .before .before .before .before .before .before .pre in
-    let n : ℕ = taken (a .late) (pair (a .x) (a .y)) in
-    let f : List Bool = take n (drop (a .c .at) (unpack (a .frame .now))) in
-    let hf : length f ≡ n = length-part (a .frame .now) (a .c .at) n (q .4 .bits) in
-    let hi = c .before .before .before .before .before .before .before .before .before .inputs-of .ensures ∙ ap (inputsOf (a .late) (a .c .state)) (c .before .before .before .before .before .before .before .before .before .before .get .ensures ∙ ap (λ (m : ℕ). num (take m (drop (a .c .at) (unpack (a .frame .now))))) (c .before .before .before .before .before .before .before .before .before .before .before .taken-bits .ensures .0)) in
-    let p : PairCoded (a .late) (a .c .state) (a .x) (a .y) f (c .before .before .before .before .before .before .before .before .before .inputs-of .result) (c .before .before .before .labels .result) =
-    pair-coded (a .late) (a .c .state) (a .x) (a .y) f (q .0) (q .2) hf (c .before .before .before .before .before .before .before .before .before .inputs-of .result) (c .before .before .before .before .before .before .before .before .step .result .low) (c .before .before .before .labels .result) hi (c .before .before .before .before .before .before .before .before .step .ensures .1) (c .before .before .before .labels .ensures) in
->>>>>>> constellation
     record { state = c .before .before .before .before .before .before .before .before .step .ensures .0 ∙ p .next; at = omega (arith, c .before .before .before .before .before .before .before .before .before .before .before .taken-bits .ensures .0); puts = rw (p .sends) at (c .before .before .put .ensures) }
 
 pub code-pair-spec : {M : Type 1} → statement M
