@@ -51,7 +51,8 @@ going-end {cs = cs} {r = r} {d = d} {xs = xs} {ys = ys} {at = at} {register = re
     record {
       xsHold = list-end (λ p. p .px) cs r d xs at register i h (omega (arith, g .xsLength)) (g .xsSoFar);
       ysHold = list-end (λ p. p .py) cs r d ys at register i h (omega (arith, g .ysLength)) (g .ysSoFar);
-      registerIs = rw (drop-of-length-le cs h) at (g .registerSoFar) }
+      registerIs = rw (drop-of-length-le cs h) at (g .registerSoFar);
+    }
 
 -- one tone more
 module _ (cs : List Class) (r : ℕ) (d : List Bool) (at register i : ℕ) (m : Mark) (h : i < length cs) (maps : Maps (getD cs i Silent) register at d m) where
@@ -75,7 +76,8 @@ module _ (cs : List Class) (r : ℕ) (d : List Bool) (at register i : ℕ) (m : 
         room = rw (maps .atIs) (omega (arith, g .room, loads-drop cs i h));
         xsSoFar = list-step (λ p. p .px) xs (m .x) (g .xsLength) refl (g .xsSoFar);
         ysSoFar = list-step (λ p. p .py) ys (m .y) (g .ysLength) refl (g .ysSoFar);
-        registerSoFar = rw (maps .registerIs) (rw (drop-class cs i h) at (g .registerSoFar)) }
+        registerSoFar = rw (maps .registerIs) (rw (drop-class cs i h) at (g .registerSoFar));
+      }
 
 -- ---- as the code has it: the classes of t', the bits of a packed source, and the tone t at place i
 module _ (b g order source : List ℕ) (xs ys : List ℤ) (room : MapRoom b g order source xs ys) where
@@ -94,10 +96,11 @@ module _ (b g order source : List ℕ) (xs ys : List ℤ) (room : MapRoom b g or
 
     pub tone-room : Carries (t .class) × (at + load (t .class) ≤ 8 * length source) × (length source ≤ 7688)
     tone-room =
-        let l = loads-drop (classesBy b g order) i (rw (length-classes b g order) h) in
-        (rw class-is (carries-at b g order (room .bitsMost) i h),
-         rw class-is (omega (arith, going .room, l, bits-there)),
-         room .sourceMost)
+        let l = loads-drop (classesBy b g order) i (rw (length-classes b g order) h) in (
+          rw class-is (carries-at b g order (room .bitsMost) i h),
+          rw class-is (omega (arith, going .room, l, bits-there)),
+          room .sourceMost,
+        )
 
     pub map-step : (m : Mark) → Maps (t .class) register at (unpack source) m
         → Going (classesBy b g order) r (unpack source) (set xsNow i (m .x)) (set ysNow i (m .y)) (m .at) (m .register) (i + 1)

@@ -60,8 +60,15 @@ pub listening-start : (cs : List Class) (r : ℕ) (q : List Point) (sent : List 
 unfolding registerAfter written unpack bits first
 listening-start cs r q sent =
     record {
-      inside = omega arith; sentLength = refl; on = refl; monitored = refl; registerSoFar = refl; whole = refl;
-      waits = record { few = omega arith; small = omega arith }; counted = omega arith }
+      inside = omega arith;
+      sentLength = refl;
+      on = refl;
+      monitored = refl;
+      registerSoFar = refl;
+      whole = refl;
+      waits = record { few = omega arith; small = omega arith };
+      counted = omega arith;
+    }
 
 module _ {cs : List Class} {r : ℕ} {q : List Point} {sent₀ sent : List ℕ} {monitor : Found} {register : ℕ} {w : BitWriter} {i : ℕ}
     (g : Listening cs r q sent₀ sent monitor register w i) (few : length cs ≤ 4096) where
@@ -77,7 +84,8 @@ module _ {cs : List Class} {r : ℕ} {q : List Point} {sent₀ sent : List ℕ} 
         registerIs = λ _. g .registerSoFar ∙ ap (registerAfter r) (take-all i cs h);
         gathered = λ _. sym (append-nil (written w sent)) ∙ rw e at (g .whole);
         waits = g .waits;
-        counted = omega (arith, g .counted, g .inside) }
+        counted = omega (arith, g .counted, g .inside);
+      }
 
   -- a place that is refused
   listening-off : i < length cs → offgridTest cs q i ≡ true
@@ -89,7 +97,8 @@ module _ {cs : List Class} {r : ℕ} {q : List Point} {sent₀ sent : List ℕ} 
         registerIs = λ z. absurd (found-not z);
         gathered = λ z. absurd (found-not z);
         waits = g .waits;
-        counted = omega (arith, g .counted, g .inside) }
+        counted = omega (arith, g .counted, g .inside);
+      }
     where
       found-not : {n : ℕ} → _≡_ {A = Found} (At n) Nothing → ⊥
       found-not z = let o : _≡_ {A = ℕ} 0 1 = cc in omega arith
@@ -128,7 +137,8 @@ module _ (cs : List Class) (r : ℕ) (q : List Point) (sent₀ sent after : List
         registerSoFar = reads .registerIs ∙ rw (g .registerSoFar, add-one, take-suc cs i Silent h) (sym (register-more r (take i cs) c));
         whole = rw (puts .holds, b, append-assoc, ← (gather-step cs q i h k)) (g .whole);
         waits = puts .waits;
-        counted = omega (arith, puts .counted, g .counted, reads .most, length-bits (t .bits) (t .label)) }
+        counted = omega (arith, puts .counted, g .counted, reads .most, length-bits (t .bits) (t .label));
+      }
 
 -- ---- as the code has it: the classes of t', two lists of coordinates, and the tone t at place i
 module _ (b g order : List ℕ) (xs ys : List ℤ) (sent₀ : List ℕ) (room : ReadRoom b order xs ys sent₀) (r : ℕ) (sent : List ℕ) (monitor : Found) (register : ℕ)

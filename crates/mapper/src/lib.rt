@@ -83,7 +83,12 @@ pub fn map_tones(
     let mut next = register;
     let mut i = 0;
     while i < order.len() {
-        let m = map_tone(tables::tone_of_place(bits, gains, order, Place(i)), source, at, next);
+        let m = map_tone(
+            tables::tone_of_place(bits, gains, order, Place(i)),
+            source,
+            at,
+            next,
+        );
         let x = m.x;
         let y = m.y;
         xs[i] = x;

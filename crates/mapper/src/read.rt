@@ -125,7 +125,12 @@ pub fn read_tones(
     let mut next = register;
     let mut i = 0;
     while i < order.len() {
-        let t = read_tone(tables::tone_of_place(bits, gains, order, Place(i)), xs[i], ys[i], next);
+        let t = read_tone(
+            tables::tone_of_place(bits, gains, order, Place(i)),
+            xs[i],
+            ys[i],
+            next,
+        );
         let on = t.on;
         if !on {
             return TonesRead {

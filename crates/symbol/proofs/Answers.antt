@@ -42,4 +42,5 @@ module _ (T : Tables) (f : List ℕ) (r : ℕ) (xs ys : List ℤ) where
         record {
           answer = ap (λ (n : ℕ). reportOf (Done k n)) (w .registerIs) ∙ report-done k r (registerAfter r (classesOf T)) v;
           xsHold = w .xsHold ∙ done-accepted k _ _ v;
-          ysHold = w .ysHold ∙ done-accepted k _ _ v }
+          ysHold = w .ysHold ∙ done-accepted k _ _ v;
+        }

@@ -55,4 +55,4 @@ module _ (T : Tables) (coded : T .mode â‰¡ Coded) (ok : tableVerdict T .number â
       rw starts
       (rw parts
       (drop-at (replicate (length (T .tones) - entryCount (T .bits) (T .tones)) 0) (entries (T .bits) (T .tones)) (length (T .tones) - entryCount (T .bits) (T .tones))
-        (length-replicate (length (T .tones) - entryCount (T .bits) (T .tones)) 0)))
+      (length-replicate (length (T .tones) - entryCount (T .bits) (T .tones)) 0)))

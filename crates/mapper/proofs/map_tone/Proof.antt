@@ -3,10 +3,6 @@ use mathlib.Core.Path.{refl}
 use borrow.Author.Needs.{needs}
 use Rattle.mapper.proofs.map_tone.Statement.{statement}
 use Rattle.mapper.proofs.map_tone.Tie as tie
-use Rattle.mapper.proofs.map_tone.Reads as reads
-use Rattle.mapper.proofs.map_tone.Lts as lts
-use Rattle.mapper.proofs.map_data.Reads as map-data-reads
-use Rattle.mapper.proofs.map_filler.Reads as map-filler-reads
 
 enum-known-class : tie.Need-enum-known-class
 enum-known-class c = search needs

@@ -11,10 +11,6 @@ use Prim.Native.Nat.{_-_}
 use borrow.Author.Needs.{needs}
 use Rattle.mapper.proofs.map_tones.Statement.{statement}
 use Rattle.mapper.proofs.map_tones.Tie as tie
-use Rattle.mapper.proofs.map_tones.Reads as reads
-use Rattle.mapper.proofs.map_tones.Lts as lts
-use Rattle.mapper.proofs.map_tone.Reads as map-tone-reads
-use Rattle.tables.proofs.tone_of_place.Reads as tone-of-place-reads
 
 abbrev Inv-loop : tie.InvT-loop
 Inv-loop bits gains order source register xs₀ ys₀ at₀ next₀ i₀ xs ys at next i = Going (classesBy bits gains order) register (unpack source) xs ys at next i

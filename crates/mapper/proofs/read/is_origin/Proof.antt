@@ -1,9 +1,6 @@
 use Rattle.mapper.proofs.Origin.{not-x, not-y, is-zero}
-use borrow.Author.Needs.{needs}
 use Rattle.mapper.proofs.read.is_origin.Statement.{statement}
 use Rattle.mapper.proofs.read.is_origin.Tie as tie
-use Rattle.mapper.proofs.read.is_origin.Reads as reads
-use Rattle.mapper.proofs.read.is_origin.Lts as lts
 
 returns : tie.Need-returns
 returns c = not-x (c .before .args .x) (c .before .args .y) (c .if1 .taken)

@@ -6,11 +6,6 @@ use mathlib.Core.Path.{refl}
 use borrow.Author.Needs.{needs}
 use Rattle.mapper.proofs.read.read_tone.Statement.{statement}
 use Rattle.mapper.proofs.read.read_tone.Tie as tie
-use Rattle.mapper.proofs.read.read_tone.Reads as reads
-use Rattle.mapper.proofs.read.read_tone.Lts as lts
-use Rattle.mapper.proofs.read.is_origin.Reads as is-origin-reads
-use Rattle.mapper.proofs.read.read_data.Reads as read-data-reads
-use Rattle.mapper.proofs.read.read_filler.Reads as read-filler-reads
 
 enum-known-class : tie.Need-enum-known-class
 enum-known-class c = search needs

@@ -10,17 +10,9 @@ use lib.ListN.{length}
 use borrow.Author.Tests.{not-true, not-false}
 use native.Mathlib.Omega.{arith}
 use Prim.Native.Nat.{_-_}
-use mathlib.Core.Path.{_∙_, sym}
 use borrow.Author.Needs.{needs}
 use Rattle.mapper.proofs.read.read_tones.Statement.{statement}
 use Rattle.mapper.proofs.read.read_tones.Tie as tie
-use Rattle.mapper.proofs.read.read_tones.Reads as reads
-use Rattle.mapper.proofs.read.read_tones.Lts as lts
-use Rattle.frame.proofs.BitWriter.new.Reads as new-reads
-use Rattle.frame.proofs.BitWriter.put.Reads as put-reads
-use Rattle.mapper.proofs.read.or_here.Reads as or-here-reads
-use Rattle.mapper.proofs.read.read_tone.Reads as read-tone-reads
-use Rattle.tables.proofs.tone_of_place.Reads as tone-of-place-reads
 
 abbrev Inv-loop : tie.InvT-loop
 Inv-loop bits gains order xs ys register sent₀ writer₀ monitor₀ next₀ i₀ sent writer monitor next i = Listening (classesBy bits gains order) register (points xs ys) sent₀ sent monitor next writer i
