@@ -1,5 +1,5 @@
 -- Laws of the checks: one search for two tests, what the size test leaves, and refusals 1 to 9 as two parts.
-use Prim.Native.Nat.{ℕ, zero, suc, _<_, _≤_}
+use Prim.Native.Nat.{ℕ, suc, _<_, _≤_}
 use mathlib.Core.Bool.{Bool, true, false, not, _||_}
 use mathlib.Core.List.{List}
 use mathlib.Core.Path.{_≡_, refl, sym, ap}
@@ -12,21 +12,12 @@ use Rattle.g9932.specs.Refusals.{Verdict, accepted, refuseIf, refuseAt, andThen
 use Rattle.g9932.specs.declared.Found.{Found}
 use Rattle.g9932.specs.declared.Found.the-variants.{At, Nothing}
 use Rattle.g9932.specs.declared.Mode.{Mode}
-use Rattle.g9932.proofs.Search.{first-no, first-all}
+use Rattle.g9932.proofs.Search.{first-no, first-all, first-ext}
 use Rattle.tables.specs.Checks.{listVerdict, modeVerdict}
 
 or-none : (a b : Bool) → a || b ≡ false → (a ≡ false) × (b ≡ false)
 or-none true b e = let z : _≡_ {A = ℕ} 0 1 = cc in absurd (omega arith)
 or-none false b e = (refl, e)
-
-module _ (p q : ℕ → Bool) where
-  first-same : (n : ℕ) → ((k : ℕ) → k < n → p k ≡ q k) → first p n ≡ first q n
-  unfolding first
-  first-same zero h = refl
-  first-same (suc n) h =
-      let e : first p n ≡ first q n = first-same n (λ k l. h k (omega arith)) in
-      let w : p n ≡ q n = h n (omega arith) in
-      rw (e, w)
 
 -- where neither of two tests holds anywhere; and where the first of them does not
 module _ (p q : ℕ → Bool) (n : ℕ) where
@@ -36,7 +27,7 @@ module _ (p q : ℕ → Bool) (n : ℕ) where
       (first-all p n (λ k l. or-none (p k) (q k) (f k l) .0), first-all q n (λ k l. or-none (p k) (q k) (f k l) .1))
 
   pub or-second : first p n ≡ Nothing → first (λ k. p k || q k) n ≡ first q n
-  or-second e = first-same (λ k. p k || q k) q n (λ k l. ap (λ (x : Bool). x || q k) (first-no p n e k l))
+  or-second e = first-ext (λ k. p k || q k) q n (λ k l. ap (λ (x : Bool). x || q k) (first-no p n e k l))
 
 -- what the size test leaves
 pub record SizeFacts (g nsc : ℕ) : Type 0 where

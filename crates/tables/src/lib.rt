@@ -108,7 +108,7 @@ pub fn order_tables(
     }
 }
 
-// Refusals 7 to 9, with t' and b' written.
+// Refusals 7 to 9, with t' and b' written. Its caller shows that the arrays have room.
 fn order_by(
     mode: Mode,
     bits: &[u8],
@@ -150,7 +150,8 @@ pub fn reorder(
     )
 }
 
-// Re-orders by way of two arrays, so that a lent buffer is written only when nothing can refuse any more.
+// Re-orders by way of two arrays of 4,096, which its caller makes, so that a lent buffer is written only when nothing can refuse
+// any more.
 fn reorder_through(
     mode: Mode,
     bits: &[u8],

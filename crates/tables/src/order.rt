@@ -1,4 +1,5 @@
 // Refusals 7 to 9, and the re-ordered tables t' and b' in two arrays.
+// Only this crate's proved code calls these functions, and shows what a `requires` asks.
 use super::bits_at;
 use super::tone_at;
 use g9932::Checked;
