@@ -3,10 +3,11 @@ use Prim.Native.Nat.{ℕ, zero, suc, _+_, _-_, _*_, _/_, _≤_, _<_}
 use mathlib.Core.Bool.{Bool, false}
 use mathlib.Core.List.{List, [], _∷_, _++_, map}
 use mathlib.Core.Path.{_≡_, refl, sym, ap, _∙_}
+use native.Mathlib.Numerals.{add-one}
 use native.Mathlib.Omega.{arith}
 use lib.IntN.{ℤ}
-use lib.ListN.{length, take, drop, getD, replicate, length-replicate}
-use lib.Seq.{drop-at}
+use lib.ListN.{length, take, drop, getD, replicate, length-replicate, length-drop, drop-of-length-le}
+use lib.Seq.{drop-at, drop-cons, take-all}
 use Rattle.frame.specs.Written.{Framed}
 use Rattle.g9932.specs.Sizes.{Tables, entry, frameBits, unpack, bytesFor, Point}
 use Rattle.g9932.specs.Refusals.{tableVerdict, frameTest}
@@ -18,14 +19,35 @@ use Rattle.g9932.specs.declared.Mode.the-variants.{Uncoded, Coded}
 use Rattle.g9932.proofs.Accepted.{Accepted, AcceptedCoded, accepted-tables}
 use Rattle.g9932.proofs.Formed.{total-pairsOf}
 use Rattle.g9932.proofs.Packed.{frame-length, length-frame}
-use Rattle.g9932.proofs.Pairs.{takenTotal}
+use Rattle.g9932.proofs.Pairs.{takenTotal, sentTotal}
 use Rattle.g9932.proofs.Prefixes.{encode-take, write-take}
 use Rattle.g9932.proofs.Symbols.{loads}
-use Rattle.guarantees.proofs.Sent.{loads-sum, size-uncoded}
+use Rattle.guarantees.proofs.Sent.{loads-sum, size-uncoded, length-sentOf}
+use Rattle.mapper.specs.Mapping.{classesBy, MapRoom, MapsAll}
 use Rattle.trellis.specs.Coding.{Ready}
 use Rattle.symbol.specs.Encoding.{leadingZeros, SymbolReady, WritesSymbol}
 
 -- ---- where the entries of b' begin
+
+module _ (l : List ℕ) (i : ℕ) (h : i < length l) (so : leadingZeros l ≡ i + leadingZeros (drop i l)) where
+  pub zero-more : getD l i 0 ≡ 0 → leadingZeros l ≡ i + 1 + leadingZeros (drop (i + 1) l)
+  zero-more e =
+      let d : drop i l ≡ 0 ∷ drop (i + 1) l = drop-cons l i 0 h ∙ rw (e, add-one) in
+      so ∙ rw d (omega arith)
+
+  pub zero-last : (getD l i 0 ≡ 0 → ⊥) → i ≡ leadingZeros l
+  zero-last n = sym (so ∙ ap (λ (m : List ℕ). i + leadingZeros m) (drop-cons l i 0 h) ∙ none (getD l i 0) n)
+    where
+      none : (e : ℕ) → (e ≡ 0 → ⊥) → i + leadingZeros (e ∷ drop (suc i) l) ≡ i
+      none zero n = absurd (n refl)
+      none (suc e) n = omega arith
+
+pub zero-all : (l : List ℕ) (i : ℕ) → length l ≤ i → leadingZeros l ≡ i + leadingZeros (drop i l) → i ≡ leadingZeros l
+zero-all l i h so = sym (so ∙ rw (drop-of-length-le l h) (omega arith))
+
+-- the part of b' that is lent
+pub lent-part : (l : List ℕ) (k : ℕ) → k ≡ leadingZeros l → take (length l - k) (drop k l) ≡ drop (leadingZeros l) l
+lent-part l k e = take-all (length l - k) (drop k l) (simp length-drop (omega arith)) ∙ rw e
 
 zeros-front : (k : ℕ) (es : List ℕ) → 1 ≤ length es → 1 ≤ entry es 0 → leadingZeros (replicate k 0 ++ es) ≡ k
 zeros-front zero [] h e = absurd (omega arith)
@@ -56,3 +78,119 @@ module _ (T : Tables) (coded : T .mode ≡ Coded) (ok : tableVerdict T .number �
       (rw parts
       (drop-at (replicate (length (T .tones) - entryCount (T .bits) (T .tones)) 0) (entries (T .bits) (T .tones)) (length (T .tones) - entryCount (T .bits) (T .tones))
       (length-replicate (length (T .tones) - entryCount (T .bits) (T .tones)) 0)))
+
+-- ---- everything in order
+
+module _ (T : Tables) (f order ents : List ℕ) (xs ys : List ℤ) (sent : List ℕ) (s : SymbolReady T f order ents xs ys sent) where
+  known : Accepted T
+  known = accepted-tables T (s .tables)
+
+  order-length : length order ≡ length (T .tones)
+  order-length = ap length (s .orderIs) ∙ known .orderLength
+
+  order-most : length order ≤ 4096
+  order-most = omega (arith, order-length, known .tonesMost, known .tableMost)
+
+  classes-are : classesBy (T .bits) (T .gains) order ≡ classesOf T
+  classes-are = rw (s .orderIs)
+
+  bits-are : loads (classesBy (T .bits) (T .gains) order) ≡ sum (bitsOf (T .bits) (T .tones))
+  bits-are = ap loads classes-are ∙ loads-sum T
+
+  frame-bytes : length f ≡ bytesFor (sizeOf T)
+  frame-bytes = frame-length (sizeOf T) f (s .frame)
+
+  room : (source : List ℕ) → length source ≤ 7688 → sum (bitsOf (T .bits) (T .tones)) ≤ 8 * length source → MapRoom (T .bits) (T .gains) order source xs ys
+  room source h k =
+      record {
+        bitsMost = known .bitsMost;
+        orderMost = order-most;
+        sourceMost = h;
+        bits = rw bits-are k;
+        xsLength = s .xsLength ∙ sym order-length;
+        ysLength = s .ysLength ∙ sym order-length }
+
+  -- points mapped from a source that begins with the sent bits are the symbol's
+  written-from : (r after : ℕ) (source : List ℕ) (xsAfter ysAfter : List ℤ) (n : ℕ) → sum (bitsOf (T .bits) (T .tones)) ≤ n → take n (unpack source) ≡ sentIn T f
+      → MapsAll (classesBy (T .bits) (T .gains) order) r (unpack source) after xsAfter ysAfter → WritesSymbol T f r after xsAfter ysAfter
+  unfolding writtenPoints
+  written-from r after source xsAfter ysAfter n h e m =
+      let w : writePoints r (classesBy (T .bits) (T .gains) order) (unpack source) ≡ writePoints r (classesOf T) (sentIn T f) =
+          sym (write-take r (classesBy (T .bits) (T .gains) order) n (unpack source) (rw bits-are h)) ∙ rw (e, classes-are) in
+      record {
+        xsHold = m .xsHold ∙ ap (map (λ p. p .px)) w;
+        ysHold = m .ysHold ∙ ap (map (λ p. p .py)) w;
+        registerIs = m .registerIs ∙ rw classes-are }
+
+  -- uncoded
+  module _ (plain : T .mode ≡ Uncoded) where
+    size-sum : sizeOf T ≡ sum (bitsOf (T .bits) (T .tones))
+    size-sum = size-uncoded T plain
+
+    pub plain-room : MapRoom (T .bits) (T .gains) order f xs ys
+    plain-room =
+        let n = frame-bytes in
+        let m = known .sizeMost in
+        let e = size-sum in
+        room f (omega arith) (omega arith)
+
+    pub plain-written : (r after : ℕ) (xsAfter ysAfter : List ℤ) → MapsAll (classesBy (T .bits) (T .gains) order) r (unpack f) after xsAfter ysAfter
+        → WritesSymbol T f r after xsAfter ysAfter
+    unfolding sentOf
+    plain-written r after xsAfter ysAfter m = written-from r after f xsAfter ysAfter (sizeOf T) (omega (arith, size-sum)) (rw plain) m
+
+  -- coded
+  module _ (coded : T .mode ≡ Coded) where
+    cs : AcceptedCoded T
+    cs = known .coded coded
+
+    part : drop (leadingZeros ents) ents ≡ entries (T .bits) (T .tones)
+    part = rw (s .entriesAre) (from-start T coded (s .tables))
+
+    pub start-inside : leadingZeros ents ≤ length ents
+    start-inside =
+        let n : length ents ≡ length (T .tones) = ap length (s .entriesAre) ∙ known .reorderedLength in
+        let z : leadingZeros ents ≡ length (T .tones) - entryCount (T .bits) (T .tones) = rw (s .entriesAre) (starts T coded (s .tables)) in
+        omega arith
+
+    entries-most : length (entries (T .bits) (T .tones)) ≤ 4096
+    entries-most =
+        let a = ap length (s .entriesAre) ∙ known .reorderedLength in
+        let b = ap length part in
+        let c = length-drop (leadingZeros ents) ents in
+        omega (arith, known .tonesMost, known .tableMost)
+
+    entries-sum : sum (entries (T .bits) (T .tones)) ≡ sum (bitsOf (T .bits) (T .tones))
+    entries-sum = sym (total-pairsOf (entries (T .bits) (T .tones))) ∙ sym (ap sentTotal (cs .pairs)) ∙ cs .widths
+
+    pub coded-ready : Ready (drop (leadingZeros ents) ents) f sent
+    coded-ready =
+        let n = frame-bytes in
+        let m = known .sizeMost in
+        let t : takenTotal (pairsOf (entries (T .bits) (T .tones))) ≡ sizeOf T = sym (ap takenTotal (cs .pairs)) ∙ cs .taken in
+        let u = entries-sum in
+        let v = known .sumMost in
+        rw part
+        (record {
+          wide = cs .entriesRange;
+          few = cs .fewEntries;
+          many = entries-most;
+          bits = omega arith;
+          small = omega arith;
+          bytes = omega (arith, s .sentLength) })
+
+    pub coded-room : (after : List ℕ) → length after ≡ length sent → MapRoom (T .bits) (T .gains) order after xs ys
+    coded-room after e = let n = s .sentLength in let v = known .sumMost in room after (omega arith) (omega arith)
+
+    pub coded-written : (after : List ℕ) → Framed (encodePairs zeroState (pairsOf (drop (leadingZeros ents) ents)) (unpack f)) after → (r next : ℕ) (xsAfter ysAfter : List ℤ)
+        → MapsAll (classesBy (T .bits) (T .gains) order) r (unpack after) next xsAfter ysAfter → WritesSymbol T f r next xsAfter ysAfter
+    unfolding sentOf
+    coded-written after framed r next xsAfter ysAfter m =
+        let t : takenTotal (pairsIn T) ≡ sizeOf T = cs .taken in
+        let q : pairsOf (drop (leadingZeros ents) ents) ≡ pairsIn T = rw part (sym (cs .pairs)) in
+        let e : encodePairs zeroState (pairsOf (drop (leadingZeros ents) ents)) (unpack f) ≡ encodePairs zeroState (pairsIn T) (frameBits (sizeOf T) f) =
+            rw q (sym (encode-take (pairsIn T) zeroState (sizeOf T) (unpack f) (omega arith))) in
+        let i : encodePairs zeroState (pairsIn T) (frameBits (sizeOf T) f) ≡ sentIn T f = rw coded in
+        let n : length (encodePairs zeroState (pairsOf (drop (leadingZeros ents) ents)) (unpack f)) ≡ sum (bitsOf (T .bits) (T .tones)) =
+            ap length (e ∙ i) ∙ length-sentOf T known (frameBits (sizeOf T) f) (length-frame (sizeOf T) f (s .frame)) in
+        written-from r next after xsAfter ysAfter (length (encodePairs zeroState (pairsOf (drop (leadingZeros ents) ents)) (unpack f))) (omega arith) (framed .starts ∙ e ∙ i) m
