@@ -33,6 +33,16 @@ room-y a b n e h = rw (eq-eqb a n e, ne-eqb b n h)
 pub room-none : (a b n : ℕ) → a ≡ n → b ≡ n → roomTest a n || roomTest b n ≡ false
 room-none a b n e f = rw (eq-eqb a n e, eq-eqb b n f)
 
+-- and of a frame besides
+pub rooms-two : (a b n c m : ℕ) → roomTest a n || roomTest b n ≡ true → roomTest a n || roomTest b n || roomTest c m ≡ true
+rooms-two a b n c m h = rw h
+
+pub rooms-frame : (a b n c m : ℕ) → a ≡ n → b ≡ n → (c ≡ m → ⊥) → roomTest a n || roomTest b n || roomTest c m ≡ true
+rooms-frame a b n c m e f h = rw (room-none a b n e f, ne-eqb c m h)
+
+pub rooms-none : (a b n c m : ℕ) → a ≡ n → b ≡ n → c ≡ m → roomTest a n || roomTest b n || roomTest c m ≡ false
+rooms-none a b n c m e f g = rw (room-none a b n e f, eq-eqb c m g)
+
 -- ---- encoding
 
 -- L as it was told

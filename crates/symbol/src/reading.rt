@@ -4,7 +4,7 @@ ghost use lib.ListN.{length};
 ghost use Rattle.g9932.specs.Sizes.{tables};
 ghost use Rattle.g9932.specs.Answers.{verdictOf, Reads};
 ghost use Rattle.tables.specs.Ordered.{Arrays};
-ghost use Rattle.symbol.specs.Reading.{readLate, UndoReady, Undoes, PointsReady, ReadsPoints};
+ghost use Rattle.symbol.specs.Reading.{readLate, UndoReady, Undoes};
 use g9932::Answer;
 use g9932::Checked;
 use g9932::Found;
