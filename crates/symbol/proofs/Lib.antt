@@ -1,3 +1,4 @@
 pub mod Answers
 pub mod Writing
 pub mod Undoing
+pub mod Points

@@ -1,17 +1,17 @@
 -- The code undone into the frame: what the parts ask, and the frame's bytes.
-use Prim.Native.Nat.{ℕ, zero, suc, _+_, _-_, _*_, _/_, _≤_, _<_}
-use mathlib.Core.Bool.{Bool, false}
-use mathlib.Core.List.{List, []}
+-- a buffer that begins with a frame has its bytes in front
+use Prim.Native.Nat.{ℕ, _-_, _*_, _≤_}
+use mathlib.Core.Bool.{Bool}
+use mathlib.Core.List.{List}
 use mathlib.Core.Path.{_≡_, refl, sym, ap, _∙_}
 use native.Mathlib.Omega.{arith}
-use lib.ListN.{length, take, drop, getD, length-drop}
-use lib.Seq.{take-take, take-all, length-take-le, getD-take}
+use lib.ListN.{length, take, drop, length-drop}
+use lib.Seq.{take-take, length-take-le, getD-take}
 use Rattle.frame.specs.Written.{Framed}
 use Rattle.g9932.specs.Sizes.{Tables, frameBits, unpack, pack, bytesFor}
-use Rattle.g9932.specs.Refusals.{tableVerdict}
 use Rattle.g9932.specs.Order.{sum, bitsOf, entries, entryCount, pairsOf}
 use Rattle.g9932.specs.Trellis.{Reading, frame, breaks, zeroState, readPairs, readingOf}
-use Rattle.g9932.specs.Symbol.{bitsIn, pairsIn, sizeOf}
+use Rattle.g9932.specs.Symbol.{pairsIn, sizeOf}
 use Rattle.g9932.specs.Answers.{breakIn, frameIn}
 use Rattle.g9932.specs.declared.Found.{Found}
 use Rattle.g9932.specs.declared.Found.the-variants.{At, Nothing}
@@ -27,14 +27,13 @@ use Rattle.symbol.specs.Encoding.{leadingZeros}
 use Rattle.symbol.specs.Reading.{sentBitsIn, readingFrom, UndoReady, Undoes}
 use Rattle.symbol.proofs.Writing.{starts, from-start}
 
--- a buffer that begins with a frame has its bytes in front
 pub framed-bytes : (x : List Bool) (buffer : List ℕ) (n : ℕ) → n ≡ bytesFor (length x) → n ≤ length buffer → Framed x buffer → Bytes buffer → take n buffer ≡ pack x
 framed-bytes x buffer n e h framed bytes =
     let m : ℕ = bytesFor (length x) in
     let f : List ℕ = take m buffer in
     let b : Bytes f = λ k i. rw (getD-take m buffer k 0 (omega (arith, length-take-le m buffer (omega arith)))) (bytes k (omega (arith, length-take-le m buffer (omega arith)))) in
     let t : frameBits (length x) f ≡ x =
-        ap (take (length x)) (sym (take-unpack m buffer)) ∙ take-take (length x) (8 * m) (unpack buffer) (omega arith) ∙ framed .starts in
+    ap (take (length x)) (sym (take-unpack m buffer)) ∙ take-take (length x) (8 * m) (unpack buffer) (omega arith) ∙ framed .starts in
     ap (λ (k : ℕ). take k buffer) e ∙ sym (pack-frame (length x) f (framed .clean) b) ∙ ap pack t
 
 found-not : {k : ℕ} → _≡_ {A = Found} (At k) Nothing → ⊥
@@ -61,7 +60,8 @@ module _ (T : Tables) (ents sent undone out : List ℕ) (u : UndoReady T ents se
         record {
           broken = rw plain;
           written = λ _. e ∙ framed-bytes (sentBitsIn T sent) sent (length out) n plain-fits (u .framed) bytes ∙ rw plain;
-          kept = λ k z. absurd (found-not (sym z)) }
+          kept = λ k z. absurd (found-not (sym z));
+        }
 
   -- coded
   module _ (coded : T .mode ≡ Coded) where
@@ -87,7 +87,7 @@ module _ (T : Tables) (ents sent undone out : List ℕ) (u : UndoReady T ents se
         let c = length-drop (leadingZeros ents) ents in
         let t : takenTotal (pairsOf (entries (T .bits) (T .tones))) ≡ sizeOf T = sym (ap takenTotal (cs .pairs)) ∙ cs .taken in
         let w : sum (entries (T .bits) (T .tones)) ≡ sum (bitsOf (T .bits) (T .tones)) =
-            sym (total-pairsOf (entries (T .bits) (T .tones))) ∙ sym (ap sentTotal (cs .pairs)) ∙ cs .widths in
+        sym (total-pairsOf (entries (T .bits) (T .tones))) ∙ sym (ap sentTotal (cs .pairs)) ∙ cs .widths in
         rw part
         (record {
           wide = cs .entriesRange;
@@ -95,14 +95,15 @@ module _ (T : Tables) (ents sent undone out : List ℕ) (u : UndoReady T ents se
           many = omega (arith, known .tonesMost, known .tableMost);
           bits = omega (arith, known .sumMost, u .sentLength);
           small = omega (arith, u .sentLength);
-          bytes = omega (arith, known .sizeMost, u .undoneLength) })
+          bytes = omega (arith, known .sizeMost, u .undoneLength);
+        })
 
     same-reading : readPairs zeroState (pairsOf (drop (leadingZeros ents) ents)) (unpack sent) ≡ readingFrom T sent
     unfolding readingOf
     same-reading =
         let w : sentTotal (pairsIn T) ≡ sum (bitsOf (T .bits) (T .tones)) = cs .widths in
         let a : readPairs zeroState (pairsOf (drop (leadingZeros ents) ents)) (unpack sent) ≡ readPairs zeroState (pairsIn T) (sentBitsIn T sent) =
-            rw pairs-are (sym (read-take (pairsIn T) zeroState (sum (bitsOf (T .bits) (T .tones))) (unpack sent) (omega arith))) in
+        rw pairs-are (sym (read-take (pairsIn T) zeroState (sum (bitsOf (T .bits) (T .tones))) (unpack sent) (omega arith))) in
         let b : readPairs zeroState (pairsIn T) (sentBitsIn T sent) ≡ readingFrom T sent = rw coded in
         a ∙ b
 
@@ -115,7 +116,8 @@ module _ (T : Tables) (ents sent undone out : List ℕ) (u : UndoReady T ents se
           record {
             broken = sym e ∙ breaks-at;
             written = λ z. absurd (found-not z);
-            kept = λ _ _. refl }
+            kept = λ _ _. refl;
+          }
 
       size-read : (R : Reading) → readingFrom T sent ≡ R → breakIn R ≡ Nothing → length (frameIn R) ≡ sizeOf T
       unfolding readingOf
@@ -123,7 +125,7 @@ module _ (T : Tables) (ents sent undone out : List ℕ) (u : UndoReady T ents se
           let b : readPairs zeroState (pairsIn T) (sentBitsIn T sent) ≡ readingFrom T sent = rw coded in
           let d : readPairs zeroState (pairsIn T) (sentBitsIn T sent) ≡ frame g = b ∙ e in
           let l : length (sentBitsIn T sent) ≡ sentTotal (pairsIn T) =
-              length-take-le (sum (bitsOf (T .bits) (T .tones))) (unpack sent) (omega (arith, length-unpack sent, u .sentLength, known .sumMost)) ∙ sym (cs .widths) in
+          length-take-le (sum (bitsOf (T .bits) (T .tones))) (unpack sent) (omega (arith, length-unpack sent, u .sentLength, known .sumMost)) ∙ sym (cs .widths) in
           length-read (pairsIn T) zeroState (sentBitsIn T sent) g (formed-ok (pairsIn T) (cs .formed)) l d ∙ cs .taken
       size-read (breaks k) e n = absurd (found-not n)
 
@@ -134,8 +136,9 @@ module _ (T : Tables) (ents sent undone out : List ℕ) (u : UndoReady T ents se
       coded-undone same bytes none outAfter e =
           let f : Framed (frameIn (readingFrom T sent)) after = rw same-reading at (reads .framed none) in
           let n : length out ≡ bytesFor (length (frameIn (readingFrom T sent))) =
-              u .frameLength ∙ ap bytesFor (sym (size-read (readingFrom T sent) refl (sym breaks-at ∙ none))) in
+          u .frameLength ∙ ap bytesFor (sym (size-read (readingFrom T sent) refl (sym breaks-at ∙ none))) in
           record {
             broken = sym none ∙ breaks-at;
             written = λ _. e ∙ framed-bytes (frameIn (readingFrom T sent)) after (length out) n (coded-fits same) f bytes;
-            kept = λ k z. absurd (found-not (sym z)) }
+            kept = λ k z. absurd (found-not (sym z));
+          }

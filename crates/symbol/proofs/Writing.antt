@@ -1,6 +1,6 @@
 -- Writing a symbol: the bits that reach the mapper, and what the parts of the writer ask.
-use Prim.Native.Nat.{ℕ, zero, suc, _+_, _-_, _*_, _/_, _≤_, _<_}
-use mathlib.Core.Bool.{Bool, false}
+-- ---- where the entries of b' begin
+use Prim.Native.Nat.{ℕ, zero, suc, _+_, _-_, _*_, _≤_, _<_}
 use mathlib.Core.List.{List, [], _∷_, _++_, map}
 use mathlib.Core.Path.{_≡_, refl, sym, ap, _∙_}
 use native.Mathlib.Numerals.{add-one}
@@ -9,12 +9,11 @@ use lib.IntN.{ℤ}
 use lib.ListN.{length, take, drop, getD, replicate, length-replicate, length-drop, drop-of-length-le}
 use lib.Seq.{drop-at, drop-cons, take-all}
 use Rattle.frame.specs.Written.{Framed}
-use Rattle.g9932.specs.Sizes.{Tables, entry, frameBits, unpack, bytesFor, Point}
-use Rattle.g9932.specs.Refusals.{tableVerdict, frameTest}
-use Rattle.g9932.specs.Order.{sum, bitsOf, entries, entryCount, pairsOf, codedPairs, reorderedBits}
+use Rattle.g9932.specs.Sizes.{Tables, entry, frameBits, unpack, bytesFor}
+use Rattle.g9932.specs.Refusals.{tableVerdict}
+use Rattle.g9932.specs.Order.{sum, bitsOf, entries, entryCount, pairsOf, reorderedBits}
 use Rattle.g9932.specs.Trellis.{zeroState, encodePairs, sentOf}
-use Rattle.g9932.specs.Symbol.{orderOf, bitsIn, classesOf, pairsIn, sizeOf, writePoints, sentIn, writtenPoints}
-use Rattle.g9932.specs.declared.Mode.{Mode}
+use Rattle.g9932.specs.Symbol.{bitsIn, classesOf, pairsIn, sizeOf, writePoints, sentIn, writtenPoints}
 use Rattle.g9932.specs.declared.Mode.the-variants.{Uncoded, Coded}
 use Rattle.g9932.proofs.Accepted.{Accepted, AcceptedCoded, accepted-tables}
 use Rattle.g9932.proofs.Formed.{total-pairsOf}
@@ -26,8 +25,6 @@ use Rattle.guarantees.proofs.Sent.{loads-sum, size-uncoded, length-sentOf}
 use Rattle.mapper.specs.Mapping.{classesBy, MapRoom, MapsAll}
 use Rattle.trellis.specs.Coding.{Ready}
 use Rattle.symbol.specs.Encoding.{leadingZeros, SymbolReady, WritesSymbol}
-
--- ---- where the entries of b' begin
 
 module _ (l : List ℕ) (i : ℕ) (h : i < length l) (so : leadingZeros l ≡ i + leadingZeros (drop i l)) where
   pub zero-more : getD l i 0 ≡ 0 → leadingZeros l ≡ i + 1 + leadingZeros (drop (i + 1) l)
@@ -108,7 +105,8 @@ module _ (T : Tables) (f order ents : List ℕ) (xs ys : List ℤ) (sent : List 
         sourceMost = h;
         bits = rw bits-are k;
         xsLength = s .xsLength ∙ sym order-length;
-        ysLength = s .ysLength ∙ sym order-length }
+        ysLength = s .ysLength ∙ sym order-length;
+      }
 
   -- points mapped from a source that begins with the sent bits are the symbol's
   written-from : (r after : ℕ) (source : List ℕ) (xsAfter ysAfter : List ℤ) (n : ℕ) → sum (bitsOf (T .bits) (T .tones)) ≤ n → take n (unpack source) ≡ sentIn T f
@@ -116,11 +114,12 @@ module _ (T : Tables) (f order ents : List ℕ) (xs ys : List ℤ) (sent : List 
   unfolding writtenPoints
   written-from r after source xsAfter ysAfter n h e m =
       let w : writePoints r (classesBy (T .bits) (T .gains) order) (unpack source) ≡ writePoints r (classesOf T) (sentIn T f) =
-          sym (write-take r (classesBy (T .bits) (T .gains) order) n (unpack source) (rw bits-are h)) ∙ rw (e, classes-are) in
+      sym (write-take r (classesBy (T .bits) (T .gains) order) n (unpack source) (rw bits-are h)) ∙ rw (e, classes-are) in
       record {
         xsHold = m .xsHold ∙ ap (map (λ p. p .px)) w;
         ysHold = m .ysHold ∙ ap (map (λ p. p .py)) w;
-        registerIs = m .registerIs ∙ rw classes-are }
+        registerIs = m .registerIs ∙ rw classes-are;
+      }
 
   -- uncoded
   module _ (plain : T .mode ≡ Uncoded) where
@@ -177,7 +176,8 @@ module _ (T : Tables) (f order ents : List ℕ) (xs ys : List ℤ) (sent : List 
           many = entries-most;
           bits = omega arith;
           small = omega arith;
-          bytes = omega (arith, s .sentLength) })
+          bytes = omega (arith, s .sentLength);
+        })
 
     pub coded-room : (after : List ℕ) → length after ≡ length sent → MapRoom (T .bits) (T .gains) order after xs ys
     coded-room after e = let n = s .sentLength in let v = known .sumMost in room after (omega arith) (omega arith)
@@ -189,8 +189,8 @@ module _ (T : Tables) (f order ents : List ℕ) (xs ys : List ℤ) (sent : List 
         let t : takenTotal (pairsIn T) ≡ sizeOf T = cs .taken in
         let q : pairsOf (drop (leadingZeros ents) ents) ≡ pairsIn T = rw part (sym (cs .pairs)) in
         let e : encodePairs zeroState (pairsOf (drop (leadingZeros ents) ents)) (unpack f) ≡ encodePairs zeroState (pairsIn T) (frameBits (sizeOf T) f) =
-            rw q (sym (encode-take (pairsIn T) zeroState (sizeOf T) (unpack f) (omega arith))) in
+        rw q (sym (encode-take (pairsIn T) zeroState (sizeOf T) (unpack f) (omega arith))) in
         let i : encodePairs zeroState (pairsIn T) (frameBits (sizeOf T) f) ≡ sentIn T f = rw coded in
         let n : length (encodePairs zeroState (pairsOf (drop (leadingZeros ents) ents)) (unpack f)) ≡ sum (bitsOf (T .bits) (T .tones)) =
-            ap length (e ∙ i) ∙ length-sentOf T known (frameBits (sizeOf T) f) (length-frame (sizeOf T) f (s .frame)) in
+        ap length (e ∙ i) ∙ length-sentOf T known (frameBits (sizeOf T) f) (length-frame (sizeOf T) f (s .frame)) in
         written-from r next after xsAfter ysAfter (length (encodePairs zeroState (pairsOf (drop (leadingZeros ents) ents)) (unpack f))) (omega arith) (framed .starts ∙ e ∙ i) m

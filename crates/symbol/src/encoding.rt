@@ -11,7 +11,14 @@ use g9932::Mode;
 use g9932::Refusal;
 
 // Refusals 10 to 12 of encoding.
-fn encode_checks(size: usize, nsc: usize, x_len: usize, y_len: usize, frame: &[u8], register: u32) -> Checked
+fn encode_checks(
+    size: usize,
+    nsc: usize,
+    x_len: usize,
+    y_len: usize,
+    frame: &[u8],
+    register: u32,
+) -> Checked
     ensures { λ r. ⌜ verdictOf r ≡ encodeLate size nsc «x_len» «y_len» (now (frame .entry)) register ⌝ }
 {
     if x_len != nsc {
@@ -97,7 +104,19 @@ pub fn encode_through(
             match late {
                 Checked::Refused(refusal) => Answer::Refused { refusal, register },
                 Checked::Accepted(l) => {
-                    let after = write_symbol(mode, bits, gains, tones, frame, register, &order[..n], &entries[..n], xs, ys, sent);
+                    let after = write_symbol(
+                        mode,
+                        bits,
+                        gains,
+                        tones,
+                        frame,
+                        register,
+                        &order[..n],
+                        &entries[..n],
+                        xs,
+                        ys,
+                        sent,
+                    );
                     Answer::Done {
                         size: l,
                         register: after,

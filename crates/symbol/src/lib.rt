@@ -24,5 +24,52 @@ pub fn encode(
     let mut order = [0u16; 4096];
     let mut entries = [0u8; 4096];
     let mut sent = [0u8; 7688];
-    encoding::encode_through(mode, bits, gains, tones, frame, register, xs, ys, &mut order, &mut entries, &mut sent)
+    encoding::encode_through(
+        mode,
+        bits,
+        gains,
+        tones,
+        frame,
+        register,
+        xs,
+        ys,
+        &mut order,
+        &mut entries,
+        &mut sent,
+    )
+}
+
+// Reads a symbol: refusals 1 to 10 and 12, then 13 at every place, 14 at every place, and 15. Where nothing is refused, writes
+// all of the frame, and answers L and the register after the draws; else writes nothing. A call takes some 32 KiB of stack for
+// its local arrays, no heap and no global.
+pub fn read(
+    mode: Mode,
+    bits: &[u8],
+    gains: &[u16],
+    tones: &[u16],
+    xs: &[i16],
+    ys: &[i16],
+    register: u32,
+    frame: &mut [u8],
+) -> Answer
+    ensures { λ r. ⌜ Reads (tables mode (now (bits .entry)) (now (gains .entry)) (now (tones .entry))) (now (xs .entry)) (now (ys .entry)) register (now (frame .entry)) r (now (frame .exit)) ⌝ }
+{
+    let mut order = [0u16; 4096];
+    let mut entries = [0u8; 4096];
+    let mut sent = [0u8; 7688];
+    let mut undone = [0u8; 7688];
+    reading::read_through(
+        mode,
+        bits,
+        gains,
+        tones,
+        xs,
+        ys,
+        register,
+        frame,
+        &mut order,
+        &mut entries,
+        &mut sent,
+        &mut undone,
+    )
 }

@@ -1,20 +1,27 @@
 // Reading, after the tables are checked and re-ordered.
 ghost use mathlib.Core.Path.{_≡_};
 ghost use lib.ListN.{length};
-ghost use Rattle.g9932.specs.Sizes.{tables};
+ghost use Rattle.g9932.specs.Sizes.{tables, points};
 ghost use Rattle.g9932.specs.Answers.{verdictOf, Reads};
 ghost use Rattle.tables.specs.Ordered.{Arrays};
-ghost use Rattle.symbol.specs.Reading.{readLate, UndoReady, Undoes};
+ghost use Rattle.symbol.specs.Reading.{readLate, UndoReady, Undoes, PointsReady, ReadsPoints};
+use super::encoding::first_entry;
 use g9932::Answer;
 use g9932::Checked;
 use g9932::Found;
 use g9932::Mode;
 use g9932::Place;
 use g9932::Refusal;
-use super::encoding::first_entry;
 
 // Refusals 10 and 12 of reading.
-fn read_checks(size: usize, nsc: usize, x_len: usize, y_len: usize, frame_len: usize, register: u32) -> Checked
+fn read_checks(
+    size: usize,
+    nsc: usize,
+    x_len: usize,
+    y_len: usize,
+    frame_len: usize,
+    register: u32,
+) -> Checked
     ensures { λ r. ⌜ verdictOf r ≡ readLate size nsc «x_len» «y_len» «frame_len» register ⌝ }
 {
     if x_len != nsc {
@@ -59,6 +66,104 @@ fn undo_code(
                 Found::Nothing => {
                     frame::copy(undone, frame);
                     Found::Nothing
+                }
+            }
+        }
+    }
+}
+
+// Reads the points of tables in order: 13 at every place, 14 at every place, then 15; or else writes the frame.
+fn read_symbol(
+    mode: Mode,
+    bits: &[u8],
+    gains: &[u16],
+    tones: &[u16],
+    xs: &[i16],
+    ys: &[i16],
+    register: u32,
+    size: usize,
+    frame: &mut [u8],
+    order: &[u16],
+    entries: &[u8],
+    sent: &mut [u8],
+    undone: &mut [u8],
+) -> Answer
+    requires { ⌜ PointsReady (tables mode (now bits) (now gains) (now tones)) size (now xs) (now ys) (now frame) (now order) (now entries) (now sent) (now undone) ⌝ }
+    ensures { λ r. ⌜ ReadsPoints (tables mode (now (bits .entry)) (now (gains .entry)) (now (tones .entry))) (points (now (xs .entry)) (now (ys .entry))) register (now (frame .entry)) r (now (frame .exit)) ⌝ }
+{
+    let t = mapper::read::read_tones(bits, gains, order, xs, ys, register, sent);
+    let offgrid = t.offgrid;
+    let monitor = t.monitor;
+    let after = t.register;
+    let writer = t.writer;
+    if let Found::At(k) = offgrid {
+        return Answer::Refused {
+            refusal: Refusal::Offgrid(Place(k)),
+            register,
+        };
+    }
+    if let Found::At(k) = monitor {
+        return Answer::Refused {
+            refusal: Refusal::Monitor(Place(k)),
+            register,
+        };
+    }
+    writer.finish(sent);
+    let broken = undo_code(mode, bits, gains, tones, entries, sent, undone, frame);
+    match broken {
+        Found::At(k) => Answer::Refused {
+            refusal: Refusal::Trellis(k),
+            register,
+        },
+        Found::Nothing => Answer::Done {
+            size,
+            register: after,
+        },
+    }
+}
+
+// Reads through four lent arrays: t', b', the sent bits and the frame before it is known to be whole. Called by proved code only.
+pub fn read_through(
+    mode: Mode,
+    bits: &[u8],
+    gains: &[u16],
+    tones: &[u16],
+    xs: &[i16],
+    ys: &[i16],
+    register: u32,
+    frame: &mut [u8],
+    order: &mut [u16],
+    entries: &mut [u8],
+    sent: &mut [u8],
+    undone: &mut [u8],
+) -> Answer
+    requires { ⌜ Arrays (now order) (now entries) × ((length (now sent) ≡ 7688) × (length (now undone) ≡ 7688)) ⌝ }
+    ensures { λ r. ⌜ Reads (tables mode (now (bits .entry)) (now (gains .entry)) (now (tones .entry))) (now (xs .entry)) (now (ys .entry)) register (now (frame .entry)) r (now (frame .exit)) ⌝ }
+{
+    let n = tones.len();
+    let checked = tables::order_tables(mode, bits, gains, tones, order, entries);
+    match checked {
+        Checked::Refused(refusal) => Answer::Refused { refusal, register },
+        Checked::Accepted(size) => {
+            let late = read_checks(size, n, xs.len(), ys.len(), frame.len(), register);
+            match late {
+                Checked::Refused(refusal) => Answer::Refused { refusal, register },
+                Checked::Accepted(l) => {
+                    read_symbol(
+                        mode,
+                        bits,
+                        gains,
+                        tones,
+                        xs,
+                        ys,
+                        register,
+                        l,
+                        frame,
+                        &order[..n],
+                        &entries[..n],
+                        sent,
+                        undone,
+                    )
                 }
             }
         }

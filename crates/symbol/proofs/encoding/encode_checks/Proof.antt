@@ -5,10 +5,6 @@ use mathlib.Core.Path.{refl, sym, _∙_}
 use borrow.Author.Needs.{needs}
 use Rattle.symbol.proofs.encoding.encode_checks.Statement.{statement}
 use Rattle.symbol.proofs.encoding.encode_checks.Tie as tie
-use Rattle.symbol.proofs.encoding.encode_checks.Reads as reads
-use Rattle.symbol.proofs.encoding.encode_checks.Lts as lts
-use Rattle.frame.proofs.frame_refused.Reads as frame-refused-reads
-use Rattle.prbs.proofs.seed_refused.Reads as seed-refused-reads
 
 returns : tie.Need-returns
 unfolding encodeLate

@@ -3,12 +3,9 @@ use Rattle.symbol.specs.Encoding.{leadingZeros}
 use lib.ListN.{length, drop}
 use native.Mathlib.Omega.{arith}
 use Prim.Native.Nat.{_+_, _-_, _≤_}
-use mathlib.Core.Path.{_≡_, refl}
-use borrow.Author.Needs.{needs}
+use mathlib.Core.Path.{_≡_}
 use Rattle.symbol.proofs.encoding.first_entry.Statement.{statement}
 use Rattle.symbol.proofs.encoding.first_entry.Tie as tie
-use Rattle.symbol.proofs.encoding.first_entry.Reads as reads
-use Rattle.symbol.proofs.encoding.first_entry.Lts as lts
 
 abbrev Inv-loop : tie.InvT-loop
 Inv-loop entries i₀ i = (i ≤ length entries) × (leadingZeros entries ≡ i + leadingZeros (drop i entries))

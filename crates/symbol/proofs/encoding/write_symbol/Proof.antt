@@ -1,17 +1,10 @@
 use Rattle.symbol.proofs.Writing.{lent-part}
 use Rattle.symbol.proofs.Writing.{plain-room, plain-written, start-inside, coded-ready, coded-room, coded-written}
 use Rattle.g9932.specs.Sizes.{tables}
-use lib.ListN.{length-drop}
 use native.Mathlib.Omega.{arith}
-use mathlib.Core.Path.{_∙_, sym}
 use borrow.Author.Needs.{needs}
 use Rattle.symbol.proofs.encoding.write_symbol.Statement.{statement}
 use Rattle.symbol.proofs.encoding.write_symbol.Tie as tie
-use Rattle.symbol.proofs.encoding.write_symbol.Reads as reads
-use Rattle.symbol.proofs.encoding.write_symbol.Lts as lts
-use Rattle.mapper.proofs.map_tones.Reads as map-tones-reads
-use Rattle.symbol.proofs.encoding.first_entry.Reads as first-entry-reads
-use Rattle.trellis.proofs.encode_pairs.Reads as encode-pairs-reads
 
 enum-told : tie.Need-enum-told
 enum-told c = search needs

@@ -3,13 +3,10 @@ use Rattle.symbol.specs.Reading.{readLate}
 use Rattle.g9932.proofs.Verdicts.{test-here, test-past}
 use Rattle.g9932.specs.Sizes.{bytesFor}
 use native.Mathlib.Omega.{arith}
-use mathlib.Core.Path.{_≡_, refl, sym, _∙_}
+use mathlib.Core.Path.{refl, sym, _∙_}
 use borrow.Author.Needs.{needs}
 use Rattle.symbol.proofs.reading.read_checks.Statement.{statement}
 use Rattle.symbol.proofs.reading.read_checks.Tie as tie
-use Rattle.symbol.proofs.reading.read_checks.Reads as reads
-use Rattle.symbol.proofs.reading.read_checks.Lts as lts
-use Rattle.prbs.proofs.seed_refused.Reads as seed-refused-reads
 
 returns : tie.Need-returns
 unfolding readLate

@@ -2,15 +2,9 @@ use Rattle.symbol.proofs.Undoing.{plain-fits, plain-undone, read-start,
 use Rattle.symbol.proofs.Writing.{lent-part}
 use Rattle.g9932.specs.Sizes.{tables}
 use native.Mathlib.Omega.{arith}
-use mathlib.Core.Path.{_∙_, sym, refl}
 use borrow.Author.Needs.{needs}
 use Rattle.symbol.proofs.reading.undo_code.Statement.{statement}
 use Rattle.symbol.proofs.reading.undo_code.Tie as tie
-use Rattle.symbol.proofs.reading.undo_code.Reads as reads
-use Rattle.symbol.proofs.reading.undo_code.Lts as lts
-use Rattle.frame.proofs.copy.Reads as copy-reads
-use Rattle.symbol.proofs.encoding.first_entry.Reads as first-entry-reads
-use Rattle.trellis.proofs.read.read_pairs.Reads as read-pairs-reads
 
 enum-told : tie.Need-enum-told
 enum-told c = search needs
