@@ -14,7 +14,7 @@ use Rattle.g9932.specs.declared.Found.the-variants.{At, Nothing}
 use Rattle.g9932.specs.Trellis.{same}
 use Rattle.g9932.proofs.Identities.{same→eq}
 use Rattle.g9932.proofs.Search.{first-no}
-use Rattle.constellation.specs.Widened.{pairs, oddLabel, topFive, topFour, widened, wordOf}
+use Rattle.constellation.specs.Widened.{pairs, topFive, topFour, widened, wordOf}
 use Rattle.constellation.specs.Reading.{topSix, tops, sixOf, isAt, inGrid}
 use Rattle.constellation.proofs.Lanes.{twice}
 

@@ -4,14 +4,13 @@ use mathlib.Core.Bool.{Bool, true, false, _&&_, cond, true≢false, false≢true
 use mathlib.Core.List.{List, [], _∷_}
 use mathlib.Core.Option.{Option, none, some}
 use mathlib.Core.Path.{_≡_, refl, sym, ap, ap₂, _∙_}
-use native.Mathlib.Nat.{pow-suc, pow-zero, mod-eq-of-lt, mod-lt}
+use native.Mathlib.Nat.{pow-suc, mod-eq-of-lt, mod-lt}
 use native.Mathlib.Omega.{arith}
-use borrow.Author.Tests.{eqb-true, eq-eqb, ltb-true, ltb-false}
+use borrow.Author.Tests.{eqb-true, eq-eqb, ltb-true}
 use lib.Dec.{eqb, ltb}
 use lib.IntN.{ℤ}
-use lib.ListN.{length}
 use lib.Pow.{pow-pos}
-use Rattle.g9932.specs.Bits.{weight, num, bits}
+use Rattle.g9932.specs.Bits.{num, bits}
 use Rattle.g9932.specs.Sizes.{Point, point}
 use Rattle.g9932.specs.Points.{pointOf, labelOf, isLabel, labelBits}
 use Rattle.g9932.specs.Answers.{labelFound, toneDone, toneRefused}

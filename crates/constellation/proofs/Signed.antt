@@ -8,7 +8,7 @@ use borrow.Author.Tests.{le-ltb, ltb-true, ltb-false}
 use lib.Arith.{digits-mod}
 use lib.Bits.{bitAnd, and-mask}
 use lib.Dec.{T, ltb}
-use lib.IntN.{ℤ, pos, negsuc, negℤ, natAbs, subℕ, _+ℤ_, _-ℤ_, +ℤ-negℤ-cancel}
+use lib.IntN.{ℤ, pos, negsuc, natAbs, subℕ, _+ℤ_, _-ℤ_, +ℤ-negℤ-cancel}
 use lib.Pow.{pow-add}
 use lib.Signed.{mag, nonNeg}
 use mir.Syntax.{w16, w32}

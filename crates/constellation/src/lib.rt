@@ -7,7 +7,7 @@ ghost use Rattle.g9932.specs.Sizes.{point};
 ghost use Rattle.g9932.specs.Points.{pointOf, labelOf};
 ghost use Rattle.g9932.specs.Answers.{mapLabel, readPoint, mappedOf, labelledOf};
 ghost use Rattle.constellation.specs.Widened.{pairs as pairsOf, oddLabel, topFour, widened as widenedOf, xBits, yBits, woven, half as halfOf, axis as axisOf};
-ghost use Rattle.constellation.specs.Reading.{SoughtIs, Steps, Narrowed, ownLabel, inGrid};
+ghost use Rattle.constellation.specs.Reading.{SoughtIs, Steps, Narrowed, ownLabel, topSix, inGrid};
 use g9932::Labelled;
 use g9932::Mapped;
 use g9932::Place;
@@ -167,12 +167,12 @@ fn together(x: u32, y: u32) -> u32
     (ones | (ones >> 15)) & 0xffff
 }
 
-// The label with k pairs whose word this is, if it is the word of one.
-fn narrowed(k: u32, word: u32) -> u32
-    requires { ⌜ (k ≤ 6) × (word < 2 ^ (4 + 2 * k)) ⌝ }
+// The label with k pairs whose word this is, if it is the word of one; its top six bits are at hand.
+fn narrowed(k: u32, word: u32, six: u32) -> u32
+    requires { ⌜ (k ≤ 6) × (six < 64) × (six ≡ topSix k word) ⌝ }
     ensures { λ r. ⌜ Narrowed k word r ⌝ }
 {
-    let narrowing = ((NARROW >> (4 * (word >> (2 * k)))) % 16) as u32;
+    let narrowing = ((NARROW >> (4 * (six / 4))) % 16) as u32;
     word ^ (narrowing << (2 * k))
 }
 
@@ -215,8 +215,9 @@ pub fn label_of(b: u32, x: i16, y: i16) -> Sought
     let ex = cut(k, h, u);
     let ey = cut(k, h, v);
     let word = together(ex, ey);
-    let label = own_label(b, narrowed(k, word));
-    let found = in_grid(b, (4 * word) >> (2 * k)) & ((2 * ex + 65536 == u) & (2 * ey + 65536 == v));
+    let six = (4 * word) >> (2 * k);
+    let label = own_label(b, narrowed(k, word, six));
+    let found = in_grid(b, six) & ((2 * ex + 65536 == u) & (2 * ey + 65536 == v));
     Sought { found, label }
 }
 

@@ -2,7 +2,7 @@
 use native.Mathlib.Omega.{arith}
 use Prim.Native.Nat.{ℕ, _+_, _*_, _/_, _%_, _^_, _≤_, _<_}
 use mathlib.Core.Bool.{_&&_}
-use mathlib.Core.Path.{_≡_, ap, ap₂, _∙_}
+use mathlib.Core.Path.{_≡_, refl, ap, ap₂, _∙_}
 use native.Mathlib.Nat.{mod-lt}
 use lib.Dec.{eqb}
 use lib.Pow.{pow-pos}
@@ -57,22 +57,22 @@ cut-requires-2 c κs = search needs
 together-requires : tie.Need-together-requires
 together-requires c κs = (omega (arith, cuts c, sizes (c .before .before .before .before)), omega (arith, cuts c, sizes (c .before .before .before .before)))
 
+mul-six : tie.Need-mul-six
+mul-six c =
+    let k = c .before .before .before .before .before .before .pairs .result in
+    record { fits = omega (arith, word-16 k (c .together .result) (omega arith) (word c)) }
+
+mul-six-2 : tie.Need-mul-six-2
+mul-six-2 c = search needs
+
+shr-six : tie.Need-shr-six
+shr-six c = search needs
+
 narrowed-requires : tie.Need-narrowed-requires
-narrowed-requires c κs = (omega arith, word c)
+narrowed-requires c κs = (omega arith, six-lt (c .before .before .before .before .before .before .pairs .result) (c .together .result) (word c), refl)
 
 own-label-requires : tie.Need-own-label-requires
 own-label-requires c κs = search needs
-
-mul-in-grid : tie.Need-mul-in-grid
-mul-in-grid c =
-    let k = c .before .before .before .before .before .before .before .before .pairs .result in
-    record { fits = omega (arith, word-16 k (c .before .before .together .result) (omega arith) (word (c .before .before))) }
-
-mul-in-grid-2 : tie.Need-mul-in-grid-2
-mul-in-grid-2 c = search needs
-
-shr-in-grid : tie.Need-shr-in-grid
-shr-in-grid c = search needs
 
 in-grid-requires : tie.Need-in-grid-requires
 in-grid-requires c κs =
@@ -124,11 +124,11 @@ label-of-spec =
     cut-requires
     cut-requires-2
     together-requires
+    mul-six
+    mul-six-2
+    shr-six
     narrowed-requires
     own-label-requires
-    mul-in-grid
-    mul-in-grid-2
-    shr-in-grid
     in-grid-requires
     mul-found
     add-found
