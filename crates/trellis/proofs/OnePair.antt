@@ -69,5 +69,4 @@ module _ (late : Bool) (s : TrellisState) (x y : ℕ) (f : List Bool) (hx : 2 �
       record {
         next = rw (j .u1, j .u2);
         sends = rw (n, ← m) (bits-num (sentBits x u));
-        small = rw (n, ← m) (num-lt (sentBits x u));
-      }
+        small = rw (n, ← m) (num-lt (sentBits x u)) }

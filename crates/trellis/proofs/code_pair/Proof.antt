@@ -59,7 +59,7 @@ put-requires c κs =
     let hf : length f ≡ n = length-part (a .frame .now) (a .c .at) n (q .4 .bits) in
     let hi = c .before .before .before .before .before .before .inputs-of .ensures ∙ ap (inputsOf (a .late) (a .c .state)) (c .before .before .before .before .before .before .before .get .ensures ∙ ap (λ (m : ℕ). num (take m (drop (a .c .at) (unpack (a .frame .now))))) (c .before .before .before .before .before .before .before .before .taken-bits .ensures .0)) in
     let p : PairCoded (a .late) (a .c .state) (a .x) (a .y) f (c .before .before .before .before .before .before .inputs-of .result) (c .labels .result) =
-    pair-coded (a .late) (a .c .state) (a .x) (a .y) f (q .0) (q .2) hf (c .before .before .before .before .before .before .inputs-of .result) (c .before .before .before .before .before .step .result .low) (c .labels .result) hi (c .before .before .before .before .before .step .ensures .1) (c .labels .ensures) in
+        pair-coded (a .late) (a .c .state) (a .x) (a .y) f (q .0) (q .2) hf (c .before .before .before .before .before .before .inputs-of .result) (c .before .before .before .before .before .step .result .low) (c .labels .result) hi (c .before .before .before .before .before .step .ensures .1) (c .labels .ensures) in
     (omega arith, p .small, q .4 .bytes, q .4 .waits)
 
 same-length : tie.Need-same-length
@@ -74,7 +74,7 @@ returns c =
     let hf : length f ≡ n = length-part (a .frame .now) (a .c .at) n (q .4 .bits) in
     let hi = c .before .before .before .before .before .before .before .before .before .inputs-of .ensures ∙ ap (inputsOf (a .late) (a .c .state)) (c .before .before .before .before .before .before .before .before .before .before .get .ensures ∙ ap (λ (m : ℕ). num (take m (drop (a .c .at) (unpack (a .frame .now))))) (c .before .before .before .before .before .before .before .before .before .before .before .taken-bits .ensures .0)) in
     let p : PairCoded (a .late) (a .c .state) (a .x) (a .y) f (c .before .before .before .before .before .before .before .before .before .inputs-of .result) (c .before .before .before .labels .result) =
-    pair-coded (a .late) (a .c .state) (a .x) (a .y) f (q .0) (q .2) hf (c .before .before .before .before .before .before .before .before .before .inputs-of .result) (c .before .before .before .before .before .before .before .before .step .result .low) (c .before .before .before .labels .result) hi (c .before .before .before .before .before .before .before .before .step .ensures .1) (c .before .before .before .labels .ensures) in
+        pair-coded (a .late) (a .c .state) (a .x) (a .y) f (q .0) (q .2) hf (c .before .before .before .before .before .before .before .before .before .inputs-of .result) (c .before .before .before .before .before .before .before .before .step .result .low) (c .before .before .before .labels .result) hi (c .before .before .before .before .before .before .before .before .step .ensures .1) (c .before .before .before .labels .ensures) in
     record { state = c .before .before .before .before .before .before .before .before .step .ensures .0 ∙ p .next; at = omega (arith, c .before .before .before .before .before .before .before .before .before .before .before .taken-bits .ensures .0); puts = rw (p .sends) at (c .before .before .put .ensures) }
 
 pub code-pair-spec : {M : Type 1} → statement M
