@@ -1,16 +1,16 @@
 -- A word of sixteen bits taken apart into the bits of X and Y, and put together.
-use Prim.Native.Nat.{ℕ, zero, suc, _+_, _*_, _/_, _%_, _^_, _<_}
-use mathlib.Core.Bool.{Bool, true, false}
-use mathlib.Core.List.{List, [], _∷_, _++_, map}
+use Prim.Native.Nat.{ℕ, _+_, _*_, _^_, _<_}
+use mathlib.Core.Bool.{Bool}
+use mathlib.Core.List.{List, _++_, map}
 use mathlib.Core.Path.{_≡_, refl, sym, ap, _∙_}
 use native.Mathlib.Nat.{mul-zero, mod-eq-of-lt}
 use native.Mathlib.Omega.{arith}
 use lib.ListN.{length}
-use Rattle.g9932.specs.Bits.{weight, num, odd, bits}
+use Rattle.g9932.specs.Bits.{num, odd, bits}
 use Rattle.g9932.specs.Points.{evens, odds}
 use Rattle.g9932.proofs.Words.{num-bits, bits-num, length-bits, num-lt}
 use Rattle.constellation.specs.Widened.{woven, xBits, yBits}
-use Rattle.constellation.proofs.Lanes.{Slot, gap, full, worth, gaps, up-worth, gaps-worth, full-worth, Held, bits-held, squeeze, stretch, squeezed, stretched, squeeze-held, stretch-held, OfBits, of-bits}
+use Rattle.constellation.proofs.Lanes.{Slot, full, worth, gaps, up-worth, gaps-worth, full-worth, Held, bits-held, squeeze, stretch, squeezed, stretched, squeeze-held, stretch-held, OfBits, of-bits}
 
 -- the bits of Y below those of X, sixteen places apart
 abbrev halves : List Bool → List Bool → List Slot

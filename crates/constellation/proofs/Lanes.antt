@@ -7,7 +7,7 @@ use mathlib.Core.Path.{_≡_, refl, sym, ap, _∙_}
 use native.Mathlib.Nat.{mod-eq-of-lt, mul-comm, mul-assoc, one-mul, pow-suc}
 use native.Mathlib.Omega.{arith}
 use lib.Bits.{bitAnd, bitOr, and-step, or-step, and-zero-r, or-zero-r}
-use lib.ListN.{length, take, drop, replicate, length-replicate}
+use lib.ListN.{length, take, drop, replicate}
 use lib.Pow.{shl-exact}
 use Rattle.g9932.specs.Bits.{weight, num, odd, bits}
 use Rattle.g9932.proofs.Words.{half-weight, weight-le, num-bits, num-append, num-take, num-drop}

@@ -4,4 +4,5 @@ pub mod Mapping
 pub mod Sizes
 pub mod Tops
 pub mod Signed
+pub mod Grid
 pub mod Reading

@@ -4,25 +4,24 @@ use Prim.Native.Nat.{ℕ, zero, suc, _+_, _-_, _*_, _/_, _%_, _^_, _≤_, _<_}
 use mathlib.Core.Bool.{Bool, true, false, not, cond}
 use mathlib.Core.List.{List, [], _∷_}
 use mathlib.Core.Path.{_≡_, refl, sym, ap, ap₂, _∙_}
-use native.Mathlib.Nat.{pow-suc, mul-assoc, mul-comm}
-use native.Mathlib.Numerals.{add-one}
+use native.Mathlib.Nat.{pow-suc}
 use native.Mathlib.Omega.{arith}
 use borrow.Author.Tests.{eqb-true, not-false, lt-ltb, le-ltb}
-use lib.Dec.{eqb, ltb}
-use lib.IntN.{ℤ, pos, negsuc, negℤ}
-use lib.ListN.{length, getD}
+use lib.Dec.{eqb}
+use lib.IntN.{pos}
+use lib.ListN.{length}
 use lib.Pow.{shr-shr, mod-pow-add}
 use Rattle.g9932.specs.Bits.{weight, num, odd, bits, first}
 use Rattle.g9932.specs.Sizes.{point}
 use Rattle.g9932.specs.Points.{pointOf, signBit, twosComplement, evens, odds}
 use Rattle.g9932.specs.declared.Found.the-variants.{Nothing}
-use Rattle.g9932.proofs.Words.{weight-odd, num-lt, length-bits}
+use Rattle.g9932.proofs.Words.{num-lt, length-bits}
 use Rattle.g9932.proofs.Search.{first-no}
 use Rattle.g9932.proofs.Coordinates.{three, five, coords, axisBits-pos, coords-length}
 use Rattle.g9932.proofs.Constellations.{point-coords}
 use Rattle.constellation.proofs.Lanes.{twice}
 use Rattle.constellation.proofs.Sizes.{own-bits, word-lt, bits-lt, half-le}
-use Rattle.constellation.specs.Widened.{pairs, oddLabel, topFive, topFour, widened, wordOf, xBits, yBits, axis, half}
+use Rattle.constellation.specs.Widened.{pairs, topFive, topFour, widened, wordOf, xBits, yBits, axis, half}
 
 -- two functions of numbers agree below n, by a test of all of them
 pub rule : (f g : ℕ → ℕ) (n : ℕ) → first (λ k. not (eqb (f k) (g k))) n ≡ Nothing → (k : ℕ) → k < n → f k ≡ g k
@@ -62,7 +61,7 @@ axis-value k e xs h ih = go (signBit xs) refl ih
 
 -- ---- two bits more
 
-pub widened-step : (k l : ℕ) → 1 ≤ k → widened (suc k) l ≡ 4 * widened k (l / 2 / 2) + l % 4
+widened-step : (k l : ℕ) → 1 ≤ k → widened (suc k) l ≡ 4 * widened k (l / 2 / 2) + l % 4
 unfolding widened topFive
 widened-step zero l h = absurd (omega arith)
 widened-step (suc j) l h =

@@ -1,27 +1,27 @@
--- Reading a point: the bits of its coordinates leave one label, and mapping that back tells whether the constellation has the point.
+-- Reading a point: the bits of its coordinates leave one label, and the point is its own if the word and the coordinates are in the grid.
 use Prim.Native.Nat.{ℕ, zero, suc, _+_, _*_, _/_, _%_, _^_, _≤_, _<_}
 use mathlib.Core.Bool.{Bool, true, false, _&&_, cond, true≢false, false≢true, and-eq-true-iff}
 use mathlib.Core.List.{List, [], _∷_}
 use mathlib.Core.Option.{Option, none, some}
 use mathlib.Core.Path.{_≡_, refl, sym, ap, ap₂, _∙_}
-use native.Mathlib.Nat.{pow-suc, pow-zero, mod-eq-of-lt, mod-lt}
+use native.Mathlib.Nat.{pow-suc, mod-eq-of-lt, mod-lt}
 use native.Mathlib.Omega.{arith}
-use borrow.Author.Tests.{eqb-true, eq-eqb, ltb-true, ltb-false}
+use borrow.Author.Tests.{eqb-true, eq-eqb, ltb-true}
 use lib.Dec.{eqb, ltb}
 use lib.IntN.{ℤ}
-use lib.ListN.{length}
 use lib.Pow.{pow-pos}
-use Rattle.g9932.specs.Bits.{weight, num, bits}
+use Rattle.g9932.specs.Bits.{num, bits}
 use Rattle.g9932.specs.Sizes.{Point, point}
-use Rattle.g9932.specs.Points.{pointOf, labelOf, isLabel, labelBits, samePoint}
+use Rattle.g9932.specs.Points.{pointOf, labelOf, isLabel, labelBits}
 use Rattle.g9932.specs.Answers.{labelFound, toneDone, toneRefused}
 use Rattle.g9932.proofs.Words.{bits-num, num-bits, num-lt, length-bits, weight-le}
-use Rattle.g9932.proofs.Constellations.{samePoint-self, samePoint→eq}
 use Rattle.g9932.proofs.Labels.{label-point, label-back}
 use Rattle.constellation.specs.Widened.{pairs, oddLabel, wordOf, xBits, yBits, woven, half, axis}
-use Rattle.constellation.specs.Reading.{SoughtIs, Placed, Narrowed}
+use Rattle.constellation.specs.Reading.{SoughtIs, Steps, Narrowed, ownLabel, topSix, inGrid}
+use Rattle.constellation.proofs.Grid.{grid-word, word-grid}
 use Rattle.constellation.proofs.Halves.{woven-apart, apart-woven}
 use Rattle.constellation.proofs.Mapping.{point-word}
+use Rattle.constellation.proofs.Signed.{cut-steps}
 use Rattle.constellation.proofs.Sizes.{label-lt, word-lt, word-16, bits-lt, half-le}
 
 -- ---- the word of two coordinates' bits
@@ -50,66 +50,73 @@ woven-word k x y h hx hy =
 
 -- ---- the label back from the odd one
 
-label-mod : (b m : ℕ) → 1 ≤ b → m < 2 ^ b → oddLabel b m % 2 ^ b ≡ m
-label-mod b m h s = go (ltb b 2) refl
+own-label : (b m : ℕ) → 1 ≤ b → m < 2 ^ b → ownLabel b (oddLabel b m) ≡ m
+own-label b m h s = go (ltb b 2) refl
   where
-    go : (c : Bool) → ltb b 2 ≡ c → cond c (3 * m) m % 2 ^ b ≡ m
+    go : (c : Bool) → ltb b 2 ≡ c → cond c (cond c (3 * m) m % 2) (cond c (3 * m) m) ≡ m
     go true e =
         let one : b ≡ 1 = omega (arith, ltb-true b 2 e) in
         let small : m < 2 ^ 1 = rw one at s in
-        rw one (omega arith)
-    go false e = mod-eq-of-lt s
+        omega arith
+    go false e = refl
 
 -- ---- the label that is found
 
-module _ (b : ℕ) (x y : ℤ) (ex ey w n : ℕ) (low : 1 ≤ b) (high : b ≤ 15)
-    (px : Placed (half (pairs b)) x ex) (py : Placed (half (pairs b)) y ey)
-    (word : w ≡ num (woven (bits 8 ex) (bits 8 ey))) (back : Narrowed (pairs b) w n) where
+module _ (b : ℕ) (x y : ℤ) (u v w n : ℕ) (low : 1 ≤ b) (high : b ≤ 15)
+    (ux : Steps (half (pairs b)) x u) (vy : Steps (half (pairs b)) y v)
+    (word : w ≡ num (woven (bits 8 (u / 2 % half (pairs b))) (bits 8 (v / 2 % half (pairs b))))) (back : Narrowed (pairs b) w n) where
+  abbrev h : ℕ
+  h = half (pairs b)
+
+  -- its word is a label's, and its coordinates have the bits of the word
   unfoldable pub test : Bool
-  test = eqb (wordOf b (n % 2 ^ b)) w && samePoint (point (axis (half (pairs b)) ex) (axis (half (pairs b)) ey)) (point x y)
+  test = inGrid b (topSix (pairs b) w) && (eqb (2 * (u / 2 % h) + 65536) u && eqb (2 * (v / 2 % h) + 65536) v)
 
   few : pairs b ≤ 6
   few = omega arith
 
-  -- mapped back to the point, it is the point's label
-  kept : test ≡ true → labelOf b (point x y) ≡ some (bits b (n % 2 ^ b))
+  -- the point is that of the label left
+  kept : test ≡ true → labelOf b (point x y) ≡ some (bits b (ownLabel b n))
   unfolding test
   kept e =
-      let a = and-eq-true-iff (eqb (wordOf b (n % 2 ^ b)) w) (samePoint (point (axis (half (pairs b)) ex) (axis (half (pairs b)) ey)) (point x y)) .0 e in
-      let f : wordOf b (n % 2 ^ b) ≡ num (woven (bits 8 ex) (bits 8 ey)) = eqb-true (wordOf b (n % 2 ^ b)) w (a .0) ∙ word in
-      let g = samePoint→eq (point (axis (half (pairs b)) ex) (axis (half (pairs b)) ey)) (point x y) (a .1) in
+      let a = and-eq-true-iff (inGrid b (topSix (pairs b) w)) (eqb (2 * (u / 2 % h) + 65536) u && eqb (2 * (v / 2 % h) + 65536) v) .0 e in
+      let c = and-eq-true-iff (eqb (2 * (u / 2 % h) + 65536) u) (eqb (2 * (v / 2 % h) + 65536) v) .0 (a .1) in
+      let gx : x ≡ axis h (u / 2 % h) = ux .back (u / 2 % h) (sym (eqb-true (2 * (u / 2 % h) + 65536) u (c .0))) in
+      let gy : y ≡ axis h (v / 2 % h) = vy .back (v / 2 % h) (sym (eqb-true (2 * (v / 2 % h) + 65536) v (c .1))) in
+      let g = grid-word b w (a .0) in
+      let m = g .0 in
+      let own : ownLabel b n ≡ m = ap (ownLabel b) (back (oddLabel b m) (label-lt b m low (g .1)) (sym (g .2))) ∙ own-label b m low (g .1) in
       let l = half-le (pairs b) few in
-      let parts = apart-woven ex ey (omega (arith, px .small)) (omega (arith, py .small)) in
-      let fx : xBits (wordOf b (n % 2 ^ b)) ≡ ex = ap xBits f ∙ parts .0 in
-      let fy : yBits (wordOf b (n % 2 ^ b)) ≡ ey = ap yBits f ∙ parts .1 in
-      let p = point-word b (n % 2 ^ b) low high (mod-lt n (pow-pos b)) in
-      let q : pointOf b (bits b (n % 2 ^ b)) ≡ point x y = p ∙ ap₂ (λ (i j : ℕ). point (axis (half (pairs b)) i) (axis (half (pairs b)) j)) fx fy ∙ g in
-      rw q at (label-point b (bits b (n % 2 ^ b)) (length-bits b (n % 2 ^ b)))
+      let z : 0 < h = omega (arith, pow-pos (pairs b)) in
+      let parts = apart-woven (u / 2 % h) (v / 2 % h) (omega (arith, mod-lt (u / 2) z)) (omega (arith, mod-lt (v / 2) z)) in
+      let fx : xBits (wordOf b m) ≡ u / 2 % h = ap xBits (g .2 ∙ word) ∙ parts .0 in
+      let fy : yBits (wordOf b m) ≡ v / 2 % h = ap yBits (g .2 ∙ word) ∙ parts .1 in
+      let q : pointOf b (bits b m) ≡ point x y = point-word b m low high (g .1) ∙ ap₂ point (ap (axis h) fx ∙ sym gx) (ap (axis h) fy ∙ sym gy) in
+      rw own (rw q at (label-point b (bits b m) (length-bits b m)))
 
   -- a point's label is found
-  found : isLabel (labelOf b (point x y)) ≡ true → (test ≡ true) × (n % 2 ^ b ≡ num (labelBits (labelOf b (point x y))))
+  found : isLabel (labelOf b (point x y)) ≡ true → (test ≡ true) × (ownLabel b n ≡ num (labelBits (labelOf b (point x y))))
   unfolding test
   found e =
-      let v = labelBits (labelOf b (point x y)) in
-      let m = num v in
+      let m = num (labelBits (labelOf b (point x y))) in
       let r = label-back b (point x y) e in
-      let s : m < 2 ^ b = rw (r .0) at (num-lt v) in
-      let same : bits b m ≡ v = rw (r .0) at (bits-num v) in
+      let s : m < 2 ^ b = rw (r .0) at (num-lt (labelBits (labelOf b (point x y)))) in
+      let same : bits b m ≡ labelBits (labelOf b (point x y)) = rw (r .0) at (bits-num (labelBits (labelOf b (point x y)))) in
       let p = sym (r .1) ∙ ap (pointOf b) (sym same) ∙ point-word b m low high s in
       let t = word-lt b m low s in
-      let u = bits-lt (pairs b) (wordOf b m) few t in
-      let fx : ex ≡ xBits (wordOf b m) = px .only (xBits (wordOf b m)) (u .0) (ap (λ (q : Point). q .px) p) in
-      let fy : ey ≡ yBits (wordOf b m) = py .only (yBits (wordOf b m)) (u .1) (ap (λ (q : Point). q .py) p) in
+      let a = bits-lt (pairs b) (wordOf b m) few t in
+      let gx : u ≡ 2 * xBits (wordOf b m) + 65536 = ux .to (xBits (wordOf b m)) (ap (λ (q : Point). q .px) p) in
+      let gy : v ≡ 2 * yBits (wordOf b m) + 65536 = vy .to (yBits (wordOf b m)) (ap (λ (q : Point). q .py) p) in
+      let fx : u / 2 % h ≡ xBits (wordOf b m) = ap (λ (i : ℕ). i / 2 % h) gx ∙ cut-steps (pairs b) (xBits (wordOf b m)) few (a .0) in
+      let fy : v / 2 % h ≡ yBits (wordOf b m) = ap (λ (i : ℕ). i / 2 % h) gy ∙ cut-steps (pairs b) (yBits (wordOf b m)) few (a .1) in
       let fw : w ≡ wordOf b m = word ∙ rw (fx, fy) (woven-apart (wordOf b m) (word-16 (pairs b) (wordOf b m) few t)) in
-      let fl : n % 2 ^ b ≡ m = ap (λ (i : ℕ). i % 2 ^ b) (back (oddLabel b m) (label-lt b m low s) fw) ∙ label-mod b m low s in
-      let g : eqb (wordOf b (n % 2 ^ b)) w ≡ true = eq-eqb (wordOf b (n % 2 ^ b)) w (ap (wordOf b) fl ∙ sym fw) in
-      let q : point x y ≡ point (axis (half (pairs b)) ex) (axis (half (pairs b)) ey) =
-      p ∙ ap₂ (λ (i j : ℕ). point (axis (half (pairs b)) i) (axis (half (pairs b)) j)) (sym fx) (sym fy) in
-      let o : Point = point (axis (half (pairs b)) ex) (axis (half (pairs b)) ey) in
-      let h : samePoint o (point x y) ≡ true = ap (samePoint o) q ∙ samePoint-self o in
-      (and-eq-true-iff (eqb (wordOf b (n % 2 ^ b)) w) (samePoint o (point x y)) .1 (g, h), fl)
+      let fl : ownLabel b n ≡ m = ap (ownLabel b) (back (oddLabel b m) (label-lt b m low s) fw) ∙ own-label b m low s in
+      let g : inGrid b (topSix (pairs b) w) ≡ true = ap (λ (i : ℕ). inGrid b (topSix (pairs b) i)) fw ∙ word-grid b m s in
+      let tx = eq-eqb (2 * (u / 2 % h) + 65536) u (rw fx (sym gx)) in
+      let ty = eq-eqb (2 * (v / 2 % h) + 65536) v (rw fy (sym gy)) in
+      (rw (g, tx, ty), fl)
 
-  pub sought-law : (f : Bool) (l : ℕ) → f ≡ test → l ≡ n % 2 ^ b → SoughtIs (record { found = f; label = l }) (labelOf b (point x y))
+  pub sought-law : (f : Bool) (l : ℕ) → f ≡ test → l ≡ ownLabel b n → SoughtIs (record { found = f; label = l }) (labelOf b (point x y))
   sought-law f l g e = record { found = g ∙ go test (isLabel (labelOf b (point x y))) refl refl; label = λ i. e ∙ found i .1 }
     where
       go : (t i : Bool) → test ≡ t → isLabel (labelOf b (point x y)) ≡ i → test ≡ isLabel (labelOf b (point x y))

@@ -4,19 +4,18 @@ use mathlib.Core.Bool.{Bool, true, false, cond}
 use mathlib.Core.Path.{_≡_, refl, sym, ap, _∙_}
 use native.Mathlib.Nat.{pow-suc}
 use native.Mathlib.Omega.{arith}
-use borrow.Author.Tests.{lt-ltb, le-ltb, ltb-true, ltb-false, eqb-true, eqb-false, eq-eqb, ne-eqb}
+use borrow.Author.Tests.{le-ltb, ltb-true, ltb-false}
 use lib.Arith.{digits-mod}
-use lib.Bits.{bitAnd, and-mask, mask-lt}
-use lib.Dec.{T, ltb, eqb}
-use lib.IntN.{ℤ, pos, negsuc, negℤ, natAbs, subℕ, _+ℤ_, _-ℤ_}
+use lib.Bits.{bitAnd, and-mask}
+use lib.Dec.{T, ltb}
+use lib.IntN.{ℤ, pos, negsuc, natAbs, subℕ, _+ℤ_, _-ℤ_, +ℤ-negℤ-cancel}
 use lib.Pow.{pow-add}
 use lib.Signed.{mag, nonNeg}
 use mir.Syntax.{w16, w32}
 use mir.Val.{Fits, SFits, toZ, ofZ}
 use mir.ValLaws.{toZ-pos, toZ-ofZ}
-use Rattle.g9932.specs.Points.{sameInt}
 use Rattle.constellation.specs.Widened.{half, axis}
-use Rattle.constellation.specs.Reading.{Placed}
+use Rattle.constellation.specs.Reading.{Steps}
 
 -- ---- a coordinate of its bits
 
@@ -53,6 +52,7 @@ pub record RaisedIs (z : ℤ) : Type 0 where
   pub narrow : SFits w32 (toZ w16 (ofZ w16 z))
   pub sum : SFits w32 (wide z +ℤ pos 65535)
   pub cast : T (nonNeg (raised z)) × Fits w32 (natAbs (raised z))
+  pub small : natAbs (raised z) < 98304
   pub is : pos (natAbs (raised z)) ≡ z +ℤ pos 65535
 
 pub raised-law : (z : ℤ) → SFits w16 z → RaisedIs z
@@ -61,6 +61,7 @@ raised-law z f =
       narrow = rw n (record { sfits = omega arith });
       sum = rw w s;
       cast = rw (w, r) (rw (← p .0) tt, record { fits = omega (arith, p .1) });
+      small = rw (w, r) (p .1);
       is = rw (w, r) (p .0);
     }
   where
@@ -79,53 +80,49 @@ raised-law z f =
     r : toZ w32 (ofZ w32 (z +ℤ pos 65535)) ≡ z +ℤ pos 65535
     r = toZ-ofZ w32 (z +ℤ pos 65535) s
 
-pub raised-lt : (z : ℤ) (r : ℕ) → SFits w16 z → pos r ≡ z +ℤ pos 65535 → r < 98304
-raised-lt z r f e = let p = raised-pos z (omega arith) in rw (← e) at (p .1)
+axis-raised : (h d : ℕ) → h ≤ 256 → axis h d +ℤ pos 65535 ≡ pos (2 * d + 65536 - h)
+axis-raised h d p = go (ltb (2 * d + 1) h) refl
+  where
+    go : (c : Bool) → ltb (2 * d + 1) h ≡ c → cond c (negsuc (h - suc (2 * d + 1))) (pos (2 * d + 1 - h)) +ℤ pos 65535 ≡ pos (2 * d + 65536 - h)
+    go true t =
+        let l = ltb-true (2 * d + 1) h t in
+        let n : 65535 - suc (h - suc (2 * d + 1)) ≡ 2 * d + 65536 - h = omega arith in
+        rw (le-ltb 65535 (suc (h - suc (2 * d + 1))) (omega arith)) (ap pos n)
+    go false t =
+        let l = ltb-false (2 * d + 1) h t in
+        let n : 2 * d + 1 - h + 65535 ≡ 2 * d + 65536 - h = omega arith in
+        ap pos n
 
-pub raised-axis : (h d r : ℕ) → h ≤ 256 → pos r ≡ axis h d +ℤ pos 65535 → r + h ≡ 2 * d + 65536
-raised-axis h d r p e = go (ltb (2 * d + 1) h) refl e
+pub steps-law : (h r : ℕ) (z : ℤ) → h ≤ 256 → pos r ≡ z +ℤ pos 65535 → Steps h z (r + h)
+steps-law h r z p e =
+    record {
+      to = λ d g.
+          let n = of-pos r (2 * d + 65536 - h) (e ∙ ap (λ (y : ℤ). y +ℤ pos 65535) g ∙ axis-raised h d p) in
+          omega arith;
+      back = λ d g.
+          let n : 2 * d + 65536 - h ≡ r = omega arith in
+          let w : z +ℤ pos 65535 ≡ axis h d +ℤ pos 65535 = sym (axis-raised h d p ∙ ap pos n ∙ e) in
+          sym (+ℤ-negℤ-cancel z (pos 65535)) ∙ ap (λ (y : ℤ). y -ℤ pos 65535) w ∙ +ℤ-negℤ-cancel (axis h d) (pos 65535);
+    }
   where
     of-pos : (a b : ℕ) → pos a ≡ pos b → a ≡ b
     of-pos a b f = cc
 
-    go : (c : Bool) → ltb (2 * d + 1) h ≡ c → pos r ≡ cond c (negsuc (h - suc (2 * d + 1))) (pos (2 * d + 1 - h)) +ℤ pos 65535 → r + h ≡ 2 * d + 65536
-    go true t f =
-        let l = ltb-true (2 * d + 1) h t in
-        let g : pos r ≡ pos (65535 - suc (h - suc (2 * d + 1))) = rw (le-ltb 65535 (suc (h - suc (2 * d + 1))) (omega arith)) at f in
-        omega (arith, of-pos r (65535 - suc (h - suc (2 * d + 1))) g)
-    go false t f = omega (arith, ltb-false (2 * d + 1) h t, of-pos r (2 * d + 1 - h + 65535) f)
+-- ---- the steps cut to the width
 
 half-pow : (k : ℕ) → half k ≡ 2 ^ suc (suc k)
 half-pow k = omega (arith, pow-suc 2 (suc k), pow-suc 2 k)
 
-pub placed-law : (k h r : ℕ) (z : ℤ) → k ≤ 6 → h ≡ half k → h ≤ 256 → pos r ≡ z +ℤ pos 65535 → Placed h z (bitAnd ((r + h) / 2) (h - 1))
-placed-law k h r z l e p f =
-    record {
-      small = rw w (mask-lt ((r + 2 ^ suc (suc k)) / 2) (suc (suc k)));
-      only = λ d s g.
-          let t = raised-axis h d r p (f ∙ ap (λ (y : ℤ). y +ℤ pos 65535) g) in
-          let u : (r + h) / 2 ≡ 2 ^ (13 - k) * 2 ^ suc (suc k) + d = omega (arith, all) in
-          ap (λ (x : ℕ). bitAnd x (h - 1)) u ∙ ap (λ (x : ℕ). bitAnd (2 ^ (13 - k) * 2 ^ suc (suc k) + d) (x - 1)) w
-          ∙ and-mask (2 ^ (13 - k) * 2 ^ suc (suc k) + d) (suc (suc k)) ∙ digits-mod (2 ^ (13 - k)) (omega (arith, w));
-    }
+pub cut-law : (k h n : ℕ) → h ≡ half k → bitAnd n (h - 1) ≡ n % h
+cut-law k h n e = rw (e ∙ half-pow k) (and-mask n (suc (suc k)))
+
+pub cut-steps : (k d : ℕ) → k ≤ 6 → d < half k → (2 * d + 65536) / 2 % half k ≡ d
+cut-steps k d l s =
+    let u : (2 * d + 65536) / 2 ≡ 2 ^ (13 - k) * 2 ^ suc (suc k) + d = omega (arith, all) in
+    rw (u, half-pow k) (digits-mod (2 ^ (13 - k)) (omega (arith, half-pow k)))
   where
-    w : h ≡ 2 ^ suc (suc k)
-    w = e ∙ half-pow k
+    fifteen : 13 - k + suc (suc k) ≡ 15
+    fifteen = omega arith
 
     all : 2 ^ (13 - k) * 2 ^ suc (suc k) ≡ 32768
     all = sym (pow-add 2 (13 - k) (suc (suc k))) ∙ ap (λ (n : ℕ). 2 ^ n) fifteen
-      where
-        fifteen : 13 - k + suc (suc k) ≡ 15
-        fifteen = omega arith
-
--- ---- two coordinates are the same when their bits are
-
-pub same-law : (a b : ℤ) → SFits w16 a → SFits w16 b → eqb (ofZ w16 a) (ofZ w16 b) ≡ sameInt a b
-same-law (pos m) (pos n) p q = refl
-same-law (pos m) (negsuc n) p q = ne-eqb m (65536 - suc n) (λ e. omega arith)
-same-law (negsuc m) (pos n) p q = ne-eqb (65536 - suc m) n (λ e. omega arith)
-same-law (negsuc m) (negsuc n) p q = go (eqb m n) refl
-  where
-    go : (c : Bool) → eqb m n ≡ c → eqb (65536 - suc m) (65536 - suc n) ≡ eqb m n
-    go true e = eq-eqb (65536 - suc m) (65536 - suc n) (ap (λ (i : ℕ). 65536 - suc i) (eqb-true m n e)) ∙ sym e
-    go false e = ne-eqb (65536 - suc m) (65536 - suc n) (λ f. eqb-false m n e (omega arith)) ∙ sym e

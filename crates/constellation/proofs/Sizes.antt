@@ -1,17 +1,15 @@
 -- How large the parts of a word are.
-use Prim.Native.Nat.{ℕ, zero, suc, _+_, _-_, _*_, _/_, _%_, _^_, _≤_, _<_}
+use Prim.Native.Nat.{ℕ, zero, suc, _+_, _-_, _*_, _/_, _^_, _≤_, _<_}
 use mathlib.Core.Bool.{Bool, true, false, cond}
-use mathlib.Core.List.{List, [], _∷_}
-use mathlib.Core.Path.{_≡_, refl, sym, ap, _∙_}
+use mathlib.Core.Path.{_≡_, refl}
 use native.Mathlib.Nat.{pow-suc, zero-add, suc-add, lt-of-lt-of-le, mod-lt}
 use native.Mathlib.Omega.{arith}
 use borrow.Author.Tests.{leb-false, ltb-true, ltb-false}
 use lib.Arith.{digits-lt}
 use lib.Dec.{ltb, leb}
 use lib.Pow.{pow-pos, pow-mono, pow-add, shr-lt}
-use Rattle.g9932.specs.Bits.{weight, num, odd, bits, first}
+use Rattle.g9932.specs.Bits.{num, odd, bits, first}
 use Rattle.g9932.specs.Points.{evens, odds}
-use Rattle.g9932.specs.declared.Found.the-variants.{Nothing}
 use Rattle.g9932.proofs.Words.{weight-odd, weight-le}
 use Rattle.g9932.proofs.Search.{first-no}
 use Rattle.constellation.specs.Widened.{pairs, oddLabel, topFive, topFour, widened, wordOf, half, xBits, yBits}
@@ -27,7 +25,7 @@ pub four-lt : (q : ℕ) → q < 32 → topFour q < 16
 unfolding first topFour
 four-lt q h = leb-false 16 (topFour q) (first-no (λ q. leb 16 (topFour q)) 32 refl q h)
 
-pub widened-lt : (k l : ℕ) → l < 2 ^ (2 * k + 3) → widened k l < 2 ^ (4 + 2 * k)
+widened-lt : (k l : ℕ) → l < 2 ^ (2 * k + 3) → widened k l < 2 ^ (4 + 2 * k)
 unfolding widened
 widened-lt k l h =
     rw (pow-add 2 4 (2 * k)) (digits-lt {m = 16} (four-lt (topFive k l) (five-lt k l h)) (mod-lt l (pow-pos (2 * k))))

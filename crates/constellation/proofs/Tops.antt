@@ -2,7 +2,7 @@
 use Prim.Native.Nat.{ℕ, zero, suc, _+_, _-_, _*_, _/_, _%_, _^_, _≤_, _<_}
 use mathlib.Core.Bool.{not}
 use mathlib.Core.Path.{_≡_, refl, sym, ap, ap₂, _∙_}
-use native.Mathlib.Nat.{add-zero, div-one, pow-zero, mod-lt}
+use native.Mathlib.Nat.{add-zero, add-comm, mod-lt}
 use native.Mathlib.Omega.{arith}
 use lib.Bits.{bitXor, xor-block, xor-zero-r, xor-lt}
 use lib.Dec.{eqb}
@@ -10,7 +10,7 @@ use lib.Pow.{pow-pos, split, high, low, shr-shr, shl-exact}
 use Rattle.g9932.specs.Bits.{first}
 use Rattle.g9932.specs.declared.Found.the-variants.{Nothing}
 use Rattle.constellation.specs.Widened.{topFive, topFour, widened}
-use Rattle.constellation.specs.Reading.{Narrowed}
+use Rattle.constellation.specs.Reading.{Narrowed, topSix}
 use Rattle.constellation.proofs.Mapping.{rule}
 use Rattle.constellation.proofs.Sizes.{five-lt, four-lt}
 
@@ -50,17 +50,23 @@ widened-law k l d h s e =
     let t : d < 16 = rw e (xor-lt 4 (topFive k l / 4) (topFour (topFive k l)) (omega arith) (four-lt (topFive k l) q)) in
     rw (xor-shl k l d h t, ← three-law k l, e, xor-twice (topFive k l) q)
 
+-- the top four of a word's top six
+six-four : (k w : ℕ) → topSix k w / 4 ≡ w / 2 ^ (2 * k)
+six-four k w =
+    let f : 4 * w / 4 ≡ w = omega arith in
+    shr-shr (4 * w) (2 * k) 2 ∙ ap (λ (n : ℕ). 4 * w / 2 ^ n) (add-comm (2 * k) 2) ∙ sym (shr-shr (4 * w) 2 (2 * k)) ∙ ap (λ (n : ℕ). n / 2 ^ (2 * k)) f
+
 -- a table by the top four bits gives the top three back
 pub narrowed-law : (table : ℕ) → first (λ q. not (eqb (bitXor (topFour q) (table / 2 ^ (4 * topFour q) % 16)) (q / 4))) 32 ≡ Nothing
-    → (k w : ℕ) → k ≤ 6 → Narrowed k w (bitXor w (table / 2 ^ (4 * (w / 2 ^ (2 * k))) % 16 * 2 ^ (2 * k) % 2 ^ 32))
+    → (k w s : ℕ) → k ≤ 6 → s ≡ topSix k w → Narrowed k w (bitXor w (table / 2 ^ (4 * (s / 4)) % 16 * 2 ^ (2 * k) % 2 ^ 32))
 unfolding widened
-narrowed-law table test k w h m s e =
-    let q = five-lt k m s in
+narrowed-law table test k w s h six m l e =
+    let q = five-lt k m l in
     let r = mod-lt m (pow-pos (2 * k)) in
     let hi : w / 2 ^ (2 * k) ≡ topFour (topFive k m) = rw e (high (topFour (topFive k m)) (2 * k) r) in
     let lo : w % 2 ^ (2 * k) ≡ m % 2 ^ (2 * k) = rw e (low (topFour (topFive k m)) (2 * k) r) in
     let n = rule (λ q. bitXor (topFour q) (table / 2 ^ (4 * topFour q) % 16)) (λ q. q / 4) 32 test (topFive k m) q in
-    rw (hi, xor-shl k w (table / 2 ^ (4 * topFour (topFive k m)) % 16) h (omega arith), hi, lo, n, three-law k m) (split m (2 * k))
+    rw (six, six-four k w, hi, xor-shl k w (table / 2 ^ (4 * topFour (topFive k m)) % 16) h (omega arith), hi, lo, n, three-law k m) (split m (2 * k))
 
 -- a table of sixteen entries agrees with Table 10-3 from an entry on
 pub table-law : (table from q : ℕ) → from + q % 16 ≡ q

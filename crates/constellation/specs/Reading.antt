@@ -1,13 +1,16 @@
 -- What reading a point finds.
-use mathlib.Core.Bool.{Bool, true}
+use mathlib.Core.Bool.{Bool, true, false, cond}
 use mathlib.Core.List.{List}
 use mathlib.Core.Option.{Option}
 use mathlib.Core.Path.{_≡_}
-use Prim.Native.Nat.{ℕ, _+_, _*_, _^_, _<_}
+use Prim.Native.Nat.{ℕ, _+_, _*_, _/_, _%_, _^_, _<_}
+use lib.Dec.{eqb, ltb}
 use lib.IntN.{ℤ}
-use Rattle.g9932.specs.Bits.{num}
+use Rattle.g9932.specs.Bits.{num, first}
 use Rattle.g9932.specs.Points.{isLabel, labelBits}
-use Rattle.constellation.specs.Widened.{axis, widened}
+use Rattle.g9932.specs.declared.Found.{Found}
+use Rattle.g9932.specs.declared.Found.the-variants.{At, Nothing}
+use Rattle.constellation.specs.Widened.{axis, topFour, widened, wordOf}
 use Rattle.constellation.specs.declared.Sought.{Sought}
 
 -- whether there is a label, and its number where there is one
@@ -15,11 +18,36 @@ pub record SoughtIs (r : Sought) (o : Option (List Bool)) : Type 0 where
   pub found : r .found ≡ isLabel o
   pub label : isLabel o ≡ true → r .label ≡ num (labelBits o)
 
--- e is the only number that can be the bits of the coordinate z
-pub record Placed (h : ℕ) (z : ℤ) (e : ℕ) : Type 0 where
-  pub small : e < h
-  pub only : (d : ℕ) → d < h → z ≡ axis h d → e ≡ d
+-- the bits of a coordinate as steps of 2 from the left end, above 65,536
+pub record Steps (h : ℕ) (z : ℤ) (u : ℕ) : Type 0 where
+  pub to : (d : ℕ) → z ≡ axis h d → u ≡ 2 * d + 65536
+  pub back : (d : ℕ) → u ≡ 2 * d + 65536 → z ≡ axis h d
 
 -- l is the only label with k pairs whose word can be w
 abbrev pub Narrowed : ℕ → ℕ → ℕ → Type 0
 Narrowed k w l = (m : ℕ) → m < 2 ^ (2 * k + 3) → w ≡ widened k m → l ≡ m
+
+-- the label of b bits, from the odd one
+abbrev pub ownLabel : ℕ → ℕ → ℕ
+ownLabel b l = cond (ltb b 2) (l % 2) l
+
+-- ---- which words are those of labels of b bits
+
+-- the top six bits of a word with k pairs; where it has four bits only, zeros stand below them
+abbrev pub topSix : ℕ → ℕ → ℕ
+topSix k w = 4 * w / 2 ^ (2 * k)
+
+-- how many top fives the labels have, or how many labels there are where b is at most 3; and the top six of their words
+abbrev pub tops : ℕ → ℕ
+tops b = cond (ltb b 4) (2 ^ b) (cond (eqb (b % 2) 0) 16 32)
+
+abbrev pub sixOf : ℕ → ℕ → ℕ
+sixOf b q = cond (ltb b 4) (4 * wordOf b q) (4 * topFour q + q % 4)
+
+abbrev pub isAt : Found → Bool
+isAt (At k) = true
+isAt Nothing = false
+
+-- some label's word has these top six bits
+unfoldable pub inGrid : ℕ → ℕ → Bool
+inGrid b s = isAt (first (λ q. eqb (sixOf b q) s) (tops b))

@@ -24,7 +24,7 @@ topFive zero l = 4 * l + (3 - l % 4)
 topFive (suc j) l = l / 2 ^ (2 * j)
 
 -- Table 10-3 by the top five bits, in turn: Xc Yc Xd Yd, Xc and Yc complemented
-abbrev pub crossed : ℕ → ℕ
+abbrev crossed : ℕ → ℕ
 crossed t = 8 * (1 - t / 8) + 4 * (1 - t / 2 % 2) + 2 * (t / 4 % 2) + t % 2
 
 unfoldable pub topFour : ℕ → ℕ

@@ -2,13 +2,12 @@
 ghost use mathlib.Core.Path.{_≡_};
 ghost use Prim.Native.Nat.{_+_, _*_, _/_, _%_, _^_, _<_, _≤_};
 ghost use lib.Bits.{bitXor};
-ghost use lib.IntN.{pos, _+ℤ_};
 ghost use Rattle.g9932.specs.Bits.{bits as bitsOf, num};
 ghost use Rattle.g9932.specs.Sizes.{point};
-ghost use Rattle.g9932.specs.Points.{pointOf, labelOf, sameInt};
+ghost use Rattle.g9932.specs.Points.{pointOf, labelOf};
 ghost use Rattle.g9932.specs.Answers.{mapLabel, readPoint, mappedOf, labelledOf};
 ghost use Rattle.constellation.specs.Widened.{pairs as pairsOf, oddLabel, topFour, widened as widenedOf, xBits, yBits, woven, half as halfOf, axis as axisOf};
-ghost use Rattle.constellation.specs.Reading.{SoughtIs, Placed, Narrowed};
+ghost use Rattle.constellation.specs.Reading.{SoughtIs, Steps, Narrowed, ownLabel, topSix, inGrid};
 use g9932::Labelled;
 use g9932::Mapped;
 use g9932::Place;
@@ -22,6 +21,16 @@ const WIDEN_HIGH: u64 = 0x66cc_4141_d8d8_00aa;
 
 // The same by Xc Yc Xd Yd.
 const NARROW: u64 = 0x0a8c_c08d_1400_0460;
+
+// The top six bits of the words of labels, a bit for each six: an even b, b = 1, b = 3, an odd b from 5. The words of up to
+// three bits have four bits, and zeros below them.
+const EVEN_GRID: u64 = 0x000f_00f0_0f00_f000;
+
+const ONE_GRID: u64 = 0x0001_0000_0000_1000;
+
+const THREE_GRID: u64 = 0x0011_1010_0101_1100;
+
+const ODD_GRID: u64 = 0x035f_30fa_5f0c_fac0;
 
 // The coordinates of a point.
 pub struct Coordinates {
@@ -130,19 +139,20 @@ pub fn map_label(bits: u8, label: u32) -> Mapped
     Mapped::Point { x: c.x, y: c.y }
 }
 
-// A coordinate and 65,535.
-fn raised(z: i16) -> u32
-    ensures { λ r. ⌜ pos r ≡ z +ℤ pos 65535 ⌝ }
+// A coordinate as steps of 2 from the left end, above 65,536.
+fn steps(half: u32, z: i16) -> u32
+    requires { ⌜ half ≤ 256 ⌝ }
+    ensures { λ r. ⌜ Steps half z r ⌝ }
 {
-    (z as i32 + 65535) as u32
+    (z as i32 + 65535) as u32 + half
 }
 
-// The bits of a coordinate, if it has such bits: its own cut to the width.
-fn place(k: u32, half: u32, z: i16) -> u32
-    requires { ⌜ (k ≤ 6) × (half ≡ halfOf k) ⌝ }
-    ensures { λ r. ⌜ Placed half z r ⌝ }
+// The bits of a coordinate in its steps.
+fn cut(k: u32, half: u32, steps: u32) -> u32
+    requires { ⌜ half ≡ halfOf k ⌝ }
+    ensures { λ r. ⌜ r ≡ steps / 2 % half ⌝ }
 {
-    ((raised(z) + half) / 2) & (half - 1)
+    (steps / 2) & (half - 1)
 }
 
 // The word whose bits of X and Y these are.
@@ -157,28 +167,40 @@ fn together(x: u32, y: u32) -> u32
     (ones | (ones >> 15)) & 0xffff
 }
 
-// The label with k pairs whose word this is, if it is the word of one.
-fn narrowed(k: u32, word: u32) -> u32
-    requires { ⌜ (k ≤ 6) × (word < 2 ^ (4 + 2 * k)) ⌝ }
+// The label with k pairs whose word this is, if it is the word of one; its top six bits are at hand.
+fn narrowed(k: u32, word: u32, six: u32) -> u32
+    requires { ⌜ (k ≤ 6) × (six < 64) × (six ≡ topSix k word) ⌝ }
     ensures { λ r. ⌜ Narrowed k word r ⌝ }
 {
-    let narrowing = ((NARROW >> (4 * (word >> (2 * k)))) % 16) as u32;
+    let narrowing = ((NARROW >> (4 * (six / 4))) % 16) as u32;
     word ^ (narrowing << (2 * k))
 }
 
-// The n lowest bits of a value.
-fn lowest(value: u32, n: u32) -> u32
-    requires { ⌜ n < 32 ⌝ }
-    ensures { λ r. ⌜ r ≡ value % 2 ^ n ⌝ }
+// The label of b bits, from the odd one.
+fn own_label(b: u32, label: u32) -> u32
+    ensures { λ r. ⌜ r ≡ ownLabel b label ⌝ }
 {
-    value & ((1u32 << n) - 1)
+    if b < 2 {
+        return label % 2;
+    }
+    label
 }
 
-// Whether two coordinates are the same.
-fn same(a: i16, b: i16) -> bool
-    ensures { λ r. ⌜ r ≡ sameInt a b ⌝ }
+// Whether the word of a label of b bits has these top six bits.
+fn in_grid(b: u32, six: u32) -> bool
+    requires { ⌜ (1 ≤ b) × (six < 64) × (b < 4 → six % 4 ≡ 0) ⌝ }
+    ensures { λ r. ⌜ r ≡ inGrid b six ⌝ }
 {
-    a == b
+    if b % 2 == 0 {
+        return (EVEN_GRID >> six) % 2 == 1;
+    }
+    if b == 1 {
+        return (ONE_GRID >> six) % 2 == 1;
+    }
+    if b == 3 {
+        return (THREE_GRID >> six) % 2 == 1;
+    }
+    (ODD_GRID >> six) % 2 == 1
 }
 
 // The label of a point, where the constellation has the point. Called by proved code only.
@@ -188,12 +210,14 @@ pub fn label_of(b: u32, x: i16, y: i16) -> Sought
 {
     let k = pairs(b);
     let h = half(k);
-    let ex = place(k, h, x);
-    let ey = place(k, h, y);
+    let u = steps(h, x);
+    let v = steps(h, y);
+    let ex = cut(k, h, u);
+    let ey = cut(k, h, v);
     let word = together(ex, ey);
-    let label = lowest(narrowed(k, word), b);
-    let back = widened(k, odd_label(b, label));
-    let found = (back == word) & (same(axis(h, ex), x) & same(axis(h, ey), y));
+    let six = (4 * word) >> (2 * k);
+    let label = own_label(b, narrowed(k, word, six));
+    let found = in_grid(b, six) & ((2 * ex + 65536 == u) & (2 * ey + 65536 == v));
     Sought { found, label }
 }
 

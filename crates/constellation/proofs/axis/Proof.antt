@@ -1,7 +1,5 @@
 -- `constellation::axis` meets its contract.
-use mathlib.Core.Path.{_∙_, ap}
 use mir.Syntax.{w16}
-use mir.Val.{toZ, ofZ}
 use mir.ValLaws.{toZ-ofZ}
 use Rattle.constellation.specs.Widened.{axis as axisOf}
 use Rattle.constellation.proofs.Signed.{axis-law}

@@ -1,18 +1,19 @@
--- `constellation::label_of` meets its contract: one label is left, and it is found if it maps back.
+-- `constellation::label_of` meets its contract: one label is left, and the grid tells whether it is the point's.
 use native.Mathlib.Omega.{arith}
-use Prim.Native.Nat.{ℕ, _≤_, _<_, _^_}
+use Prim.Native.Nat.{ℕ, _+_, _*_, _/_, _%_, _^_, _≤_, _<_}
 use mathlib.Core.Bool.{_&&_}
-use mathlib.Core.Path.{_≡_, refl, sym, ap, ap₂, _∙_}
-use native.Mathlib.Nat.{lt-of-lt-of-le, mod-lt}
+use mathlib.Core.Path.{_≡_, refl, ap, ap₂, _∙_}
+use native.Mathlib.Nat.{mod-lt}
 use lib.Dec.{eqb}
-use lib.Pow.{pow-mono, pow-pos}
+use lib.Pow.{pow-pos}
 use mir.Syntax.{w16}
 use mir.ValLaws.{toZ-ofZ}
-use Rattle.g9932.specs.Points.{sameInt}
-use Rattle.constellation.specs.Widened.{pairs as pairsOf, widened as widenedOf, wordOf, half as halfOf, axis as axisOf}
-use Rattle.constellation.specs.Reading.{Placed}
+use Rattle.g9932.specs.Bits.{num, bits}
+use Rattle.constellation.specs.Widened.{pairs as pairsOf, half as halfOf, woven}
+use Rattle.constellation.specs.Reading.{Steps, topSix, inGrid}
+use Rattle.constellation.proofs.Grid.{six-lt, six-few}
 use Rattle.constellation.proofs.Reading.{woven-word, test, sought-law}
-use Rattle.constellation.proofs.Sizes.{label-lt, half-le}
+use Rattle.constellation.proofs.Sizes.{word-16, half-le}
 use borrow.Author.Needs.{needs}
 use Rattle.constellation.proofs.label_of.Statement.{statement}
 use Rattle.constellation.proofs.label_of.Tie as tie
@@ -23,11 +24,17 @@ sizes c =
     let e : c .half .result ≡ halfOf k = c .half .ensures ∙ ap halfOf (c .before .pairs .ensures) in
     (e, omega (arith, pow-pos k), omega (arith, half-le k (omega arith)))
 
-label : (c : tie.After-lowest) → c .lowest .result < 2 ^ c .before .before .before .before .before .before .before .args .b
-label c = rw (c .lowest .ensures) (mod-lt _ (pow-pos _))
+cuts : (c : tie.After-cut2) → (c .before .cut .result < c .before .before .before .before .half .result) × (c .cut2 .result < c .before .before .before .before .half .result)
+cuts c =
+    let h = sizes (c .before .before .before .before) .1 in
+    (rw (c .before .cut .ensures) (mod-lt _ h), rw (c .cut2 .ensures) (mod-lt _ h))
 
-word : (c : tie.After-widened) → c .widened .result ≡ wordOf (c .before .before .before .before .before .before .before .before .before .args .b) (c .before .before .lowest .result)
-word c = c .widened .ensures ∙ ap₂ widenedOf (c .before .before .before .before .before .before .before .before .pairs .ensures) (c .before .odd-label .ensures)
+word : (c : tie.After-together) → c .together .result < 2 ^ (4 + 2 * c .before .before .before .before .before .before .pairs .result)
+word c =
+    let k = c .before .before .before .before .before .before .pairs .result in
+    let e = c .before .before .before .before .before .half .ensures in
+    let l = cuts (c .before) in
+    rw (c .together .ensures) (woven-word k (c .before .before .cut .result) (c .before .cut2 .result) (omega arith) (omega arith) (omega arith))
 
 pairs-requires : tie.Need-pairs-requires
 pairs-requires c κs = search needs
@@ -35,80 +42,76 @@ pairs-requires c κs = search needs
 half-requires : tie.Need-half-requires
 half-requires c κs = search needs
 
-place-requires : tie.Need-place-requires
-place-requires c κs = search needs
+steps-requires : tie.Need-steps-requires
+steps-requires c κs = sizes c .2
 
-place-requires-2 : tie.Need-place-requires-2
-place-requires-2 c κs = search needs
+steps-requires-2 : tie.Need-steps-requires-2
+steps-requires-2 c κs = sizes (c .before) .2
+
+cut-requires : tie.Need-cut-requires
+cut-requires c κs = search needs
+
+cut-requires-2 : tie.Need-cut-requires-2
+cut-requires-2 c κs = search needs
 
 together-requires : tie.Need-together-requires
-together-requires c κs = (omega (arith, c .before .place .ensures .small, sizes (c .before .before)), omega (arith, c .place2 .ensures .small, sizes (c .before .before)))
+together-requires c κs = (omega (arith, cuts c, sizes (c .before .before .before .before)), omega (arith, cuts c, sizes (c .before .before .before .before)))
+
+mul-six : tie.Need-mul-six
+mul-six c =
+    let k = c .before .before .before .before .before .before .pairs .result in
+    record { fits = omega (arith, word-16 k (c .together .result) (omega arith) (word c)) }
+
+mul-six-2 : tie.Need-mul-six-2
+mul-six-2 c = search needs
+
+shr-six : tie.Need-shr-six
+shr-six c = search needs
 
 narrowed-requires : tie.Need-narrowed-requires
-narrowed-requires c κs =
-    let h = c .before .before .before in
-    let k = h .before .pairs .result in
-    let e = h .half .ensures in (
-      omega arith,
-      rw (c .together .ensures)
-          (woven-word k (c .before .before .place .result) (c .before .place2 .result) (omega arith)
-          (omega (arith, c .before .before .place .ensures .small)) (omega (arith, c .before .place2 .ensures .small))),
-    )
+narrowed-requires c κs = (omega arith, six-lt (c .before .before .before .before .before .before .pairs .result) (c .together .result) (word c), refl)
 
-lowest-requires : tie.Need-lowest-requires
-lowest-requires c κs = search needs
+own-label-requires : tie.Need-own-label-requires
+own-label-requires c κs = search needs
 
-odd-label-requires : tie.Need-odd-label-requires
-odd-label-requires c κs =
-    let s = c .before .before .before .before .before .before .before in
-    lt-of-lt-of-le (label c) (pow-mono {i = s .args .b} {j = 15} (s .pre .1))
+in-grid-requires : tie.Need-in-grid-requires
+in-grid-requires c κs =
+    let s = c .before .before .before .before .before .before .before .before .before in
+    let p = c .before .before .before .before .before .before .before .before .pairs in
+    let w = c .before .before .together .result in
+    (s .pre .0, six-lt (p .result) w (word (c .before .before)), λ h. rw (p .ensures, six-few (s .args .b) w h) (omega arith))
 
-widened-requires : tie.Need-widened-requires
-widened-requires c κs =
-    let s = c .before .before .before .before .before .before .before .before in (
-      omega arith,
-      rw (c .before .before .before .before .before .before .before .pairs .ensures, c .odd-label .ensures)
-          (label-lt (s .args .b) (c .before .lowest .result) (s .pre .0) (label (c .before))),
-    )
+mul-found : tie.Need-mul-found
+mul-found c = record { fits = omega (arith, cuts (c .before .before .before .before), sizes (c .before .before .before .before .before .before .before .before)) }
 
-axis-requires : tie.Need-axis-requires
-axis-requires c κs =
-    let h = c .before .before .before .before .before .before .before in
-    (sizes h .1, sizes h .2, omega (arith, c .before .before .before .before .before .before .place .ensures .small, sizes h))
+add-found : tie.Need-add-found
+add-found c = record { fits = omega (arith, cuts (c .before .before .before .before), sizes (c .before .before .before .before .before .before .before .before)) }
 
-same-requires : tie.Need-same-requires
-same-requires c κs = search needs
+mul-found-2 : tie.Need-mul-found-2
+mul-found-2 c = record { fits = omega (arith, cuts (c .before .before .before .before), sizes (c .before .before .before .before .before .before .before .before)) }
 
-axis-requires-2 : tie.Need-axis-requires-2
-axis-requires-2 c κs =
-    let h = c .before .before .before .before .before .before .before .before .before in
-    (sizes h .1, sizes h .2, omega (arith, c .before .before .before .before .before .before .before .place2 .ensures .small, sizes h))
-
-same-requires-2 : tie.Need-same-requires-2
-same-requires-2 c κs = search needs
+add-found-2 : tie.Need-add-found-2
+add-found-2 c = record { fits = omega (arith, cuts (c .before .before .before .before), sizes (c .before .before .before .before .before .before .before .before)) }
 
 returns : tie.Need-returns
 unfolding test
 returns c =
-    let s = c .before .before .before .before .before .before .before .before .before .before .before .before .before in
-    let h = c .before .before .before .before .before .before .before .before .before .before .before in
-    let k = s .args .b in
-    let zx = toZ-ofZ w16 (s .args .x) (s .fits .x) in
-    let zy = toZ-ofZ w16 (s .args .y) (s .fits .y) in
-    let ex = c .before .before .before .before .before .before .before .before .before .before .place in
-    let ey = c .before .before .before .before .before .before .before .before .before .place2 in
-    let w = c .before .before .before .before .before .before .before .before .together in
-    let n = c .before .before .before .before .before .before .before .narrowed in
-    let ax = c .before .before .before .axis in
-    let ay = c .before .axis2 in
-    let px : Placed (halfOf (pairsOf k)) (s .args .x) (ex .result) = rw (sizes h .0, zx) at (ex .ensures) in
-    let py : Placed (halfOf (pairsOf k)) (s .args .y) (ey .result) = rw (sizes h .0, zy) at (ey .ensures) in
-    let sx = c .before .before .same .ensures ∙ ap₂ sameInt (toZ-ofZ w16 (ax .result) (record { sfits = ax .ok }) ∙ ax .ensures ∙ ap (λ (i : ℕ). axisOf i (ex .result)) (sizes h .0)) zx in
-    let sy = c .same2 .ensures ∙ ap₂ sameInt (toZ-ofZ w16 (ay .result) (record { sfits = ay .ok }) ∙ ay .ensures ∙ ap (λ (i : ℕ). axisOf i (ey .result)) (sizes h .0)) zy in
-    let l = c .before .before .before .before .before .before .lowest .ensures in
-    let f = word (c .before .before .before .before) ∙ ap (wordOf k) l in
-    sought-law k (s .args .x) (s .args .y) (ex .result) (ey .result) (w .result) (n .result) (s .pre .0) (s .pre .1) px py (w .ensures)
-    (rw (h .before .pairs .ensures) at (n .ensures)) _ _ (ap₂ _&&_ (ap (λ (i : ℕ). eqb i (w .result)) f) (ap₂ _&&_ sx sy)) l
+    let s = c .before .before .before .before .before .before .before .before .before .before in
+    let b = s .args .b in
+    let h = c .before .before .before .before .before .before .before .before in
+    let u = c .before .before .before .before .before .before .before .steps in
+    let v = c .before .before .before .before .before .before .steps2 in
+    let w = c .before .before .before .together in
+    let n = c .before .before .narrowed in
+    let e = sizes h .0 in
+    let ux : Steps (halfOf (pairsOf b)) (s .args .x) (u .result) = rw (e, toZ-ofZ w16 (s .args .x) (s .fits .x)) at (u .ensures) in
+    let vy : Steps (halfOf (pairsOf b)) (s .args .y) (v .result) = rw (e, toZ-ofZ w16 (s .args .y) (s .fits .y)) at (v .ensures) in
+    let ex = c .before .before .before .before .before .cut .ensures ∙ ap (λ (i : ℕ). u .result / 2 % i) e in
+    let ey = c .before .before .before .before .cut2 .ensures ∙ ap (λ (i : ℕ). v .result / 2 % i) e in
+    let f = c .in-grid .ensures ∙ ap (λ (i : ℕ). inGrid b (topSix i (w .result))) (h .before .pairs .ensures) in
+    sought-law b (s .args .x) (s .args .y) (u .result) (v .result) (w .result) (n .result) (s .pre .0) (s .pre .1) ux vy
+    (w .ensures ∙ ap₂ (λ (i j : ℕ). num (woven (bits 8 i) (bits 8 j))) ex ey) (rw (h .before .pairs .ensures) at (n .ensures)) _ _
+    (ap₂ _&&_ f (ap₂ (λ (i j : ℕ). eqb (2 * i + 65536) (u .result) && eqb (2 * j + 65536) (v .result)) ex ey)) (c .before .own-label .ensures)
 
 pub label-of-spec : {M : Type 1} → statement M
 label-of-spec =
@@ -116,15 +119,19 @@ label-of-spec =
     (tie.spec
     pairs-requires
     half-requires
-    place-requires
-    place-requires-2
+    steps-requires
+    steps-requires-2
+    cut-requires
+    cut-requires-2
     together-requires
+    mul-six
+    mul-six-2
+    shr-six
     narrowed-requires
-    lowest-requires
-    odd-label-requires
-    widened-requires
-    axis-requires
-    same-requires
-    axis-requires-2
-    same-requires-2
+    own-label-requires
+    in-grid-requires
+    mul-found
+    add-found
+    mul-found-2
+    add-found-2
     returns)

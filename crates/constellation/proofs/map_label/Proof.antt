@@ -1,6 +1,6 @@
 -- `constellation::map_label` meets its contract: the tests of refusal 16, then the point.
 use native.Mathlib.Omega.{arith}
-use mathlib.Core.Path.{_≡_, sym, ap, ap₂, _∙_}
+use mathlib.Core.Path.{ap, ap₂, _∙_}
 use borrow.Author.Tests.{lt-ltb, le-ltb, le-leb, lt-leb}
 use Prim.Native.Nat.{_^_}
 use mir.Syntax.{w16}

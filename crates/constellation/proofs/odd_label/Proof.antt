@@ -1,6 +1,5 @@
 -- `constellation::odd_label` meets its contract, one case for b = 1.
 use borrow.Author.Tests.{lt-ltb, le-ltb}
-use mathlib.Core.Path.{refl}
 use borrow.Author.Needs.{needs}
 use Rattle.constellation.proofs.odd_label.Statement.{statement}
 use Rattle.constellation.proofs.odd_label.Tie as tie

@@ -1,6 +1,6 @@
 -- `constellation::widened` meets its contract: the top five bits by one shift, the top bits by one exclusive or.
 use native.Mathlib.Omega.{arith}
-use mathlib.Core.Path.{_≡_, _∙_, ap}
+use mathlib.Core.Path.{_∙_, ap}
 use lib.Bits.{bitXor}
 use Prim.Native.Nat.{_/_}
 use Rattle.constellation.specs.Widened.{topFour}

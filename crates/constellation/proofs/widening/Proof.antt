@@ -1,8 +1,8 @@
 -- `constellation::widening` meets its contract: each table agrees with Table 10-3 at its sixteen entries.
 use native.Mathlib.Omega.{arith}
 use mathlib.Core.Logic.{⊎-elim}
-use Prim.Native.Nat.{ℕ, _+_, _-_, _*_, _/_, _%_, _^_, _<_, _≤_}
-use mathlib.Core.Path.{_≡_, refl}
+use Prim.Native.Nat.{_-_}
+use mathlib.Core.Path.{refl}
 use Rattle.g9932.specs.Bits.{first}
 use Rattle.constellation.specs.Widened.{topFour}
 use Rattle.constellation.proofs.Tops.{table-law}
