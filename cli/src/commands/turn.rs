@@ -89,14 +89,14 @@ impl Verdict {
     fn sentence(&self, set: &TableSet) -> String {
         match self {
             Verdict::Straight => "Straight: the clips are the right way round, for the points \
-                                  read as they came and are refused when turned."
+                                  are read as they came and refused when turned."
                 .to_string(),
             Verdict::Turned => "Turned: the clips are the wrong way round, so swap them; the \
                                 points are refused as they came and read when turned."
                 .to_string(),
             Verdict::CannotTell => format!(
-                "Cannot tell: the points read both ways, for {}; a spare tone with 0 bits and \
-                 a gain would tell.",
+                "Cannot tell: the points are read both ways, for {}; a spare tone with 0 bits \
+                 and a gain would tell.",
                 blindness(set)
             ),
             Verdict::Neither => "Neither: the points are refused both ways, so look for noise, \

@@ -191,11 +191,13 @@ fn names(spot: &Spot) -> String {
     }
 }
 
-/// The numbers of a scale: every odd one if they are few, else the ends and the middles.
+/// The numbers of a scale: every odd one if they are few, else the ends and, in the scale of a
+/// constellation, the middles.
 fn ticks(extent: i16) -> Vec<i16> {
     let positive: Vec<i16> = match extent {
         0..=5 => (1..=extent).step_by(2).collect(),
-        _ => vec![(extent - 1) / 2, extent],
+        6..=255 => vec![(extent - 1) / 2, extent],
+        _ => vec![extent],
     };
     let negative = positive.iter().map(|tick| -tick);
     negative.chain(positive.iter().copied()).collect()

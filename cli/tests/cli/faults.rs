@@ -16,108 +16,106 @@ fn faulty(ran: &Ran, status: i32, message: &str) {
     );
 }
 
+/// Words, and what the message says.
+const CALLS: [(&[&str], &str); 24] = [
+    (&[], "usage: "),
+    (&["chek", A], "no command \"chek\""),
+    (&["check"], "not the operands it takes"),
+    (&["check", A, A], "usage: clevisroot check TABLES [--json]"),
+    (&["figures", "1"], "not the operands"),
+    (&["check", A, "--out", "x"], "no option --out here"),
+    (
+        &["check", A, "--register", "1"],
+        "no option --register here",
+    ),
+    (&["turn", A, "-", "--svg=x"], "no option --svg here"),
+    (&["read", A, "-", "--jsn"], "no option --jsn here"),
+    (&["read", A, "-", "--json=1"], "--json takes no value"),
+    (
+        &["read", A, "-", "--json", "--json"],
+        "--json is given twice",
+    ),
+    (&["read", A, "-", "--register"], "--register takes a value"),
+    (
+        &["read", A, "-", "--register", "-1"],
+        "takes a whole number",
+    ),
+    (&["read", A, "-", "--register", ""], "takes a whole number"),
+    (
+        &["read", A, "-", "--register", "0x1"],
+        "takes a whole number",
+    ),
+    (&["read", A, "-", "--out"], "--out takes a value"),
+    (
+        &["read", A, "-", "--out", "-"],
+        "--out takes the name of a file",
+    ),
+    (
+        &["read", A, "-", "--svg="],
+        "--svg takes the name of a file",
+    ),
+    (
+        &["read", "-", "-"],
+        "standard input can be one of the files",
+    ),
+    (&["map", "x", "1"], "BITS is not a whole number"),
+    (&["map", "1", "-1"], "LABEL is not a whole number"),
+    (&["point", "2", "1.5", "1"], "X is not a whole number"),
+    (&["point", "2", "1", "--1"], "no option --1 here"),
+    (&["point", "2", "1", ""], "Y is not a whole number"),
+];
+
 #[test]
 fn calls_that_are_wrong() {
-    let calls: &[(&[&str], &str)] = &[
-        (&[], "usage: "),
-        (&["chek", A], "no command \"chek\""),
-        (&["check"], "not the operands it takes"),
-        (&["check", A, A], "usage: clevisroot check TABLES [--json]"),
-        (&["figures", "1"], "not the operands"),
-        (&["check", A, "--out", "x"], "no option --out here"),
-        (
-            &["check", A, "--register", "1"],
-            "no option --register here",
-        ),
-        (&["turn", A, "-", "--svg=x"], "no option --svg here"),
-        (&["read", A, "-", "--jsn"], "no option --jsn here"),
-        (&["read", A, "-", "--json=1"], "--json takes no value"),
-        (
-            &["read", A, "-", "--json", "--json"],
-            "--json is given twice",
-        ),
-        (&["read", A, "-", "--register"], "--register takes a value"),
-        (
-            &["read", A, "-", "--register", "-1"],
-            "--register takes a whole number",
-        ),
-        (
-            &["read", A, "-", "--register", ""],
-            "--register takes a whole number",
-        ),
-        (
-            &["read", A, "-", "--register", "0x1"],
-            "--register takes a whole number",
-        ),
-        (&["read", A, "-", "--out"], "--out takes a value"),
-        (
-            &["read", A, "-", "--out", "-"],
-            "--out takes the name of a file",
-        ),
-        (
-            &["read", A, "-", "--svg="],
-            "--svg takes the name of a file",
-        ),
-        (
-            &["read", "-", "-"],
-            "standard input can be one of the files",
-        ),
-        (&["map", "x", "1"], "BITS is not a whole number"),
-        (&["map", "1", "-1"], "LABEL is not a whole number"),
-        (&["point", "2", "1.5", "1"], "X is not a whole number"),
-        (&["point", "2", "1", "--1"], "no option --1 here"),
-        (&["point", "2", "1", ""], "Y is not a whole number"),
-    ];
-    for (words, message) in calls {
+    for (words, message) in CALLS {
         faulty(&run(words), 64, message);
     }
 }
 
+/// A text, the line that the message names, and what it says.
+type Broken = (&'static str, usize, &'static str);
+
+/// Table sets without a proper head.
+const HEADS: [Broken; 12] = [
+    ("", 1, "no line `mode`"),
+    ("# nothing\n\n", 2, "no line `mode`"),
+    ("mode coded\n", 1, "no line `carriers`"),
+    ("carriers 8\n", 1, "no line `mode`"),
+    ("mode trellis\n", 1, "mode `trellis` is not"),
+    ("mode\n", 1, "is neither `mode coded`"),
+    ("mode coded\nmode coded\n", 2, "a second line `mode`"),
+    ("carriers 8\ncarriers 9\n", 2, "a second line `carriers`"),
+    ("carriers -8\n", 1, "`-8` is not a whole number"),
+    ("carriers 4,096\n", 1, "`4,096` is not a whole number"),
+    ("mode coded\n1 2 512\n", 2, "come before the first tone"),
+    ("outside 1 2 512\n", 1, "come before the first tone"),
+];
+
+/// What comes after a proper head of two lines.
+const TONES: [Broken; 11] = [
+    ("1 2\n", 3, "is neither"),
+    ("\n1 2 512 9\n", 4, "is neither"),
+    ("1 two 512\n", 3, "`two` is not a whole number"),
+    ("1,2,512\n", 3, "`1,2,512` is neither"),
+    ("1 2 -512\n", 3, "`-512` is not a whole number"),
+    ("1 2 0x200\n", 3, "`0x200` is not a whole number"),
+    ("outside 8 0 0\n", 3, "8 is not below `carriers`"),
+    ("1 2 5\noutside 1 0 0\n", 4, "1 is on line 3 already"),
+    (
+        "outside 1 0 0\noutside 1 0 0\n",
+        4,
+        "1 is on line 3 already",
+    ),
+    ("outside 1 2\n", 3, "`outside` is not a whole number"),
+    ("\u{1b}[2J 1 2\n", 3, "`\\u{1b}[2J` is not a whole number"),
+];
+
 #[test]
 fn table_sets_that_cannot_be_parsed() {
-    let head = "mode coded\ncarriers 8\n";
-    let broken = [
-        ("", 1, "no line `mode`"),
-        ("# nothing\n\n", 2, "no line `mode`"),
-        ("mode coded\n", 1, "no line `carriers`"),
-        ("carriers 8\n", 1, "no line `mode`"),
-        ("mode trellis\n", 1, "mode `trellis` is not"),
-        ("mode\n", 1, "is neither `mode coded`"),
-        ("mode coded\nmode coded\n", 2, "a second line `mode`"),
-        ("carriers 8\ncarriers 9\n", 2, "a second line `carriers`"),
-        ("carriers -8\n", 1, "`-8` is not a whole number"),
-        ("carriers 4,096\n", 1, "`4,096` is not a whole number"),
-        ("mode coded\n1 2 512\n", 2, "come before the first tone"),
-        ("outside 1 2 512\n", 1, "come before the first tone"),
-    ];
-    let tones = [
-        ("1 2\n", 3, "is neither"),
-        ("\n1 2 512 9\n", 4, "is neither"),
-        ("1 two 512\n", 3, "`two` is not a whole number"),
-        ("1,2,512\n", 3, "`1,2,512` is neither"),
-        ("1 2 -512\n", 3, "`-512` is not a whole number"),
-        ("1 2 0x200\n", 3, "`0x200` is not a whole number"),
-        (
-            "outside 8 0 0\n",
-            3,
-            "sub-carrier 8 is not below `carriers`",
-        ),
-        (
-            "1 2 5\noutside 1 0 0\n",
-            4,
-            "sub-carrier 1 is on line 3 already",
-        ),
-        (
-            "outside 1 0 0\noutside 1 0 0\n",
-            4,
-            "sub-carrier 1 is on line 3 already",
-        ),
-        ("outside 1 2\n", 3, "`outside` is not a whole number"),
-        ("\u{1b}[2J 1 2\n", 3, "`\\u{1b}[2J` is not a whole number"),
-    ];
-    let broken = broken.map(|(text, line, message)| (text.to_string(), line, message));
-    let tones = tones.map(|(text, line, message)| (head.to_string() + text, line, message));
-    for (text, line, message) in broken.into_iter().chain(tones) {
+    let heads = HEADS.map(|(text, line, message)| (text.to_string(), line, message));
+    let tones = TONES
+        .map(|(text, line, message)| (format!("mode coded\ncarriers 8\n{text}"), line, message));
+    for (text, line, message) in heads.into_iter().chain(tones) {
         let ran = run_with(text.as_bytes(), &["check", "-"]);
         faulty(&ran, 65, &format!("standard input:{line}: "));
         faulty(&ran, 65, message);

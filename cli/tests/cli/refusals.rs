@@ -189,39 +189,22 @@ fn offgrid() {
         place,
         "(1, -1) is none of the 2 points",
     );
-    let ran = run_with(b"1,1\n1,1\n1,1\n3,1\n1,1\n1,1", &["read", A, "-"]);
-    refused(
-        &ran,
-        13,
-        "OFFGRID",
-        "at place 3 in t', sub-carrier 4",
-        "a monitored tone",
-    );
     let ran = run_with(b"99999,1\n1,1\n1,1\n1,1\n1,1\n1,1", &["read", A, "-"]);
-    refused(
-        &ran,
-        13,
-        "OFFGRID",
-        "at place 0 in t', sub-carrier 7",
-        "a tone with 4 bits",
-    );
+    let place = "at place 0 in t', sub-carrier 7";
+    refused(&ran, 13, "OFFGRID", place, "a tone with 4 bits");
+    let ran = run(&["point", "5", "5", "5"]);
+    let place = "at place 0: the one tone";
+    refused(&ran, 13, "OFFGRID", place, "none of the 32 points");
+}
+
+#[test]
+fn offgrid_without_data() {
+    let place = "at place 3 in t', sub-carrier 4";
+    let ran = run_with(b"1,1\n1,1\n1,1\n3,1\n1,1\n1,1", &["read", A, "-"]);
+    refused(&ran, 13, "OFFGRID", place, "a monitored tone");
     let words = ["read", "examples/cannot-tell.txt", "-"];
     let ran = run_with(b"1,1\n1,1\n1,1\n1,1\n1,1\n1,1", &words);
-    refused(
-        &ran,
-        13,
-        "OFFGRID",
-        "at place 3 in t', sub-carrier 4",
-        "a silent tone",
-    );
-    let ran = run(&["point", "5", "5", "5"]);
-    refused(
-        &ran,
-        13,
-        "OFFGRID",
-        "at place 0: the one tone",
-        "none of the 32 points",
-    );
+    refused(&ran, 13, "OFFGRID", place, "a silent tone");
 }
 
 #[test]
