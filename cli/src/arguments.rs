@@ -103,6 +103,9 @@ impl Words {
         if call.operands.len() != command.operands.len() {
             return Err(wrong("not the operands it takes"));
         }
+        if call.out.is_some() && call.out == call.svg {
+            return Err(wrong("--out and --svg name the same file"));
+        }
         if call.operands.iter().filter(|word| *word == "-").count() > 1 {
             return Err(wrong("standard input can be one of the files, not two"));
         }

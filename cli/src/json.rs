@@ -8,8 +8,11 @@ pub enum Json {
     Number(i64),
     Text(String),
     List(Vec<Json>),
-    Object(Vec<(&'static str, Json)>),
+    Object(Fields),
 }
+
+/// The fields of an object.
+pub type Fields = Vec<(&'static str, Json)>;
 
 impl Json {
     pub fn numbers<T: Copy + Into<i64>>(numbers: &[T]) -> Json {

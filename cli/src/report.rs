@@ -1,6 +1,6 @@
 //! What a command has to say, for a person and for a program.
 
-use crate::json::Json;
+use crate::json::{Fields, Json};
 use crate::refusal::{name, Refusal};
 use clevisroot_sys::Answer;
 
@@ -15,13 +15,13 @@ pub struct Report {
     pub status: u8,
     pub summary: Vec<String>,
     pub result: Option<Written>,
-    pub json: Vec<(&'static str, Json)>,
+    pub json: Fields,
     pub picture: Option<String>,
 }
 
 impl Report {
     /// A report with no result of its own.
-    pub fn new(status: u8, summary: Vec<String>, json: Vec<(&'static str, Json)>) -> Report {
+    pub fn new(status: u8, summary: Vec<String>, json: Fields) -> Report {
         Report {
             status,
             summary,
@@ -32,7 +32,7 @@ impl Report {
     }
 
     /// What the library's refusal says.
-    pub fn refused(answer: &Answer, refusal: &Refusal, json: Vec<(&'static str, Json)>) -> Report {
+    pub fn refused(answer: &Answer, refusal: &Refusal, json: Fields) -> Report {
         let summary = vec![
             format!("refused: {} {}", answer.number, name(answer.number)),
             refusal.place.clone(),
@@ -66,7 +66,7 @@ pub fn status_of(number: u32) -> u8 {
 
 /// The fields that every object begins with: number, place, size and register follow the command.
 /// A call that has no such thing has null.
-pub fn fields(command: &'static str, answer: [Option<u32>; 4]) -> Vec<(&'static str, Json)> {
+pub fn fields(command: &'static str, answer: [Option<u32>; 4]) -> Fields {
     let number = |value: Option<u32>| value.map_or(Json::Null, |value| Json::Number(value.into()));
     let [refusal, place, size, register] = answer;
     vec![
@@ -83,7 +83,7 @@ pub fn fields(command: &'static str, answer: [Option<u32>; 4]) -> Vec<(&'static 
 }
 
 /// The fields of a call for tables, which has no register.
-pub fn table_fields(command: &'static str, answer: &Answer) -> Vec<(&'static str, Json)> {
+pub fn table_fields(command: &'static str, answer: &Answer) -> Fields {
     let Answer {
         number,
         place,
@@ -94,7 +94,7 @@ pub fn table_fields(command: &'static str, answer: &Answer) -> Vec<(&'static str
 }
 
 /// The fields of a call for a symbol.
-pub fn symbol_fields(command: &'static str, answer: &Answer) -> Vec<(&'static str, Json)> {
+pub fn symbol_fields(command: &'static str, answer: &Answer) -> Fields {
     let Answer {
         number,
         place,

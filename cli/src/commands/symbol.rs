@@ -4,11 +4,10 @@ use super::{given_points, given_tables};
 use crate::arguments::Call;
 use crate::ask::{self, Order};
 use crate::fault::Fault;
-use crate::files::{hex_lines, read_frame, Class, PointList, Source, TableSet};
-use crate::index::Place;
+use crate::files::{hex_lines, read_frame, Source, TableSet};
 use crate::json::Json;
-use crate::refusal::{name, Asked};
-use crate::report::{count, size_words, symbol_fields, Report, Written};
+use crate::refusal::{name, pair_of, place_of, Asked};
+use crate::report::{size_words, symbol_fields, Report, Written};
 use crate::svg::{self, Symbol};
 use clevisroot_sys::Answer;
 
@@ -36,17 +35,9 @@ pub fn encode(call: &Call) -> Result<Report, Fault> {
         screen: lines(&remarks(&set, &order)),
         file: lines(&[]),
     });
-    report.picture = call.svg.is_some().then(|| {
-        let symbol = Symbol {
-            set: &set,
-            order: &order,
-            x: &points.x,
-            y: &points.y,
-            refused: &[],
-            caption: caption(call, &answer),
-        };
-        svg::draw(&symbol)
-    });
+    if call.svg.is_some() {
+        report.picture = Some(picture(call, &set, (&points.x, &points.y), &answer));
+    }
     Ok(report)
 }
 
@@ -75,24 +66,28 @@ pub fn read(call: &Call) -> Result<Report, Fault> {
     };
     // Points that are refused for what they are can be drawn too.
     if call.svg.is_some() && matches!(answer.number, 0 | 13..=15) {
-        report.picture = Some(picture_of_read(call, &set, &points, &answer));
+        report.picture = Some(picture(call, &set, (&points.x, &points.y), &answer));
     }
     Ok(report)
 }
 
-fn picture_of_read(call: &Call, set: &TableSet, points: &PointList, answer: &Answer) -> String {
+/// The picture of the points, with the places that were refused.
+fn picture(call: &Call, set: &TableSet, (x, y): (&[i16], &[i16]), answer: &Answer) -> String {
     let (_, order) = ask::order(set);
-    let place = usize::try_from(answer.place).unwrap_or(usize::MAX);
     let refused = match answer.number {
-        13 | 14 => vec![Place(place)],
-        15 => order.pairs(set).get(place).cloned().unwrap_or_default(),
+        13 | 14 => vec![place_of(answer)],
+        15 => order
+            .pairs(set)
+            .get(pair_of(answer))
+            .cloned()
+            .unwrap_or_default(),
         _ => Vec::new(),
     };
     svg::draw(&Symbol {
         set,
         order: &order,
-        x: &points.x,
-        y: &points.y,
+        x,
+        y,
         refused: &refused,
         caption: caption(call, answer),
     })
@@ -127,12 +122,10 @@ fn done_words(answer: &Answer) -> String {
 /// A remark on each place: whose point it is.
 fn remarks(set: &TableSet, order: &Order) -> Vec<String> {
     let remark = |(place, tone)| {
-        let class = match set.class_of(tone) {
-            Class::Data(bits) => count(u32::from(bits), "bit"),
-            Class::Monitored => "monitored".to_string(),
-            Class::Silent => "silent".to_string(),
-        };
-        format!("# place {place}: sub-carrier {tone}, {class}")
+        format!(
+            "# place {place}: sub-carrier {tone}, {}",
+            set.class_of(tone)
+        )
     };
     order.places().map(remark).collect()
 }

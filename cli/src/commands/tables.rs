@@ -5,9 +5,9 @@ use crate::arguments::{Call, RESET};
 use crate::ask::{self, Order};
 use crate::fault::Fault;
 use crate::files::{Class, TableSet};
-use crate::json::Json;
+use crate::json::{Fields, Json};
 use crate::refusal::Asked;
-use crate::report::{count, size_words, table_fields, Report, Written};
+use crate::report::{size_words, table_fields, Report, Written};
 use clevisroot_sys::{self as library, Answer};
 use std::fmt::Display;
 
@@ -57,7 +57,7 @@ pub fn order(call: &Call) -> Result<Report, Fault> {
     Ok(report)
 }
 
-fn refused(set: &TableSet, answer: &Answer, json: Vec<(&'static str, Json)>) -> Report {
+fn refused(set: &TableSet, answer: &Answer, json: Fields) -> Report {
     let asked = Asked {
         set,
         frame: None,
@@ -71,7 +71,7 @@ fn refused(set: &TableSet, answer: &Answer, json: Vec<(&'static str, Json)>) -> 
 fn loading_words(set: &TableSet) -> String {
     let of_bits = |bits: u8| {
         let tones = set.count(|class| class == Class::Data(bits));
-        (tones > 0).then(|| format!("{tones} of {}", count(u32::from(bits), "bit")))
+        (tones > 0).then(|| format!("{tones} of {}", Class::Data(bits)))
     };
     let words: Vec<String> = (1..=15).filter_map(of_bits).collect();
     if words.is_empty() {

@@ -3,7 +3,7 @@
 use crate::arguments::Call;
 use crate::fault::Fault;
 use crate::files::{saturating, signed};
-use crate::json::Json;
+use crate::json::{Fields, Json};
 use crate::refusal::Refusal;
 use crate::report::{count, fields, Report};
 use clevisroot_sys::{self as library, Answer};
@@ -72,7 +72,7 @@ fn label_sentence(bits: u8) -> String {
 }
 
 /// A call for one tone has no size and no register.
-fn tone_fields(command: &'static str, number: u32) -> Vec<(&'static str, Json)> {
+fn tone_fields(command: &'static str, number: u32) -> Fields {
     fields(command, [Some(number), Some(0), None, None])
 }
 

@@ -6,7 +6,7 @@ use crate::arguments::Call;
 use crate::ask;
 use crate::fault::Fault;
 use crate::files::{hex_lines, PointList, TableSet};
-use crate::json::Json;
+use crate::json::{Fields, Json};
 use crate::refusal::{name, Asked};
 use crate::report::{size_words, symbol_fields, Report};
 use clevisroot_sys::Answer;
@@ -43,7 +43,7 @@ pub fn turn(call: &Call) -> Result<Report, Fault> {
     Ok(told(&straight, &turned, json))
 }
 
-fn told(straight: &Reading, turned: &Reading, mut json: Vec<(&'static str, Json)>) -> Report {
+fn told(straight: &Reading, turned: &Reading, mut json: Fields) -> Report {
     let verdict = match (straight.answer.number, turned.answer.number) {
         (0, 0) => Verdict::CannotTell,
         (0, _) => Verdict::Straight,

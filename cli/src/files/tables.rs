@@ -2,6 +2,7 @@
 
 use crate::index::{Place, SubCarrier};
 use clevisroot_sys::Tables;
+use std::fmt;
 
 /// What a sub-carrier of the tone table carries.
 #[derive(Clone, Copy, Debug, PartialEq, Eq, PartialOrd, Ord)]
@@ -9,6 +10,17 @@ pub enum Class {
     Data(u8),
     Monitored,
     Silent,
+}
+
+impl fmt::Display for Class {
+    fn fmt(&self, f: &mut fmt::Formatter) -> fmt::Result {
+        match self {
+            Class::Data(1) => f.write_str("1 bit"),
+            Class::Data(bits) => write!(f, "{bits} bits"),
+            Class::Monitored => f.write_str("monitored"),
+            Class::Silent => f.write_str("silent"),
+        }
+    }
 }
 
 pub struct TableSet {

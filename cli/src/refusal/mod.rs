@@ -63,7 +63,10 @@ impl Asked<'_> {
                 format!("at sub-carrier {tone}{}", on_line(line, &self.set.name))
             }
             13 | 14 => self.place_of_point(place),
-            9 | 15 => format!("at pair {place}: {}", self.tones_of_pair(place)),
+            9 | 15 => {
+                let pair = pair_of(answer);
+                format!("at pair {pair}: {}", self.tones_of_pair(pair))
+            }
             10 => "at place 0: the list of points as a whole".to_string(),
             11 => "at place 0: the frame as a whole".to_string(),
             12 => "at place 0: the register".to_string(),
@@ -80,18 +83,24 @@ impl Asked<'_> {
         format!("at place {place} in t'{tone}{line}")
     }
 
-    fn tones_of_pair(&self, pair: Place) -> String {
+    fn tones_of_pair(&self, pair: usize) -> String {
         let order = ask::order(self.set).1;
         let pairs = order.pairs(self.set);
-        let places = pairs.get(pair.0).map_or(&[][..], Vec::as_slice);
+        let places = pairs.get(pair).map_or(&[][..], Vec::as_slice);
         let tones = places.iter().filter_map(|&place| order.tone_at(place));
         let names: Vec<String> = tones.map(|tone| tone.to_string()).collect();
         format!("sub-carriers {}", names.join(", "))
     }
 }
 
-fn place_of(answer: &Answer) -> Place {
-    Place(usize::try_from(answer.place).unwrap_or(usize::MAX))
+/// The answer's place, where it is one in t or t'.
+pub fn place_of(answer: &Answer) -> Place {
+    Place(pair_of(answer))
+}
+
+/// The answer's place, where it is the number of a pair.
+pub fn pair_of(answer: &Answer) -> usize {
+    usize::try_from(answer.place).unwrap_or(usize::MAX)
 }
 
 fn tone_of(answer: &Answer) -> SubCarrier {

@@ -95,9 +95,9 @@ impl Chart {
     /// A strip under the bars; a lone tone is at least one unit wide there.
     fn draw_strip(&self, pen: &mut Pen, row: usize, class: Class) {
         let top = self.y(0) + GAP + row as f64 * (STRIP + GAP);
-        let (name, fill) = match class {
-            Class::Silent => ("silent", "hatched"),
-            _ => ("monitored", "solid"),
+        let fill = match class {
+            Class::Silent => "hatched",
+            _ => "solid",
         };
         let runs = self.runs(|other| other == class);
         let blocks = runs.into_iter().map(|(_, run)| {
@@ -106,7 +106,11 @@ impl Chart {
         });
         pen.path(fill, &blocks.collect::<String>());
         pen.rect((LEFT, top), (RIGHT - LEFT, STRIP), "frame");
-        pen.text((LEFT - 8.0, top + STRIP - 2.0), "tick end", name);
+        pen.text(
+            (LEFT - 8.0, top + STRIP - 2.0),
+            "tick end",
+            &class.to_string(),
+        );
     }
 
     fn draw_scales(&self, pen: &mut Pen) -> f64 {

@@ -100,17 +100,12 @@ impl<'a> Panel<'a> {
     fn draw_frame(&self, pen: &mut Pen) {
         let (left, top) = self.corner;
         let (middle_x, middle_y) = self.at((0, 0));
-        let what = match self.group.class {
-            Class::Data(1) => "1 bit".to_string(),
-            Class::Data(bits) => format!("{bits} bits"),
-            Class::Monitored => "monitored".to_string(),
-            Class::Silent => "silent".to_string(),
-        };
+        let class = self.group.class;
         let tones = match self.group.tone_count() {
             1 => "1 tone".to_string(),
             tones => format!("{tones} tones"),
         };
-        pen.text((left, top - 8.0), "name", &format!("{what}, {tones}"));
+        pen.text((left, top - 8.0), "name", &format!("{class}, {tones}"));
         pen.rect(self.corner, (self.side, self.side), "frame");
         pen.line((left, middle_y), (left + self.side, middle_y), "zero");
         pen.line((middle_x, top), (middle_x, top + self.side), "zero");

@@ -17,7 +17,7 @@ fn faulty(ran: &Ran, status: i32, message: &str) {
 }
 
 /// Words, and what the message says.
-const CALLS: [(&[&str], &str); 24] = [
+const CALLS: [(&[&str], &str); 25] = [
     (&[], "usage: "),
     (&["chek", A], "no command \"chek\""),
     (&["check"], "not the operands it takes"),
@@ -57,6 +57,10 @@ const CALLS: [(&[&str], &str); 24] = [
     (
         &["read", "-", "-"],
         "standard input can be one of the files",
+    ),
+    (
+        &["read", A, "-", "--out=x", "--svg=x"],
+        "name the same file",
     ),
     (&["map", "x", "1"], "BITS is not a whole number"),
     (&["map", "1", "-1"], "LABEL is not a whole number"),
