@@ -41,8 +41,8 @@ pub fn parse(words: &[OsString]) -> Result<Request, Fault> {
         .iter()
         .find(|command| first == command.name)
         .ok_or_else(|| Fault::usage(format!("no command {first:?}\n{}", help::usage())))?;
-    let before_dashes = rest.iter().take_while(|word| *word != "--");
-    if before_dashes.into_iter().any(|word| is_help(word)) {
+    let mut before_dashes = rest.iter().take_while(|word| *word != "--");
+    if before_dashes.any(|word| is_help(word)) {
         return Ok(Request::Text(help::command(command)));
     }
     Words::of(rest).call(command).map(Request::Call)

@@ -60,7 +60,7 @@ impl Report {
 }
 
 /// The exit status of a refusal is its number.
-pub fn status_of(number: u32) -> u8 {
+fn status_of(number: u32) -> u8 {
     u8::try_from(number).unwrap_or(u8::MAX)
 }
 

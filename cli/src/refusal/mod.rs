@@ -95,12 +95,12 @@ impl Asked<'_> {
 
 /// The answer's place, where it is one in t or t'.
 pub fn place_of(answer: &Answer) -> Place {
-    Place(pair_of(answer))
+    Place(answer.place as usize)
 }
 
 /// The answer's place, where it is the number of a pair.
 pub fn pair_of(answer: &Answer) -> usize {
-    usize::try_from(answer.place).unwrap_or(usize::MAX)
+    answer.place as usize
 }
 
 fn tone_of(answer: &Answer) -> SubCarrier {
