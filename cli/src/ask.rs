@@ -1,0 +1,83 @@
+//! Questions to the library, with lists of the right length lent for its answers.
+
+use crate::files::{Class, TableSet};
+use crate::index::{Place, SubCarrier};
+use clevisroot_sys::{self as library, Answer};
+
+/// The re-ordered tables.
+pub struct Order {
+    /// t'
+    pub tones: Vec<u16>,
+    /// b'
+    pub bits: Vec<u8>,
+}
+
+/// A symbol in t' order.
+pub struct Points {
+    pub x: Vec<i16>,
+    pub y: Vec<i16>,
+}
+
+pub fn order(set: &TableSet) -> (Answer, Order) {
+    let mut order = Order {
+        tones: vec![0; set.tone_count()],
+        bits: vec![0; set.tone_count()],
+    };
+    let answer = library::reorder(set.lent(), &mut order.tones, &mut order.bits);
+    (answer, order)
+}
+
+pub fn encode(set: &TableSet, frame: &[u8], register: u32) -> (Answer, Points) {
+    let mut points = Points {
+        x: vec![0; set.tone_count()],
+        y: vec![0; set.tone_count()],
+    };
+    let Points { x, y } = &mut points;
+    let answer = library::encode(set.lent(), frame, register, x, y);
+    (answer, points)
+}
+
+pub fn read(set: &TableSet, x: &[i16], y: &[i16], register: u32) -> (Answer, Vec<u8>) {
+    let mut frame = vec![0; frame_bytes(set)];
+    let answer = library::read(set.lent(), x, y, register, &mut frame);
+    (answer, frame)
+}
+
+/// The bytes of a frame of these tables, 0 if they are refused.
+pub fn frame_bytes(set: &TableSet) -> usize {
+    library::check(set.lent()).size.div_ceil(8) as usize
+}
+
+impl Order {
+    pub fn tone_at(&self, place: Place) -> Option<SubCarrier> {
+        self.tones.get(place.0).map(|&tone| SubCarrier(tone))
+    }
+
+    /// t' with its places.
+    pub fn places(&self) -> impl Iterator<Item = (Place, SubCarrier)> + '_ {
+        let tones = self.tones.iter().enumerate();
+        tones.map(|(place, &tone)| (Place(place), SubCarrier(tone)))
+    }
+
+    /// N: the non-zero entries of b'.
+    pub fn loaded(&self) -> usize {
+        self.bits.iter().filter(|&&bits| bits > 0).count()
+    }
+
+    /// The places of each coded pair. Two 1-bit tones share an entry; the first entry of an odd
+    /// count makes a pair on its own.
+    pub fn pairs(&self, set: &TableSet) -> Vec<Vec<Place>> {
+        let (mut entries, mut ones) = (Vec::new(), Vec::new());
+        for (place, tone) in self.places() {
+            match set.class_of(tone) {
+                Class::Data(1) => ones.push(place),
+                Class::Data(_) => entries.push(vec![place]),
+                Class::Monitored | Class::Silent => {}
+            }
+        }
+        entries.extend(ones.chunks(2).map(<[Place]>::to_vec));
+        let (first, rest) = entries.split_at(entries.len() % 2);
+        let pairs = first.chunks(1).chain(rest.chunks(2));
+        pairs.map(<[Vec<Place>]>::concat).collect()
+    }
+}

@@ -1,0 +1,139 @@
+//! The bit loading over the sub-carriers, and below it where tones are monitored or silent.
+
+use super::pen::{block, Pen};
+use super::{Symbol, MARGIN, WIDTH};
+use crate::files::Class;
+use std::ops::Range;
+
+const LEFT: f64 = MARGIN + 62.0;
+const RIGHT: f64 = WIDTH - MARGIN - 8.0;
+const HEIGHT: f64 = 180.0;
+const STRIP: f64 = 12.0;
+const GAP: f64 = 6.0;
+/// Up to this many sub-carriers, bars stand apart.
+const FEW: usize = 64;
+
+struct Chart {
+    /// The class of each sub-carrier, none if it is not in the tone table.
+    classes: Vec<Option<Class>>,
+    top: f64,
+    /// The largest bit count of the scale.
+    most: u8,
+}
+
+/// Draws the chart from `top` down and tells where it ends.
+pub fn draw(pen: &mut Pen, symbol: &Symbol, top: f64) -> f64 {
+    let chart = Chart::new(symbol, top);
+    chart.draw_bits(pen);
+    chart.draw_strip(pen, 0, Class::Monitored);
+    chart.draw_strip(pen, 1, Class::Silent);
+    chart.draw_scales(pen)
+}
+
+impl Chart {
+    fn new(symbol: &Symbol, top: f64) -> Chart {
+        let mut classes = vec![None; symbol.set.carriers()];
+        let mut most = 0;
+        for tone in symbol.set.tones() {
+            if let Some(class) = classes.get_mut(usize::from(tone.0)) {
+                *class = Some(symbol.set.class_of(tone));
+            }
+            most = most.max(symbol.set.bits_of(tone));
+        }
+        let scales = [4, 8, 15];
+        let most = scales.into_iter().find(|&scale| scale >= most);
+        Chart {
+            classes,
+            top,
+            most: most.unwrap_or(15),
+        }
+    }
+
+    fn x(&self, carrier: f64) -> f64 {
+        LEFT + (RIGHT - LEFT) * carrier / self.classes.len() as f64
+    }
+
+    fn y(&self, bits: u8) -> f64 {
+        self.top + HEIGHT * (1.0 - f64::from(bits) / f64::from(self.most))
+    }
+
+    /// Neighbours of one class, as one run unless bars stand apart.
+    fn runs(&self, test: impl Fn(Class) -> bool) -> Vec<(Class, Range<usize>)> {
+        let mut runs: Vec<(Class, Range<usize>)> = Vec::new();
+        for (carrier, class) in self.classes.iter().enumerate() {
+            let Some(class) = class.filter(|&class| test(class)) else {
+                continue;
+            };
+            match runs.last_mut() {
+                Some((last, run))
+                    if *last == class && run.end == carrier && self.classes.len() > FEW =>
+                {
+                    run.end = carrier + 1;
+                }
+                _ => runs.push((class, carrier..carrier + 1)),
+            }
+        }
+        runs
+    }
+
+    fn draw_bits(&self, pen: &mut Pen) {
+        let apart = self.classes.len() <= FEW;
+        let inset = if apart { 0.12 } else { 0.0 };
+        let mut bars = String::new();
+        for (class, run) in self.runs(|class| matches!(class, Class::Data(_))) {
+            let Class::Data(bits) = class else { continue };
+            let (left, right) = (
+                self.x(run.start as f64 + inset),
+                self.x(run.end as f64 - inset),
+            );
+            let (top, bottom) = (self.y(bits), self.y(0));
+            bars.push_str(&block((left, top), (right - left, bottom - top)));
+        }
+        pen.path(if apart { "bar" } else { "area" }, &bars);
+    }
+
+    /// A strip under the bars; a lone tone is at least one unit wide there.
+    fn draw_strip(&self, pen: &mut Pen, row: usize, class: Class) {
+        let top = self.y(0) + GAP + row as f64 * (STRIP + GAP);
+        let fill = match class {
+            Class::Silent => "hatched",
+            _ => "solid",
+        };
+        let runs = self.runs(|other| other == class);
+        let blocks = runs.into_iter().map(|(_, run)| {
+            let (left, right) = (self.x(run.start as f64), self.x(run.end as f64));
+            block((left, top), ((right - left).max(1.0), STRIP))
+        });
+        pen.path(fill, &blocks.collect::<String>());
+        pen.rect((LEFT, top), (RIGHT - LEFT, STRIP), "frame");
+        pen.text(
+            (LEFT - 8.0, top + STRIP - 2.0),
+            "tick end",
+            &class.to_string(),
+        );
+    }
+
+    fn draw_scales(&self, pen: &mut Pen) -> f64 {
+        pen.rect((LEFT, self.top), (RIGHT - LEFT, HEIGHT), "frame");
+        let step = if self.most == 15 { 5 } else { self.most / 4 };
+        for bits in (0..=self.most).step_by(usize::from(step)) {
+            pen.line((LEFT - 4.0, self.y(bits)), (LEFT, self.y(bits)), "axis");
+            pen.text(
+                (LEFT - 8.0, self.y(bits) + 4.0),
+                "tick end",
+                &bits.to_string(),
+            );
+        }
+        pen.text((MARGIN, self.top + HEIGHT / 2.0), "tick", "bits");
+        let bottom = self.y(0) + GAP + 2.0 * (STRIP + GAP) - GAP;
+        let carriers = self.classes.len();
+        for carrier in (0..carriers).step_by(carriers.div_ceil(8).next_power_of_two()) {
+            let x = self.x(carrier as f64 + 0.5);
+            pen.line((x, bottom), (x, bottom + 4.0), "axis");
+            pen.text((x, bottom + 16.0), "tick middle", &carrier.to_string());
+        }
+        let middle = (LEFT + RIGHT) / 2.0;
+        pen.text((middle, bottom + 32.0), "tick middle", "sub-carrier index");
+        bottom + 48.0
+    }
+}

@@ -1,0 +1,86 @@
+//! Calls of the tool and the files they need.
+
+use std::fs;
+use std::io::Write;
+use std::path::{Path, PathBuf};
+use std::process::{Command, Output, Stdio};
+
+/// What a call left behind.
+pub struct Ran {
+    pub status: i32,
+    pub out: String,
+    pub err: String,
+}
+
+impl Ran {
+    /// A program that is killed has status -1; one that panics says so.
+    pub fn of(output: &Output) -> Ran {
+        let ran = Ran {
+            status: output.status.code().unwrap_or(-1),
+            out: String::from_utf8_lossy(&output.stdout).into_owned(),
+            err: String::from_utf8_lossy(&output.stderr).into_owned(),
+        };
+        assert!(
+            ran.status != 101 && !ran.err.contains("panicked"),
+            "{}",
+            ran.err
+        );
+        ran
+    }
+
+    pub fn line(&self, number: usize) -> &str {
+        self.out.lines().nth(number).unwrap_or("")
+    }
+}
+
+/// The repository, where `examples/` is.
+pub fn root() -> &'static Path {
+    Path::new(env!("CARGO_MANIFEST_DIR")).parent().unwrap()
+}
+
+pub fn tool() -> Command {
+    let mut command = Command::new(env!("CARGO_BIN_EXE_clevisroot"));
+    command.current_dir(root()).stdin(Stdio::null());
+    command
+}
+
+pub fn run(words: &[&str]) -> Ran {
+    Ran::of(&tool().args(words).output().unwrap())
+}
+
+/// Runs with the bytes as standard input.
+pub fn run_with(input: &[u8], words: &[&str]) -> Ran {
+    let mut command = tool();
+    command.args(words).stdin(Stdio::piped());
+    command.stdout(Stdio::piped()).stderr(Stdio::piped());
+    let mut child = command.spawn().unwrap();
+    // The tool may end before it has read everything.
+    let _ = child.stdin.take().unwrap().write_all(input);
+    Ran::of(&child.wait_with_output().unwrap())
+}
+
+/// A path for a file of a test; names differ from test to test.
+pub fn path(name: &str) -> PathBuf {
+    Path::new(env!("CARGO_TARGET_TMPDIR")).join(name)
+}
+
+/// Writes a file and tells its name.
+pub fn file(name: &str, content: impl AsRef<[u8]>) -> String {
+    let path = path(name);
+    fs::write(&path, content).unwrap();
+    path.to_str().unwrap().to_string()
+}
+
+/// A table set file of tones: sub-carrier, bits, gain.
+pub fn tables(name: &str, mode: &str, carriers: usize, tones: &[(usize, usize, usize)]) -> String {
+    let mut text = format!("mode {mode}\ncarriers {carriers}\n");
+    for (tone, bits, gain) in tones {
+        text += &format!("{tone} {bits} {gain}\n");
+    }
+    file(name, text)
+}
+
+/// Tones 0 to `count` - 1 with these bits and gain 512.
+pub fn equal(count: usize, bits: usize) -> Vec<(usize, usize, usize)> {
+    (0..count).map(|tone| (tone, bits, 512)).collect()
+}
