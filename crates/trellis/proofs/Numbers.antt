@@ -50,7 +50,7 @@ sent-number u (suc a) h k =
     let e : length (low .v0 ∷ low .v1 ∷ take (suc a - 2) (u .high)) ≡ suc a = let l = length-take-le (suc a - 2) (u .high) k in omega arith in
     num-append (low .v0 ∷ low .v1 ∷ take (suc a - 2) (u .high)) (low .w0 ∷ low .w1 ∷ drop (suc a - 2) (u .high))
     ∙ rw (e, num-take, num-drop)
-      (join (weight (low .v0)) (weight (low .v1)) (weight (low .w0)) (weight (low .w1)) (num (u .high) % 2 ^ (suc a - 2)) (num (u .high) / 2 ^ (suc a - 2)) (2 ^ suc a))
+    (join (weight (low .v0)) (weight (low .v1)) (weight (low .w0)) (weight (low .w1)) (num (u .high) % 2 ^ (suc a - 2)) (num (u .high) / 2 ^ (suc a - 2)) (2 ^ suc a))
 
 -- the number fits
 label-le : (a b : Bool) (h : ℕ) → labelNumber a b h ≤ 3 + 4 * h

@@ -1,0 +1,80 @@
+-- The core's answers, as C has them.
+use Prim.Native.Nat.{ℕ, zero, suc}
+use mathlib.Core.Bool.{Bool, true, false}
+use mir.Val.{boolByte}
+use mathlib.Core.Path.{_≡_, refl, sym, ap, _∙_}
+use lib.IntN.{ℤ}
+use mathlib.Core.List.{List}
+use lib.ListN.{length}
+use Rattle.g9932.specs.Bits.{weight}
+use Rattle.g9932.specs.Sizes.{tables}
+use Rattle.g9932.specs.Refusals.{Verdict, tableVerdict}
+use Rattle.g9932.specs.Answers.{verdictOf, reportOf, reportBy, Reorders, Encodes, Reads}
+use Rattle.g9932.specs.declared.Mode.{Mode}
+use Rattle.g9932.specs.declared.Mode.the-variants.{Coded}
+use Rattle.g9932.specs.declared.Checked.{Checked}
+use Rattle.g9932.specs.declared.Answer.{Answer}
+use Rattle.clevisroot.specs.Told.{modeOf, told, reported, Small, Reordering, Encoding, Reading}
+use Rattle.clevisroot.specs.declared.SymbolAnswer.{SymbolAnswer}
+use Rattle.clevisroot.specs.declared.PointAnswer.{PointAnswer}
+use Rattle.clevisroot.proofs.Places.{small-table, small-order, small-encode, small-read}
+
+pub coded-mode : (n : ℕ) → (n ≡ 0 → ⊥) → Coded ≡ modeOf n
+coded-mode zero h = absurd (h refl)
+coded-mode (suc n) h = refl
+
+pub fields : {n n' p p' : ℕ} (reg : ℕ) → n ≡ n' → p ≡ p' → _≡_ {A = SymbolAnswer} (record { number = n; place = p; size = 0; reg = reg }) (record { number = n'; place = p'; size = 0; reg = reg })
+fields reg e f = rw (e, f)
+
+-- an answer as a match told it
+pub small-checked : {a b : Checked} → a ≡ b → Small (verdictOf a) → Small (verdictOf b)
+small-checked e s = rw e at s
+
+pub small-answer : {a b : Answer} → a ≡ b → Small (reportOf a .verdict) → Small (reportOf b .verdict)
+small-answer e s = rw e at s
+
+pub told-as : {a b : Checked} {v : SymbolAnswer} → a ≡ b → v ≡ told (verdictOf b) 0 → v ≡ told (verdictOf a) 0
+told-as e t = rw e t
+
+pub reported-as : {a b : Answer} {v : SymbolAnswer} → a ≡ b → v ≡ reported (reportOf b) → v ≡ reported (reportOf a)
+reported-as e t = rw e t
+
+pub point-fields : {x x' y y' : ℤ} → x ≡ x' → y ≡ y' → _≡_ {A = PointAnswer} (record { number = 0; x = x; y = y }) (record { number = 0; x = x'; y = y' })
+point-fields e f = rw (e, f)
+
+pub byte-weight : (b : Bool) → boolByte b ≡ weight b
+unfolding weight
+byte-weight true = refl
+byte-weight false = refl
+
+-- ---- the calls: the core is asked in the mode that `coded` names
+
+module _ {m n : Mode} (b g t : List ℕ) (e : m ≡ n) where
+  pub checked-small : (a : Checked) → verdictOf a ≡ tableVerdict (tables m b g t) → Small (verdictOf a)
+  checked-small a h = rw h (small-table (tables m b g t))
+
+  pub checked-told : (a : Checked) {v : SymbolAnswer} → verdictOf a ≡ tableVerdict (tables m b g t) → v ≡ told (verdictOf a) 0 → v ≡ told (tableVerdict (tables n b g t)) 0
+  checked-told a h k = k ∙ ap (λ (w : Verdict). told w 0) h ∙ rw e
+
+  pub order-small : {a : Checked} {order ents orderAfter entsAfter : List ℕ} → Reorders (tables m b g t) order ents a orderAfter entsAfter → Small (verdictOf a)
+  order-small {order = order} {ents = ents} h = rw (h .answer) (small-order (tables m b g t) (length order) (length ents))
+
+  pub order-told : {a : Checked} {v : SymbolAnswer} {order ents orderAfter entsAfter : List ℕ} → Reorders (tables m b g t) order ents a orderAfter entsAfter → v ≡ told (verdictOf a) 0
+      → Reordering (tables n b g t) order ents v orderAfter entsAfter
+  order-told h k = rw (sym e) (record { answer = k ∙ ap (λ (w : Verdict). told w 0) (h .answer); tonesHold = h .tonesHold; bitsHold = h .bitsHold })
+
+  pub encode-small : {f : List ℕ} {r : ℕ} {xs ys xsAfter ysAfter : List ℤ} {a : Answer} → Encodes (tables m b g t) f r xs ys a xsAfter ysAfter → Small (reportOf a .verdict)
+  unfolding reportBy
+  encode-small {f = f} {r = r} {xs = xs} {ys = ys} h = rw (h .answer) (small-encode (tables m b g t) f r (length xs) (length ys))
+
+  pub encode-told : {f : List ℕ} {r : ℕ} {xs ys xsAfter ysAfter : List ℤ} {a : Answer} {v : SymbolAnswer} → Encodes (tables m b g t) f r xs ys a xsAfter ysAfter → v ≡ reported (reportOf a)
+      → Encoding (tables n b g t) f r xs ys v xsAfter ysAfter
+  encode-told h k = rw (sym e) (record { answer = k ∙ ap reported (h .answer); xsHold = h .xsHold; ysHold = h .ysHold })
+
+  pub read-small : {f fAfter : List ℕ} {r : ℕ} {xs ys : List ℤ} {a : Answer} → Reads (tables m b g t) xs ys r f a fAfter → Small (reportOf a .verdict)
+  unfolding reportBy
+  read-small {f = f} {r = r} {xs = xs} {ys = ys} h = rw (h .answer) (small-read (tables m b g t) xs ys r (length f))
+
+  pub read-told : {f fAfter : List ℕ} {r : ℕ} {xs ys : List ℤ} {a : Answer} {v : SymbolAnswer} → Reads (tables m b g t) xs ys r f a fAfter → v ≡ reported (reportOf a)
+      → Reading (tables n b g t) xs ys r f v fAfter
+  read-told h k = rw (sym e) (record { answer = k ∙ ap reported (h .answer); frameHolds = h .frameHolds })

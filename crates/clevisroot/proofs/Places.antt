@@ -1,0 +1,212 @@
+-- A C answer has room for every place and for every L.
+-- ---- a place is found inside what is searched
+use Prim.Native.Nat.{ℕ, zero, suc, _+_, _/_, _≤_}
+use mathlib.Core.Bool.{Bool, true, false, cond, not, _||_}
+use mathlib.Core.List.{List, [], _∷_}
+use mathlib.Core.Path.{_≡_, refl}
+use native.Mathlib.Omega.{arith}
+use borrow.Author.Tests.{ltb-false, eqb-true}
+use lib.Dec.{eqb, ltb, leb}
+use lib.IntN.{ℤ}
+use lib.ListN.{length, drop, length-append, length-map, length-replicate, replicate}
+use Rattle.g9932.specs.Bits.{weight, orAt, first}
+use Rattle.g9932.specs.Sizes.{Tables, entry, Point, points}
+use Rattle.g9932.specs.Refusals.{Verdict, refuseIf, refuseAt, verdictBy, andThen, sizeTest, tableVerdict}
+use Rattle.g9932.specs.Order.{consIf, count, filter, isOne, bitsOf, ones, entries, reorderedTones, codedPairs}
+use Rattle.g9932.specs.Trellis.{Reading, frame, breaks, after, zeroState, readPairs, readingOf, keepsCode, lastTwo, heardAt, nextOf, takenBits, width}
+use Rattle.g9932.specs.Symbol.{classesOf, pairsIn, sizeOf, gatherBits, readingIn}
+use Rattle.g9932.specs.Answers.{breakIn, orderVerdict, encodeVerdict, pointsVerdict, readVerdict}
+use Rattle.g9932.specs.declared.Found.{Found}
+use Rattle.g9932.specs.declared.Found.the-variants.{At, Nothing}
+use Rattle.g9932.specs.declared.Mode.{Mode}
+use Rattle.g9932.specs.declared.Mode.the-variants.{Uncoded, Coded}
+use Rattle.g9932.specs.declared.TrellisState.{TrellisState}
+use Rattle.g9932.specs.Order.{Pair}
+use Rattle.g9932.proofs.Accepted.{accepted-tables}
+use Rattle.g9932.proofs.Formed.{length-pairsOf}
+use Rattle.g9932.proofs.Identities.{or-false}
+use Rattle.g9932.proofs.Reordering.{length-order}
+use Rattle.clevisroot.specs.Told.{Small}
+
+index : Found → ℕ
+index (At k) = k
+index Nothing = 0
+
+first-inside : (p : ℕ → Bool) (n : ℕ) → index (first p n) ≤ n
+unfolding first index
+first-inside p zero = omega arith
+first-inside p (suc n) = go (first p n) (p n) (first-inside p n)
+  where
+    go : (f : Found) (b : Bool) → index f ≤ n → index (orAt f b n) ≤ suc n
+    go (At k) b h = omega arith
+    go Nothing true h = omega arith
+    go Nothing false h = omega arith
+
+breaks-inside : (ps : List Pair) (s : TrellisState) (d : List Bool) → index (breakIn (readPairs s ps d)) ≤ length ps
+unfolding readPairs index
+breaks-inside [] s d = omega arith
+breaks-inside (p ∷ ps) s d =
+    go (keepsCode (lastTwo ps) s (heardAt p d)) (takenBits (lastTwo ps) (p .x) (heardAt p d)) (readPairs (nextOf s (heardAt p d)) ps (drop (width p) d))
+    (breaks-inside ps (nextOf s (heardAt p d)) (drop (width p) d))
+  where
+    go : (b : Bool) (x : List Bool) (R : Reading) → index (breakIn R) ≤ length ps → index (breakIn (cond b (after x R) (breaks 0))) ≤ suc (length ps)
+    go true x (frame f) h = omega arith
+    go true x (breaks k) h = omega arith
+    go false x R h = omega arith
+
+module _ (m : ℕ) where
+  place-if : (n : ℕ) (b : Bool) (v : Verdict) → v .place ≤ m → refuseIf n b v .place ≤ m
+  unfolding refuseIf
+  place-if n true v h = omega arith
+  place-if n false v h = h
+
+  place-at : (n : ℕ) (f : Found) (v : Verdict) → index f ≤ m → v .place ≤ m → refuseAt n f v .place ≤ m
+  unfolding refuseAt index
+  place-at n (At k) v i h = i
+  place-at n Nothing v i h = h
+
+  place-first : (n : ℕ) (p : ℕ → Bool) (l : ℕ) (v : Verdict) → l ≤ m → v .place ≤ m → refuseAt n (first p l) v .place ≤ m
+  place-first n p l v k h = place-at n (first p l) v (omega (arith, first-inside p l)) h
+
+  place-unless : (n : ℕ) (b : Bool) (v : Verdict) → (b ≡ false → v .place ≤ m) → refuseIf n b v .place ≤ m
+  unfolding refuseIf
+  place-unless n true v h = omega arith
+  place-unless n false v h = h refl
+
+  place-and : (v w : Verdict) → v .place ≤ m → (v .number ≡ 0 → w .place ≤ m) → andThen v w .place ≤ m
+  unfolding andThen
+  place-and v w h k = go (eqb (v .number) 0) refl
+    where
+      go : (b : Bool) → eqb (v .number) 0 ≡ b → verdictBy b w v .place ≤ m
+      go true e = k (eqb-true (v .number) 0 e)
+      go false e = h
+
+-- ---- the tables
+
+weight-most : (b : Bool) → weight b ≤ 1
+unfolding weight
+weight-most true = omega arith
+weight-most false = omega arith
+
+count-most : (p : ℕ → Bool) (l : List ℕ) → count p l ≤ length l
+count-most p [] = omega arith
+count-most p (n ∷ l) = omega (arith, count-most p l, weight-most (p n))
+
+filter-most : (p : ℕ → Bool) (l : List ℕ) → length (filter p l) ≤ length l
+filter-most p [] = omega arith
+filter-most p (n ∷ l) = go (p n) (filter-most p l)
+  where
+    go : (b : Bool) → length (filter p l) ≤ length l → length (consIf b n (filter p l)) ≤ suc (length l)
+    go true h = omega arith
+    go false h = omega arith
+
+entries-most : (b t : List ℕ) → length (entries b t) ≤ length t + length t / 2
+entries-most b t =
+    let o = length-order b t Coded in
+    let s = length-map (reorderedTones Coded b t) (entry b) in
+    let f = filter-most (leb 2) (bitsOf b (reorderedTones Coded b t)) in
+    let c = count-most isOne (bitsOf b t) in
+    let n = length-map t (entry b) in
+    let r = length-replicate {A = ℕ} (ones b t / 2) 2 in
+    rw (length-append (filter (leb 2) (bitsOf b (reorderedTones Coded b t))) (replicate (ones b t / 2) 2)) (omega arith)
+
+pairs-most : (m : Mode) (b t : List ℕ) → length t ≤ 4096 → length (codedPairs m b t) ≤ 4096
+unfolding codedPairs
+pairs-most Uncoded b t h = omega arith
+pairs-most Coded b t h = let e = entries-most b t in rw (length-pairsOf (entries b t)) (omega arith)
+
+sizes-most : (G gains nsc : ℕ) → sizeTest G gains nsc ≡ false → (G ≤ 4096) × (nsc ≤ 4096)
+sizes-most G gains nsc e =
+    let h5 = or-false (ltb G 1 || ltb 4096 G || not (eqb gains G) || ltb nsc 1) (ltb G nsc) e in
+    let h4 = or-false (ltb G 1 || ltb 4096 G || not (eqb gains G)) (ltb nsc 1) (h5 .0) in
+    let h3 = or-false (ltb G 1 || ltb 4096 G) (not (eqb gains G)) (h4 .0) in
+    let h2 = or-false (ltb G 1) (ltb 4096 G) (h3 .0) in
+    let g = ltb-false 4096 G (h2 .1) in
+    let n = ltb-false G nsc (h5 .1) in
+    (omega arith, omega arith)
+
+table-place : (T : Tables) → tableVerdict T .place ≤ 8192
+unfolding tableVerdict
+table-place T =
+    place-unless 8192 1 (sizeTest (length (T .bits)) (length (T .gains)) (length (T .tones))) _ (λ e.
+    let s = sizes-most (length (T .bits)) (length (T .gains)) (length (T .tones)) e in
+    let g = s .0 in
+    let n = s .1 in
+    place-first 8192 2 _ (length (T .tones)) _ (omega arith)
+    (place-first 8192 3 _ (length (T .tones)) _ (omega arith)
+    (place-first 8192 4 _ (length (T .bits)) _ (omega arith)
+    (place-first 8192 5 _ (length (T .bits)) _ (omega arith)
+    (place-first 8192 6 _ (length (T .bits)) _ (omega arith)
+    (place-if 8192 7 _ _
+    (place-if 8192 8 _ _
+    (place-first 8192 9 _ (length (codedPairs (T .mode) (T .bits) (T .tones))) _ (omega (arith, pairs-most (T .mode) (T .bits) (T .tones) n))
+    (omega arith)))))))))
+
+-- ---- every call
+
+size-most : (T : Tables) → tableVerdict T .number ≡ 0 → sizeOf T ≤ 61_440
+size-most T e = accepted-tables T e .sizeMost
+
+pub small-table : (T : Tables) → Small (tableVerdict T)
+small-table T =
+    record {
+      placeMost = table-place T;
+      sizeMost = λ e. let k = accepted-tables T e in rw (k .verdict) (k .sizeMost);
+    }
+
+-- a verdict of the tables, then one that has L where it refuses nothing
+small-then : (T : Tables) (w : Verdict) → (tableVerdict T .number ≡ 0 → w .place ≤ 8192) → (w .number ≡ 0 → w .size ≡ sizeOf T) → Small (andThen (tableVerdict T) w)
+unfolding andThen
+small-then T w p s =
+    record {
+      placeMost = place-and 8192 (tableVerdict T) w (table-place T) p;
+      sizeMost = λ e. go (eqb (tableVerdict T .number) 0) refl e;
+    }
+  where
+    go : (b : Bool) → eqb (tableVerdict T .number) 0 ≡ b → verdictBy b w (tableVerdict T) .number ≡ 0 → verdictBy b w (tableVerdict T) .size ≤ 61_440
+    go true z e = rw (s e) (size-most T (eqb-true (tableVerdict T .number) 0 z))
+    go false z e = small-table T .sizeMost e
+
+size-if : (n : ℕ) (b : Bool) (v : Verdict) (l : ℕ) → (v .number ≡ 0 → v .size ≡ l) → refuseIf (suc n) b v .number ≡ 0 → refuseIf (suc n) b v .size ≡ l
+unfolding refuseIf
+size-if n true v l h e = absurd (omega arith)
+size-if n false v l h e = h e
+
+size-at : (n : ℕ) (f : Found) (v : Verdict) (l : ℕ) → (v .number ≡ 0 → v .size ≡ l) → refuseAt (suc n) f v .number ≡ 0 → refuseAt (suc n) f v .size ≡ l
+unfolding refuseAt
+size-at n (At k) v l h e = absurd (omega arith)
+size-at n Nothing v l h e = h e
+
+pub small-order : (T : Tables) (a b : ℕ) → Small (orderVerdict T a b)
+unfolding orderVerdict
+small-order T a b = small-then T _ (λ _. place-if 8192 10 _ _ (omega arith)) (size-if 9 _ _ (sizeOf T) (λ _. refl))
+
+pub small-encode : (T : Tables) (f : List ℕ) (r a b : ℕ) → Small (encodeVerdict T f r a b)
+unfolding encodeVerdict
+small-encode T f r a b =
+    small-then T _ (λ _. place-if 8192 10 _ _ (place-if 8192 11 _ _ (place-if 8192 12 _ _ (omega arith))))
+    (size-if 9 _ _ (sizeOf T) (size-if 10 _ _ (sizeOf T) (size-if 11 _ _ (sizeOf T) (λ _. refl))))
+
+break-inside : (T : Tables) (q : List Point) → index (breakIn (readingIn T q)) ≤ length (pairsIn T)
+unfolding readingIn readingOf index
+break-inside T q = go (T .mode)
+  where
+    go : (m : Mode) → index (breakIn (readingOf m (pairsIn T) (gatherBits (classesOf T) q))) ≤ length (pairsIn T)
+    go Uncoded = omega arith
+    go Coded = breaks-inside (pairsIn T) zeroState (gatherBits (classesOf T) q)
+
+pub small-read : (T : Tables) (xs ys : List ℤ) (r a : ℕ) → Small (readVerdict T xs ys r a)
+unfolding readVerdict pointsVerdict
+small-read T xs ys r a =
+    small-then T _
+    (λ e.
+    let k = accepted-tables T e in
+    let n : length (T .tones) ≤ 4096 = omega (arith, k .tonesMost, k .tableMost) in
+    let i = break-inside T (points xs ys) in
+    let c = pairs-most (T .mode) (T .bits) (T .tones) n in
+    place-if 8192 10 _ _
+    (place-if 8192 12 _ _
+    (place-first 8192 13 _ (length (T .tones)) _ (omega arith)
+    (place-first 8192 14 _ (length (T .tones)) _ (omega arith)
+    (place-at 8192 15 _ _ (omega arith) (omega arith))))))
+    (size-if 9 _ _ (sizeOf T) (size-if 11 _ _ (sizeOf T) (size-at 12 _ _ (sizeOf T) (size-at 13 _ _ (sizeOf T) (size-at 14 _ _ (sizeOf T) (λ _. refl))))))

@@ -1,0 +1,21 @@
+-- The contract of `clevisroot_check`.
+use Rattle.clevisroot.proofs.Calls.{checked-small, checked-told}
+use borrow.Author.Needs.{needs}
+use Rattle.clevisroot.proofs.clevisroot_check.Statement.{statement}
+use Rattle.clevisroot.proofs.clevisroot_check.Tie as tie
+
+mode-of-requires : tie.Need-mode-of-requires
+mode-of-requires c κs = search needs
+
+check-tables-requires : tie.Need-check-tables-requires
+check-tables-requires c κs = search needs
+
+checked-requires : tie.Need-checked-requires
+checked-requires c κs = checked-small (c .before .before .before .before .before .args .bits .now) (c .before .before .before .before .before .args .gains .now) (c .before .before .before .before .before .args .tones .now) (c .before .mode-of .ensures) (c .check-tables .result) (c .check-tables .ensures)
+
+returns : tie.Need-returns
+returns c = checked-told (c .before .before .before .before .before .before .args .bits .now) (c .before .before .before .before .before .before .args .gains .now) (c .before .before .before .before .before .before .args .tones .now) (c .before .before .mode-of .ensures) (c .before .check-tables .result) (c .before .check-tables .ensures) (c .checked .ensures)
+
+pub clevisroot-check-spec : {M : Type 1} → statement M
+clevisroot-check-spec =
+    tie.close (tie.spec mode-of-requires check-tables-requires checked-requires returns)

@@ -1,0 +1,41 @@
+-- The contract of `clevisroot_draw`.
+use mathlib.Core.Path.{_∙_, sym, ap}
+use Rattle.g9932.specs.Answers.{drawnOf}
+use Rattle.clevisroot.proofs.Calls.{byte-weight}
+use Rattle.clevisroot.specs.Told.{drawTold}
+use borrow.Author.Needs.{needs}
+use Rattle.clevisroot.proofs.clevisroot_draw.Statement.{statement}
+use Rattle.clevisroot.proofs.clevisroot_draw.Tie as tie
+
+draw-requires : tie.Need-draw-requires
+draw-requires c κs = search needs
+
+enum-known-drawn : tie.Need-enum-known-drawn
+enum-known-drawn c = search needs
+
+cast-t8 : tie.Need-cast-t8
+cast-t8 c = search needs
+
+enum-known-drawn-2 : tie.Need-enum-known-drawn-2
+enum-known-drawn-2 c = search needs
+
+number-of-requires : tie.Need-number-of-requires
+number-of-requires c κs = search needs
+
+returns : tie.Need-returns
+returns c = rw (byte-weight (c .before .drawn .given .0 .0)) (ap drawTold (sym (ap drawnOf (c .before .drawn .given .1)) ∙ c .before .before .before .draw .ensures))
+
+returns-2 : tie.Need-returns-2
+returns-2 c = rw (c .number-of .ensures) (ap drawTold (sym (ap drawnOf (c .before .before .drawn2 .given .1)) ∙ c .before .before .before .before .draw .ensures))
+
+pub clevisroot-draw-spec : {M : Type 1} → statement M
+clevisroot-draw-spec =
+    tie.close
+    (tie.spec
+    draw-requires
+    enum-known-drawn
+    cast-t8
+    enum-known-drawn-2
+    number-of-requires
+    returns
+    returns-2)

@@ -1,0 +1,39 @@
+-- The contract of `clevisroot_map_label`.
+use mathlib.Core.Path.{_∙_, sym, ap}
+use mir.ValLaws.{toZ-ofZ}
+use mir.Syntax.{w16}
+use Rattle.g9932.specs.Answers.{mappedOf}
+use Rattle.clevisroot.proofs.Calls.{point-fields}
+use Rattle.clevisroot.specs.Told.{pointTold}
+use borrow.Author.Needs.{needs}
+use Rattle.clevisroot.proofs.clevisroot_map_label.Statement.{statement}
+use Rattle.clevisroot.proofs.clevisroot_map_label.Tie as tie
+
+map-label-requires : tie.Need-map-label-requires
+map-label-requires c κs = search needs
+
+enum-known-mapped : tie.Need-enum-known-mapped
+enum-known-mapped c = search needs
+
+enum-known-mapped-2 : tie.Need-enum-known-mapped-2
+enum-known-mapped-2 c = search needs
+
+number-of-requires : tie.Need-number-of-requires
+number-of-requires c κs = search needs
+
+returns : tie.Need-returns
+returns c = point-fields (toZ-ofZ w16 (c .before .mapped .given .0 .0) (search needs)) (toZ-ofZ w16 (c .before .mapped .given .0 .1 .0) (search needs)) ∙ ap pointTold (sym (ap mappedOf (c .before .mapped .given .1)) ∙ c .before .before .before .map-label .ensures)
+
+returns-2 : tie.Need-returns-2
+returns-2 c = rw (c .number-of .ensures) (ap pointTold (sym (ap mappedOf (c .before .before .mapped2 .given .1)) ∙ c .before .before .before .before .map-label .ensures))
+
+pub clevisroot-map-label-spec : {M : Type 1} → statement M
+clevisroot-map-label-spec =
+    tie.close
+    (tie.spec
+    map-label-requires
+    enum-known-mapped
+    enum-known-mapped-2
+    number-of-requires
+    returns
+    returns-2)

@@ -1,0 +1,38 @@
+-- The contract of `clevisroot_read_point`.
+use mathlib.Core.Path.{_∙_, sym, ap}
+use mir.ValLaws.{toZ-ofZ}
+use mir.Syntax.{w16}
+use Rattle.g9932.specs.Answers.{labelledOf}
+use Rattle.clevisroot.specs.Told.{labelTold}
+use borrow.Author.Needs.{needs}
+use Rattle.clevisroot.proofs.clevisroot_read_point.Statement.{statement}
+use Rattle.clevisroot.proofs.clevisroot_read_point.Tie as tie
+
+read-point-requires : tie.Need-read-point-requires
+read-point-requires c κs = search needs
+
+enum-known-labelled : tie.Need-enum-known-labelled
+enum-known-labelled c = search needs
+
+enum-known-labelled-2 : tie.Need-enum-known-labelled-2
+enum-known-labelled-2 c = search needs
+
+number-of-requires : tie.Need-number-of-requires
+number-of-requires c κs = search needs
+
+returns : tie.Need-returns
+returns c = ap labelTold (sym (ap labelledOf (c .before .labelled .given .1)) ∙ (rw (toZ-ofZ w16 (c .before .before .before .before .args .x) (c .before .before .before .before .fits .x), toZ-ofZ w16 (c .before .before .before .before .args .y) (c .before .before .before .before .fits .y)) at (c .before .before .before .read-point .ensures)))
+
+returns-2 : tie.Need-returns-2
+returns-2 c = rw (c .number-of .ensures) (ap labelTold (sym (ap labelledOf (c .before .before .labelled2 .given .1)) ∙ (rw (toZ-ofZ w16 (c .before .before .before .before .before .args .x) (c .before .before .before .before .before .fits .x), toZ-ofZ w16 (c .before .before .before .before .before .args .y) (c .before .before .before .before .before .fits .y)) at (c .before .before .before .before .read-point .ensures))))
+
+pub clevisroot-read-point-spec : {M : Type 1} → statement M
+clevisroot-read-point-spec =
+    tie.close
+    (tie.spec
+    read-point-requires
+    enum-known-labelled
+    enum-known-labelled-2
+    number-of-requires
+    returns
+    returns-2)

@@ -1,0 +1,255 @@
+// The library for C. include/clevisroot.h says in a person's words what each function does.
+ghost use mathlib.Core.Path.{_≡_};
+ghost use Prim.Native.Nat.{_≤_};
+ghost use Rattle.g9932.specs.Sizes.{tables, point};
+ghost use Rattle.g9932.specs.Refusals.{numberOf, placeOf, refused, tableVerdict};
+ghost use Rattle.g9932.specs.Answers.{verdictOf, reportOf, mapLabel, readPoint, drawAnswer};
+ghost use Rattle.clevisroot.specs.Told.{modeOf, told, reported, pointTold, labelTold, drawTold, Small, Reordering, Encoding, Reading};
+use g9932::Answer;
+use g9932::Checked;
+use g9932::Drawn;
+use g9932::Labelled;
+use g9932::Mapped;
+use g9932::Mode;
+use g9932::Refusal;
+
+// What the calls with tables answer: 0 or the refusal, its place, L and the register.
+#[repr(C)]
+pub struct SymbolAnswer {
+    pub number: u32,
+    pub place: u32,
+    pub size: u32,
+    pub reg: u32,
+}
+
+// What mapping one label answers.
+#[repr(C)]
+pub struct PointAnswer {
+    pub number: u32,
+    pub x: i16,
+    pub y: i16,
+}
+
+// What reading one point answers.
+#[repr(C)]
+pub struct LabelAnswer {
+    pub number: u32,
+    pub label: u32,
+}
+
+// What drawing a filler bit answers.
+#[repr(C)]
+pub struct DrawAnswer {
+    pub number: u32,
+    pub bit: u32,
+    pub reg: u32,
+}
+
+// 0 is uncoded, anything else coded.
+fn mode_of(coded: u8) -> Mode
+    ensures { λ r. ⌜ r ≡ modeOf coded ⌝ }
+{
+    if coded == 0 {
+        return Mode::Uncoded;
+    }
+    Mode::Coded
+}
+
+// Document 01's number of a refusal.
+fn number_of(refusal: Refusal) -> u32
+    ensures { λ r. ⌜ r ≡ numberOf refusal ⌝ }
+{
+    match refusal {
+        Refusal::Size => 1,
+        Refusal::Tone(_) => 2,
+        Refusal::Twice(_) => 3,
+        Refusal::Bits(_) => 4,
+        Refusal::Stray(_) => 5,
+        Refusal::Gain(_) => 6,
+        Refusal::Odd => 7,
+        Refusal::Few => 8,
+        Refusal::Pair(_) => 9,
+        Refusal::Room => 10,
+        Refusal::Frame => 11,
+        Refusal::Seed => 12,
+        Refusal::Offgrid(_) => 13,
+        Refusal::Monitor(_) => 14,
+        Refusal::Trellis(_) => 15,
+        Refusal::Label => 16,
+    }
+}
+
+// Its place; 0 where it has none.
+fn place_of(refusal: Refusal) -> usize
+    ensures { λ r. ⌜ r ≡ placeOf refusal ⌝ }
+{
+    match refusal {
+        Refusal::Size => 0,
+        Refusal::Tone(p) => p.0,
+        Refusal::Twice(p) => p.0,
+        Refusal::Bits(k) => k.0,
+        Refusal::Stray(k) => k.0,
+        Refusal::Gain(k) => k.0,
+        Refusal::Odd => 0,
+        Refusal::Few => 0,
+        Refusal::Pair(n) => n,
+        Refusal::Room => 0,
+        Refusal::Frame => 0,
+        Refusal::Seed => 0,
+        Refusal::Offgrid(p) => p.0,
+        Refusal::Monitor(p) => p.0,
+        Refusal::Trellis(n) => n,
+        Refusal::Label => 0,
+    }
+}
+
+// A refusal, with the register as it came.
+fn refuse(refusal: Refusal, reg: u32) -> SymbolAnswer
+    requires { ⌜ placeOf refusal ≤ 8192 ⌝ }
+    ensures { λ r. ⌜ r ≡ told (refused (numberOf refusal) (placeOf refusal)) reg ⌝ }
+{
+    SymbolAnswer {
+        number: number_of(refusal),
+        place: place_of(refusal) as u32,
+        size: 0,
+        reg,
+    }
+}
+
+// The answer of checking and of re-ordering; no register was given.
+fn checked(answer: Checked) -> SymbolAnswer
+    requires { ⌜ Small (verdictOf answer) ⌝ }
+    ensures { λ r. ⌜ r ≡ told (verdictOf answer) 0 ⌝ }
+{
+    match answer {
+        Checked::Accepted(size) => SymbolAnswer {
+            number: 0,
+            place: 0,
+            size: size as u32,
+            reg: 0,
+        },
+        Checked::Refused(refusal) => refuse(refusal, 0),
+    }
+}
+
+// The answer of encoding and of reading.
+fn answered(answer: Answer) -> SymbolAnswer
+    requires { ⌜ Small (reportOf answer .verdict) ⌝ }
+    ensures { λ r. ⌜ r ≡ reported (reportOf answer) ⌝ }
+{
+    match answer {
+        Answer::Done { size, register } => SymbolAnswer {
+            number: 0,
+            place: 0,
+            size: size as u32,
+            reg: register,
+        },
+        Answer::Refused { refusal, register } => refuse(refusal, register),
+    }
+}
+
+#[no_mangle]
+pub extern "C" fn clevisroot_check(
+    coded: u8,
+    bits: &[u8],
+    gains: &[u16],
+    tones: &[u16],
+) -> SymbolAnswer
+    ensures { λ r. ⌜ r ≡ told (tableVerdict (tables (modeOf coded) (now (bits .entry)) (now (gains .entry)) (now (tones .entry)))) 0 ⌝ }
+{
+    checked(tables::check_tables(mode_of(coded), bits, gains, tones))
+}
+
+#[no_mangle]
+pub extern "C" fn clevisroot_reorder(
+    coded: u8,
+    bits: &[u8],
+    gains: &[u16],
+    tones: &[u16],
+    order: &mut [u16],
+    entries: &mut [u8],
+) -> SymbolAnswer
+    ensures { λ r. ⌜ Reordering (tables (modeOf coded) (now (bits .entry)) (now (gains .entry)) (now (tones .entry))) (now (order .entry)) (now (entries .entry)) r (now (order .exit)) (now (entries .exit)) ⌝ }
+{
+    checked(tables::reorder(mode_of(coded), bits, gains, tones, order, entries))
+}
+
+#[no_mangle]
+pub extern "C" fn clevisroot_encode(
+    coded: u8,
+    bits: &[u8],
+    gains: &[u16],
+    tones: &[u16],
+    frame: &[u8],
+    reg: u32,
+    x: &mut [i16],
+    y: &mut [i16],
+) -> SymbolAnswer
+    ensures { λ r. ⌜ Encoding (tables (modeOf coded) (now (bits .entry)) (now (gains .entry)) (now (tones .entry))) (now (frame .entry)) reg (now (x .entry)) (now (y .entry)) r (now (x .exit)) (now (y .exit)) ⌝ }
+{
+    answered(symbol::encode(mode_of(coded), bits, gains, tones, frame, reg, x, y))
+}
+
+#[no_mangle]
+pub extern "C" fn clevisroot_read(
+    coded: u8,
+    bits: &[u8],
+    gains: &[u16],
+    tones: &[u16],
+    x: &[i16],
+    y: &[i16],
+    reg: u32,
+    frame: &mut [u8],
+) -> SymbolAnswer
+    ensures { λ r. ⌜ Reading (tables (modeOf coded) (now (bits .entry)) (now (gains .entry)) (now (tones .entry))) (now (x .entry)) (now (y .entry)) reg (now (frame .entry)) r (now (frame .exit)) ⌝ }
+{
+    answered(symbol::read(mode_of(coded), bits, gains, tones, x, y, reg, frame))
+}
+
+#[no_mangle]
+pub extern "C" fn clevisroot_map_label(bits: u8, label: u32) -> PointAnswer
+    ensures { λ r. ⌜ r ≡ pointTold (mapLabel bits label) ⌝ }
+{
+    let mapped = constellation::map_label(bits, label);
+    match mapped {
+        Mapped::Point { x, y } => PointAnswer { number: 0, x, y },
+        Mapped::Refused(refusal) => PointAnswer {
+            number: number_of(refusal),
+            x: 0,
+            y: 0,
+        },
+    }
+}
+
+#[no_mangle]
+pub extern "C" fn clevisroot_read_point(bits: u8, x: i16, y: i16) -> LabelAnswer
+    ensures { λ r. ⌜ r ≡ labelTold (readPoint bits (point x y)) ⌝ }
+{
+    let labelled = constellation::read_point(bits, x, y);
+    match labelled {
+        Labelled::Label(label) => LabelAnswer { number: 0, label },
+        Labelled::Refused(refusal) => LabelAnswer {
+            number: number_of(refusal),
+            label: 0,
+        },
+    }
+}
+
+#[no_mangle]
+pub extern "C" fn clevisroot_draw(reg: u32) -> DrawAnswer
+    ensures { λ r. ⌜ r ≡ drawTold (drawAnswer reg) ⌝ }
+{
+    let drawn = prbs::draw(reg);
+    match drawn {
+        Drawn::Bit { bit, register } => DrawAnswer {
+            number: 0,
+            bit: bit as u32,
+            reg: register,
+        },
+        Drawn::Refused { refusal, register } => DrawAnswer {
+            number: number_of(refusal),
+            bit: 0,
+            reg: register,
+        },
+    }
+}
