@@ -14,7 +14,7 @@ use Rattle.g9932.specs.Refusals.{numberOf, placeOf, Verdict, refused, ac
 use Rattle.g9932.specs.Trellis.{Reading, frame, breaks}
 use Rattle.g9932.specs.Points.{pointOf, labelOf}
 use Rattle.g9932.specs.Filler.{nextRegister, registerAfter}
-use Rattle.g9932.specs.Symbol.{classesOf, orderOf, entriesOf, sizeOf, writtenPoints, offgridTest, monitorTest, readingIn}
+use Rattle.g9932.specs.Symbol.{classesOf, orderOf, bitsIn, sizeOf, writtenPoints, offgridTest, monitorTest, readingIn}
 use Rattle.g9932.specs.declared.Found.{Found}
 use Rattle.g9932.specs.declared.Found.the-variants.{At, Nothing}
 use Rattle.g9932.specs.declared.Checked.{Checked}
@@ -32,7 +32,7 @@ use Rattle.g9932.specs.declared.Drawn.the-variants.{Bit, Refused as NotD
 unfoldable pub onDone {ℓ} : {A : Type ℓ} → Verdict → List A → List A → List A
 onDone v new old = cond (eqb (v .number) 0) new old
 
--- ---- checking the tables and telling L: refusals 1 to 9
+-- ---- checking the tables and telling L: refusals 1 to 9; the answer a of tables T has verdictOf a ≡ tableVerdict T
 
 abbrev pub verdictOf : Checked → Verdict
 verdictOf (Accepted l) = accepted l
@@ -56,7 +56,7 @@ reorderOf T tones bits =
     record {
       verdict = orderVerdict T (length tones) (length bits);
       tones = onDone (orderVerdict T (length tones) (length bits)) (orderOf T) tones;
-      bits = onDone (orderVerdict T (length tones) (length bits)) (entriesOf T) bits;
+      bits = onDone (orderVerdict T (length tones) (length bits)) (bitsIn T) bits;
     }
 
 -- the promise of an operation that re-orders: its answer, and both buffers afterwards
@@ -77,7 +77,7 @@ reportOf (NotDone x r) = record { verdict = refused (numberOf x) (placeOf x); re
 
 -- the register after the draws where nothing is refused, else the given one
 unfoldable pub reportBy : Verdict → ℕ → ℕ → Report
-reportBy v given drawn = record { verdict = v; register = cond (eqb (v .number) 0) drawn given }
+reportBy v given after = record { verdict = v; register = cond (eqb (v .number) 0) after given }
 
 -- ---- encoding uses 1 to 12; X and Y go to two lent lists of NSC entries
 
@@ -183,7 +183,7 @@ abbrev pub labelledOf : Labelled → OneTone ℕ
 labelledOf (Label l) = toneDone l
 labelledOf (NotLabelled x) = record { number = numberOf x; place = placeOf x; value = none }
 
--- ---- drawing one filler bit uses 12
+-- ---- drawing one filler bit: document 01 lists no numbers for it; 12 is the one that speaks of a register
 
 pub record Draw : Type 0 where
   pub number : ℕ

@@ -54,7 +54,7 @@ placeOf R.Label = 0
 
 -- ---- the smallest number that applies: refusals are tested in the order of their numbers
 
--- a number, a place and L; a refusal reports L as 0
+-- a number, a place and L: 0 DONE has place 0; a refusal reports L as 0
 pub record Verdict : Type 0 where
   pub number : ℕ
   pub place : ℕ
@@ -131,7 +131,7 @@ oddTest m b t = isCoded m && isOne (ones b t % 2)
 abbrev pub fewTest : Mode → List ℕ → List ℕ → Bool
 fewTest m b t = isCoded m && ltb (count (ltb 0) (reorderedBits m b t)) 4
 
--- 9 PAIR: coded, a pair holds an entry of 1
+-- 9 PAIR: coded, a pair holds an entry of 1 (re-ordering leaves none)
 abbrev pub holdsOne : Pair → Bool
 holdsOne p = isOne (p .x) || isOne (p .y)
 

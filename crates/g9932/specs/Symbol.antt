@@ -2,7 +2,6 @@
 use Prim.Native.Nat.{ℕ, zero, suc}
 use mathlib.Core.Bool.{Bool, true, false, not}
 use mathlib.Core.List.{List, [], _∷_, _++_, map}
-use lib.IntN.{ℤ, negℤ}
 use lib.ListN.{take, drop, getD}
 use Rattle.g9932.specs.Sizes.{Tables, entry, toneOf, frameBits, Point, point, origin}
 use Rattle.g9932.specs.Order.{Pair, reorderedTones, reorderedBits, codedPairs, frameSize}
@@ -19,8 +18,8 @@ classAt T k = toneOf (entry (T .bits) k) (entry (T .gains) k) .class
 abbrev pub orderOf : Tables → List ℕ
 orderOf T = reorderedTones (T .mode) (T .bits) (T .tones)
 
-abbrev pub entriesOf : Tables → List ℕ
-entriesOf T = reorderedBits (T .mode) (T .bits) (T .tones)
+abbrev pub bitsIn : Tables → List ℕ
+bitsIn T = reorderedBits (T .mode) (T .bits) (T .tones)
 
 abbrev pub classesOf : Tables → List Class
 classesOf T = map (classAt T) (orderOf T)
@@ -91,8 +90,3 @@ gatherBits (c ∷ cs) (p ∷ q) = toneBits c p ++ gatherBits cs q
 -- the reading of a list of points
 unfoldable pub readingIn : Tables → List Point → Reading
 readingIn T q = readingOf (T .mode) (pairsIn T) (gatherBits (classesOf T) q)
-
--- ---- half a turn: (−X, −Y) for (X, Y)
-
-abbrev pub turned : List ℤ → List ℤ
-turned xs = map negℤ xs

@@ -1,4 +1,6 @@
 // The vocabulary of the symbol code: ITU-T G.993.2 clause 10.3, in the words of document 01.
+ghost use mathlib.Core.Path.{_≡_};
+ghost use Rattle.g9932.specs.Trellis.{nextState, lowBits};
 
 // A place in the tone table t or in the re-ordered tone table t'.
 pub struct Place(pub usize);
@@ -53,7 +55,7 @@ pub struct FillerBit {
     pub register: u32,
 }
 
-// The first place at which a test holds.
+// The first number at which a test holds: a place, a sub-carrier index or a pair, as the search says.
 pub enum Found {
     At(usize),
     Nothing,
@@ -107,4 +109,25 @@ pub enum Labelled {
 pub enum Drawn {
     Bit { bit: bool, register: u32 },
     Refused { refusal: Refusal, register: u32 },
+}
+
+impl TrellisState {
+    // One step of the encoder, from a pair's bits u1 to u3: u0 is S0.
+    pub fn step(self, u1: bool, u2: bool, u3: bool) -> Stepped
+        ensures { λ r. ⌜ (r .next ≡ nextState self u1 u2) × (r .low ≡ lowBits (self .s0) u1 u2 u3) ⌝ }
+    {
+        let next = TrellisState {
+            s3: self.s1,
+            s2: self.s0,
+            s1: self.s2 ^ u2,
+            s0: (self.s1 ^ self.s3) ^ u1,
+        };
+        let low = LowBits {
+            v0: u3,
+            v1: u1 ^ u3,
+            w0: u2 ^ u3,
+            w1: ((self.s0 ^ u1) ^ u2) ^ u3,
+        };
+        Stepped { next, low }
+    }
 }

@@ -8,7 +8,7 @@ use borrow.Author.Tests.{eq-eqb, eqb-false}
 use lib.ListN.{length}
 use Rattle.g9932.specs.Sizes.{Tables, tables}
 use Rattle.g9932.specs.Refusals.{Verdict, accepted, sizeTest, roomTest, tableVerdict}
-use Rattle.g9932.specs.Symbol.{orderOf, entriesOf, sizeOf}
+use Rattle.g9932.specs.Symbol.{orderOf, bitsIn, sizeOf}
 use Rattle.g9932.specs.Answers.{verdictOf, orderVerdict, Reorders}
 use Rattle.g9932.specs.declared.Mode.{Mode}
 use Rattle.g9932.specs.declared.Refusal.{Refusal}
@@ -96,7 +96,7 @@ module _ {T : Tables} {tones bits : List ℕ} where
   reorder-room {l} e f = kept Room (and-accepted l e (test-here 10 _ f))
 
   pub reorder-done : {l : ℕ} {tonesAfter bitsAfter : List ℕ} → accepted l ≡ tableVerdict T → length tones ≡ length (T .tones) → length bits ≡ length (T .tones)
-      → tonesAfter ≡ orderOf T → bitsAfter ≡ entriesOf T → Reorders T tones bits (Accepted l) tonesAfter bitsAfter
+      → tonesAfter ≡ orderOf T → bitsAfter ≡ bitsIn T → Reorders T tones bits (Accepted l) tonesAfter bitsAfter
   unfolding orderVerdict
   reorder-done {l} e p q u v =
       let f : roomTest (length tones) (length (T .tones)) || roomTest (length bits) (length (T .tones)) ≡ false = simp (eq-eqb _ _ p, eq-eqb _ _ q) in

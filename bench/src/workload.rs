@@ -1,0 +1,156 @@
+//! Tables with a few frames and their points, the same for both sides.
+
+use crate::peer;
+use clevisroot_sys::{Answer, Tables};
+use difftest::random::Random;
+
+/// Frames in turn, so that no side profits from one frame's bits.
+const FRAMES: usize = 8;
+const REGISTER: u32 = 8_388_607;
+
+/// What the tones carry.
+#[derive(Clone, Copy)]
+pub struct Load {
+    pub name: &'static str,
+    pub coded: u8,
+    /// Bit counts from the first to the last, evenly.
+    pub bits: (u8, u8),
+}
+
+pub const LOADS: [Load; 4] = [
+    load("15 bits coded", 1, (15, 15)),
+    load("15 bits uncoded", 0, (15, 15)),
+    MIXED,
+    load("8 bits coded", 1, (8, 8)),
+];
+pub const MIXED: Load = load("0 to 15 bits coded", 1, (0, 15));
+
+const fn load(name: &'static str, coded: u8, bits: (u8, u8)) -> Load {
+    Load { name, coded, bits }
+}
+
+pub type Encode = fn(Tables, &[u8], u32, &mut [i16], &mut [i16]) -> Answer;
+pub type Read = fn(Tables, &[i16], &[i16], u32, &mut [u8]) -> Answer;
+
+struct OwnTables {
+    coded: u8,
+    bits: Vec<u8>,
+    gains: Vec<u16>,
+    tones: Vec<u16>,
+}
+
+struct Symbol {
+    frame: Vec<u8>,
+    x: Vec<i16>,
+    y: Vec<i16>,
+}
+
+pub struct Workload {
+    tables: OwnTables,
+    symbols: Vec<Symbol>,
+    next: usize,
+    /// What encoding and reading write to.
+    out: Symbol,
+}
+
+impl OwnTables {
+    /// So many tones in shuffled order. Of those without bits half are monitored.
+    fn random(random: &mut Random, load: Load, nsc: usize) -> OwnTables {
+        let (first, last) = (usize::from(load.bits.0), usize::from(load.bits.1));
+        let bits: Vec<u8> = (0..nsc).map(|_| random.within(first, last) as u8).collect();
+        let has_gain = |&b: &u8| b > 0 || random.one_in(2);
+        let gains = bits.iter().map(has_gain).map(|has| 512 * u16::from(has));
+        let gains = gains.collect();
+        let mut tones: Vec<u16> = (0..nsc as u16).collect();
+        random.shuffle(&mut tones);
+        OwnTables {
+            coded: load.coded,
+            bits,
+            gains,
+            tones,
+        }
+    }
+
+    fn lent(&self) -> Tables<'_> {
+        Tables {
+            coded: self.coded,
+            bits: &self.bits,
+            gains: &self.gains,
+            tones: &self.tones,
+        }
+    }
+}
+
+impl Workload {
+    /// Draws tables until some are accepted, and writes the symbols with the peer.
+    pub fn new(load: Load, nsc: usize) -> Workload {
+        let random = &mut Random::for_case(nsc as u64, u64::from(load.bits.0));
+        loop {
+            let tables = OwnTables::random(random, load, nsc);
+            let answer = peer::check(tables.lent());
+            if answer.number == 0 {
+                let l = answer.size as usize;
+                let symbols: Vec<Symbol> = (0..FRAMES)
+                    .map(|_| Symbol::random(random, &tables, l))
+                    .collect();
+                let out = Symbol::blank(nsc, l);
+                return Workload {
+                    tables,
+                    symbols,
+                    next: 0,
+                    out,
+                };
+            }
+        }
+    }
+
+    /// Encodes the next frame.
+    pub fn encode(&mut self, encode: Encode) -> Answer {
+        self.next = (self.next + 1) % FRAMES;
+        let frame = &self.symbols[self.next].frame;
+        let Symbol { x, y, .. } = &mut self.out;
+        encode(self.tables.lent(), frame, REGISTER, x, y)
+    }
+
+    /// Reads the next points.
+    pub fn read(&mut self, read: Read) -> Answer {
+        self.next = (self.next + 1) % FRAMES;
+        let Symbol { x, y, .. } = &self.symbols[self.next];
+        read(self.tables.lent(), x, y, REGISTER, &mut self.out.frame)
+    }
+
+    /// An implementation writes the peer's points, and reads the frames from them.
+    pub fn agrees(&mut self, encode: Encode, read: Read) -> bool {
+        let written = (0..FRAMES).all(|_| {
+            let answer = self.encode(encode);
+            let symbol = &self.symbols[self.next];
+            answer.number == 0 && (&symbol.x, &symbol.y) == (&self.out.x, &self.out.y)
+        });
+        let understood = (0..FRAMES).all(|_| {
+            let answer = self.read(read);
+            answer.number == 0 && self.symbols[self.next].frame == self.out.frame
+        });
+        written && understood
+    }
+}
+
+impl Symbol {
+    fn blank(nsc: usize, l: usize) -> Symbol {
+        Symbol {
+            frame: vec![0; l.div_ceil(8)],
+            x: vec![0; nsc],
+            y: vec![0; nsc],
+        }
+    }
+
+    fn random(random: &mut Random, tables: &OwnTables, l: usize) -> Symbol {
+        let mut symbol = Symbol::blank(tables.tones.len(), l);
+        for bit in 0..l {
+            symbol.frame[bit / 8] |= u8::from(random.one_in(2)) << (bit % 8);
+        }
+        let Symbol { frame, x, y } = &mut symbol;
+        let answer = peer::encode(tables.lent(), frame, REGISTER, x, y);
+        assert_eq!(answer.number, 0);
+        symbol
+    }
+}

@@ -1,0 +1,59 @@
+//! The peer against the reference, on the cases of the differential test.
+
+use bench::peer;
+use clevisroot_sys::{Answer, Drawn, Label, Point, Tables};
+use difftest::compare::Comparison;
+use difftest::exhaustive::one_tone;
+use difftest::run::random_cases;
+use difftest::tally::Tally;
+use difftest::under_test::Core;
+
+struct Peer;
+
+impl Core for Peer {
+    fn check(&self, tables: Tables) -> Answer {
+        peer::check(tables)
+    }
+
+    fn reorder(&self, tables: Tables, tones_out: &mut [u16], bits_out: &mut [u8]) -> Answer {
+        peer::reorder(tables, tones_out, bits_out)
+    }
+
+    fn encode(
+        &self,
+        tables: Tables,
+        frame: &[u8],
+        reg: u32,
+        x: &mut [i16],
+        y: &mut [i16],
+    ) -> Answer {
+        peer::encode(tables, frame, reg, x, y)
+    }
+
+    fn read(&self, tables: Tables, x: &[i16], y: &[i16], reg: u32, frame: &mut [u8]) -> Answer {
+        peer::read(tables, x, y, reg, frame)
+    }
+
+    fn map_label(&self, bits: u8, label: u32) -> Point {
+        peer::map_label(bits, label)
+    }
+
+    fn read_point(&self, bits: u8, x: i16, y: i16) -> Label {
+        peer::read_point(bits, x, y)
+    }
+
+    fn draw(&self, reg: u32) -> Drawn {
+        peer::draw(reg)
+    }
+}
+
+#[test]
+fn peer_answers_as_the_reference() {
+    let mut comparison = Comparison {
+        core: &Peer,
+        tally: Tally::default(),
+    };
+    one_tone(&mut comparison, 13).unwrap();
+    random_cases(&mut comparison, 20_000, 7).unwrap();
+    comparison.tally.verdict().unwrap();
+}

@@ -1,0 +1,63 @@
+-- `constellation::widened` meets its contract: the top five bits by one shift, the top bits by one exclusive or.
+use native.Mathlib.Omega.{arith}
+use mathlib.Core.Path.{_≡_, _∙_, ap}
+use lib.Bits.{bitXor}
+use Prim.Native.Nat.{_/_}
+use Rattle.constellation.specs.Widened.{topFour}
+use Rattle.constellation.proofs.Sizes.{five-lt, label-16}
+use Rattle.constellation.proofs.Tops.{five-law, widened-law}
+use borrow.Author.Needs.{needs}
+use Rattle.constellation.proofs.widened.Statement.{statement}
+use Rattle.constellation.proofs.widened.Tie as tie
+
+mul-q : tie.Need-mul-q
+mul-q c = record { fits = omega (arith, label-16 (c .args .k) (c .args .label) (c .pre .0) (c .pre .1)) }
+
+mul-q-2 : tie.Need-mul-q-2
+mul-q-2 c = search needs
+
+sub-q : tie.Need-sub-q
+sub-q c = search needs
+
+add-q : tie.Need-add-q
+add-q c = record { fits = omega (arith, label-16 (c .args .k) (c .args .label) (c .pre .0) (c .pre .1)) }
+
+mul-q-3 : tie.Need-mul-q-3
+mul-q-3 c = search needs
+
+add-q-2 : tie.Need-add-q-2
+add-q-2 c = search needs
+
+shr-q : tie.Need-shr-q
+shr-q c = search needs
+
+widening-requires : tie.Need-widening-requires
+widening-requires c κs = rw (five-law (c .args .k) (c .args .label)) (five-lt (c .args .k) (c .args .label) (c .pre .1))
+
+mul-result : tie.Need-mul-result
+mul-result c = search needs
+
+shl-result : tie.Need-shl-result
+shl-result c = search needs
+
+returns : tie.Need-returns
+returns c =
+    let a = c .before .args in
+    widened-law (a .k) (a .label) (c .widening .result) (c .before .pre .0) (c .before .pre .1)
+    (c .widening .ensures ∙ ap (λ q. bitXor (q / 4) (topFour q)) (five-law (a .k) (a .label)))
+
+pub widened-spec : {M : Type 1} → statement M
+widened-spec =
+    tie.close
+    (tie.spec
+    mul-q
+    mul-q-2
+    sub-q
+    add-q
+    mul-q-3
+    add-q-2
+    shr-q
+    widening-requires
+    mul-result
+    shl-result
+    returns)

@@ -1,0 +1,215 @@
+// Constellations of 1 to 15 bits: one label to a point, one point to a label, without a search.
+ghost use mathlib.Core.Path.{_≡_};
+ghost use Prim.Native.Nat.{_+_, _*_, _/_, _%_, _^_, _<_, _≤_};
+ghost use lib.Bits.{bitXor};
+ghost use lib.IntN.{pos, _+ℤ_};
+ghost use Rattle.g9932.specs.Bits.{bits as bitsOf, num};
+ghost use Rattle.g9932.specs.Sizes.{point};
+ghost use Rattle.g9932.specs.Points.{pointOf, labelOf, sameInt};
+ghost use Rattle.g9932.specs.Answers.{mapLabel, readPoint, mappedOf, labelledOf};
+ghost use Rattle.constellation.specs.Widened.{pairs as pairsOf, oddLabel, topFour, widened as widenedOf, xBits, yBits, woven, half as halfOf, axis as axisOf};
+ghost use Rattle.constellation.specs.Reading.{SoughtIs, Placed, Narrowed};
+use g9932::Labelled;
+use g9932::Mapped;
+use g9932::Place;
+use g9932::Refusal;
+
+// Tables held in numbers, an entry in four bits. By the top five bits of a label (Table 10-3): the exclusive or of its top
+// three bits with Xc Yc Xd Yd, Xc and Yc complemented; the first sixteen entries and the others.
+const WIDEN_LOW: u64 = 0x4444_8888_cccc;
+
+const WIDEN_HIGH: u64 = 0x66cc_4141_d8d8_00aa;
+
+// The same by Xc Yc Xd Yd.
+const NARROW: u64 = 0x0a8c_c08d_1400_0460;
+
+// The coordinates of a point.
+pub struct Coordinates {
+    pub x: i16,
+    pub y: i16,
+}
+
+// The label of a point, where the constellation has the point.
+pub struct Sought {
+    pub found: bool,
+    pub label: u32,
+}
+
+// How many pairs of bits stand below the three top bits of a label.
+fn pairs(b: u32) -> u32
+    ensures { λ r. ⌜ r ≡ pairsOf b ⌝ }
+{
+    if b < 2 { 0 } else { b / 2 - 1 }
+}
+
+// The label of an odd bit count that has the same point.
+fn odd_label(b: u32, label: u32) -> u32
+    requires { ⌜ label < 32768 ⌝ }
+    ensures { λ r. ⌜ r ≡ oddLabel b label ⌝ }
+{
+    if b < 2 {
+        return 3 * label;
+    }
+    label
+}
+
+// What widens the top three bits, by the top five.
+fn widening(q: u32) -> u32
+    requires { ⌜ q < 32 ⌝ }
+    ensures { λ r. ⌜ r ≡ bitXor (q / 4) (topFour q) ⌝ }
+{
+    let table = if q < 16 { WIDEN_LOW } else { WIDEN_HIGH };
+    ((table >> (4 * (q % 16))) % 16) as u32
+}
+
+// The word of a label with k pairs: the bits of X and Y in turn.
+fn widened(k: u32, label: u32) -> u32
+    requires { ⌜ (k ≤ 6) × (label < 2 ^ (2 * k + 3)) ⌝ }
+    ensures { λ r. ⌜ r ≡ widenedOf k label ⌝ }
+{
+    let q = (32 * label + (24 - 8 * (label % 4))) >> (2 * k + 3);
+    label ^ (widening(q) << (2 * k))
+}
+
+// The bits of X, in the upper half, and those of Y.
+fn apart(word: u32) -> u32
+    requires { ⌜ word < 65536 ⌝ }
+    ensures { λ r. ⌜ r ≡ 65536 * xBits word + yBits word ⌝ }
+{
+    let ones = (word | (word << 15)) & 0x5555_5555;
+    let twos = (ones | (ones >> 1)) & 0x3333_3333;
+    let fours = (twos | (twos >> 2)) & 0x0f0f_0f0f;
+    (fours | (fours >> 4)) & 0x00ff_00ff
+}
+
+// The weight of a coordinate's sign bit.
+fn half(k: u32) -> u32
+    requires { ⌜ k ≤ 6 ⌝ }
+    ensures { λ r. ⌜ r ≡ halfOf k ⌝ }
+{
+    4u32 << k
+}
+
+// A coordinate, from its bits with the sign bit complemented.
+fn axis(half: u32, e: u32) -> i16
+    requires { ⌜ (1 ≤ half) × (half ≤ 256) × (e < 256) ⌝ }
+    ensures { λ r. ⌜ r ≡ axisOf half e ⌝ }
+{
+    (2 * e + 1) as i16 - half as i16
+}
+
+// The point of a label. Called by proved code only.
+pub fn point_of(b: u32, label: u32) -> Coordinates
+    requires { ⌜ (1 ≤ b) × (b ≤ 15) × (label < 2 ^ b) ⌝ }
+    ensures { λ r. ⌜ point (r .x) (r .y) ≡ pointOf b (bitsOf b label) ⌝ }
+{
+    let k = pairs(b);
+    let both = apart(widened(k, odd_label(b, label)));
+    let h = half(k);
+    Coordinates {
+        x: axis(h, both / 65536),
+        y: axis(h, both % 65536),
+    }
+}
+
+// Maps one label: refusal 16.
+pub fn map_label(bits: u8, label: u32) -> Mapped
+    ensures { λ r. ⌜ mappedOf r ≡ mapLabel bits label ⌝ }
+{
+    if bits < 1 {
+        return Mapped::Refused(Refusal::Label);
+    }
+    if 15 < bits {
+        return Mapped::Refused(Refusal::Label);
+    }
+    let b = bits as u32;
+    if 1u32 << b <= label {
+        return Mapped::Refused(Refusal::Label);
+    }
+    let c = point_of(b, label);
+    Mapped::Point { x: c.x, y: c.y }
+}
+
+// A coordinate and 65,535.
+fn raised(z: i16) -> u32
+    ensures { λ r. ⌜ pos r ≡ z +ℤ pos 65535 ⌝ }
+{
+    (z as i32 + 65535) as u32
+}
+
+// The bits of a coordinate, if it has such bits: its own cut to the width.
+fn place(k: u32, half: u32, z: i16) -> u32
+    requires { ⌜ (k ≤ 6) × (half ≡ halfOf k) ⌝ }
+    ensures { λ r. ⌜ Placed half z r ⌝ }
+{
+    ((raised(z) + half) / 2) & (half - 1)
+}
+
+// The word whose bits of X and Y these are.
+fn together(x: u32, y: u32) -> u32
+    requires { ⌜ (x < 256) × (y < 256) ⌝ }
+    ensures { λ r. ⌜ r ≡ num (woven (bitsOf 8 x) (bitsOf 8 y)) ⌝ }
+{
+    let halves = 65536 * x + y;
+    let fours = (halves | (halves << 4)) & 0x0f0f_0f0f;
+    let twos = (fours | (fours << 2)) & 0x3333_3333;
+    let ones = (twos | (twos << 1)) & 0x5555_5555;
+    (ones | (ones >> 15)) & 0xffff
+}
+
+// The label with k pairs whose word this is, if it is the word of one.
+fn narrowed(k: u32, word: u32) -> u32
+    requires { ⌜ (k ≤ 6) × (word < 2 ^ (4 + 2 * k)) ⌝ }
+    ensures { λ r. ⌜ Narrowed k word r ⌝ }
+{
+    let narrowing = ((NARROW >> (4 * (word >> (2 * k)))) % 16) as u32;
+    word ^ (narrowing << (2 * k))
+}
+
+// The n lowest bits of a value.
+fn lowest(value: u32, n: u32) -> u32
+    requires { ⌜ n < 32 ⌝ }
+    ensures { λ r. ⌜ r ≡ value % 2 ^ n ⌝ }
+{
+    value & ((1u32 << n) - 1)
+}
+
+// Whether two coordinates are the same.
+fn same(a: i16, b: i16) -> bool
+    ensures { λ r. ⌜ r ≡ sameInt a b ⌝ }
+{
+    a == b
+}
+
+// The label of a point, where the constellation has the point. Called by proved code only.
+pub fn label_of(b: u32, x: i16, y: i16) -> Sought
+    requires { ⌜ (1 ≤ b) × (b ≤ 15) ⌝ }
+    ensures { λ r. ⌜ SoughtIs r (labelOf b (point x y)) ⌝ }
+{
+    let k = pairs(b);
+    let h = half(k);
+    let ex = place(k, h, x);
+    let ey = place(k, h, y);
+    let word = together(ex, ey);
+    let label = lowest(narrowed(k, word), b);
+    let back = widened(k, odd_label(b, label));
+    let found = (back == word) & (same(axis(h, ex), x) & same(axis(h, ey), y));
+    Sought { found, label }
+}
+
+// Reads one point: refusal 16 for its bits, then 13.
+pub fn read_point(bits: u8, x: i16, y: i16) -> Labelled
+    ensures { λ r. ⌜ labelledOf r ≡ readPoint bits (point x y) ⌝ }
+{
+    if bits < 1 {
+        return Labelled::Refused(Refusal::Label);
+    }
+    if 15 < bits {
+        return Labelled::Refused(Refusal::Label);
+    }
+    let s = label_of(bits as u32, x, y);
+    if s.found {
+        return Labelled::Label(s.label);
+    }
+    Labelled::Refused(Refusal::Offgrid(Place(0)))
+}

@@ -1,0 +1,38 @@
+-- What a bit writer over a buffer stands for.
+use mathlib.Core.Path.{_≡_}
+use mathlib.Core.Bool.{Bool, false}
+use mathlib.Core.List.{List, _++_}
+use Prim.Native.Nat.{ℕ, _+_, _*_, _^_, _<_}
+use lib.ListN.{length, take}
+use Rattle.g9932.specs.Bits.{bits}
+use Rattle.g9932.specs.Refusals.{frameTest}
+use Rattle.g9932.specs.Sizes.{unpack, bytesFor}
+use Rattle.frame.specs.declared.BitWriter.{BitWriter}
+
+-- nothing put yet
+abbrev pub emptyWriter : BitWriter
+emptyWriter = record { acc = 0; fill = 0; next = 0 }
+
+-- the bits put so far: the whole bytes before next, and the bits that wait
+unfoldable pub written : BitWriter → List ℕ → List Bool
+written w buffer = unpack (take (w .next) buffer) ++ bits (w .fill) (w .acc)
+
+-- less than a byte waits
+pub record Waits (w : BitWriter) : Type 0 where
+  pub few : w .fill < 8
+  pub small : w .acc < 2 ^ w .fill
+
+-- how many bits are put
+abbrev pub count : BitWriter → ℕ
+count w = 8 * w .next + w .fill
+
+-- the writer v has put the bits x more than w
+pub record Put (w : BitWriter) (before : List ℕ) (x : List Bool) (v : BitWriter) (after : List ℕ) : Type 0 where
+  pub holds : written v after ≡ written w before ++ x
+  pub waits : Waits v
+  pub counted : count v ≡ count w + length x
+
+-- a buffer that begins with the frame of the bits x
+pub record Framed (x : List Bool) (buffer : List ℕ) : Type 0 where
+  pub starts : take (length x) (unpack buffer) ≡ x
+  pub clean : frameTest (length x) (take (bytesFor (length x)) buffer) ≡ false

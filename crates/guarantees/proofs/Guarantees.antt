@@ -1,0 +1,175 @@
+-- Every promise over the definitions of document 01, in full. Each proof cites the part that shows it.
+-- The words are those of specs/Words.antt and of crate g9932.
+use Prim.Native.Nat.{ℕ, _+_, _-_, _/_, _%_, _^_, _≤_, _<_}
+use mathlib.Core.Bool.{Bool, true, cond, not}
+use mathlib.Core.List.{List, [], _∷_}
+use mathlib.Core.Logic.{_↔_, _≢_}
+use mathlib.Core.Path.{_≡_}
+use lib.Dec.{eqb}
+use lib.IntN.{ℤ}
+use lib.ListN.{length, take, drop, getD}
+use Rattle.g9932.specs.Bits.{_⊕_, bits, bit, odd}
+use Rattle.g9932.specs.Sizes.{Tables, unpack, Point}
+use Rattle.g9932.specs.Refusals.{refused}
+use Rattle.g9932.specs.Order.{sum, count, bitsOf, entryCount, pairCount}
+use Rattle.g9932.specs.Trellis.{Word, lowBitsOf, sentBits}
+use Rattle.g9932.specs.Points.{pointOf}
+use Rattle.g9932.specs.Filler.{nextRegister, drawn, registerAfter}
+use Rattle.g9932.specs.Symbol.{orderOf, bitsIn, classesOf, pairsIn, sizeOf, sentIn, writePoints, writtenPoints}
+use Rattle.g9932.specs.Answers.{encodeOf, Read, readOf, toneDone, mapLabel, readPoint}
+use Rattle.g9932.specs.declared.Class.{Class}
+use Rattle.g9932.specs.declared.Class.the-variants.{Data}
+use Rattle.g9932.specs.declared.Found.the-variants.{At, Nothing}
+use Rattle.g9932.specs.declared.Mode.the-variants.{Uncoded, Coded}
+use Rattle.g9932.proofs.Figures as Figures
+use Rattle.g9932.proofs.Packed as Packed
+use Rattle.g9932.proofs.Reordering as Reordering
+use Rattle.guarantees.specs.Words.{AcceptedTables, AcceptedFrame, ValidRegister, RightLength, Ready, firstMonitored, nonZero, negated, secondBit, fillerBit, turned}
+use Rattle.guarantees.proofs.HalfTurn as HalfTurn
+use Rattle.guarantees.proofs.Mapping as Mapping
+use Rattle.guarantees.proofs.RoundTrip as RoundTrip
+use Rattle.guarantees.proofs.Totals as Totals
+
+-- ---- demand 3
+
+-- In any accepted tables, with a valid register and lent buffers xs, ys and f₀ of exact lengths:
+module _ (T : Tables) (r : ℕ) (xs ys : List ℤ) (f₀ : List ℕ) (ready : Ready T r xs ys f₀) where
+  -- Two accepted frames give the same points exactly when they are the same frame.
+  pub distinct : (f g : List ℕ) → AcceptedFrame T f → AcceptedFrame T g
+      → ((encodeOf T f r xs ys .xs ≡ encodeOf T g r xs ys .xs) × (encodeOf T f r xs ys .ys ≡ encodeOf T g r xs ys .ys)) ↔ (f ≡ g)
+  distinct = RoundTrip.distinct T r xs ys f₀ ready
+
+  -- A point list of the right length is read exactly when some accepted frame gives it,
+  pub exactly : (X Y : List ℤ) → RightLength T X Y
+      → (readOf T X Y r f₀ .report .verdict .number ≡ 0)
+      ↔ ((f : List ℕ) × AcceptedFrame T f × (encodeOf T f r xs ys .xs ≡ X) × (encodeOf T f r xs ys .ys ≡ Y))
+  exactly = RoundTrip.exactly T r xs ys f₀ ready
+
+  -- with that frame as the answer, and with the number, place, L and register of encoding it.
+  pub answered : (f : List ℕ) → AcceptedFrame T f
+      → readOf T (encodeOf T f r xs ys .xs) (encodeOf T f r xs ys .ys) r f₀ ≡ record { report = encodeOf T f r xs ys .report; frame = f }
+  answered = RoundTrip.answered T r xs ys f₀ ready
+
+  -- Coded, a written symbol with every point turned by half a turn:
+  abbrev turnedRead : List ℕ → Read
+  turnedRead f = readOf T (turned (encodeOf T f r xs ys .xs)) (turned (encodeOf T f r xs ys .ys)) r f₀
+
+  -- it is read as another frame exactly when no tone is monitored and N is even;
+  pub half-turn : T .mode ≡ Coded → (f : List ℕ) → AcceptedFrame T f
+      → ((turnedRead f .report .verdict .number ≡ 0) × AcceptedFrame T (turnedRead f .frame) × (turnedRead f .frame ≢ f))
+      ↔ ((firstMonitored T ≡ Nothing) × (nonZero T % 2 ≡ 0))
+  half-turn = HalfTurn.half-turn T r xs ys f₀ ready
+
+  -- otherwise it is refused.
+  pub half-turn-refused : T .mode ≡ Coded → (f : List ℕ) → AcceptedFrame T f
+      → ((firstMonitored T ≡ Nothing) × (nonZero T % 2 ≡ 0) → ⊥) → turnedRead f .report .verdict .number ≢ 0
+  half-turn-refused m f ok other e = other (HalfTurn.half-turn-only T r xs ys f₀ ready m f ok e)
+
+  -- With a monitored tone, the refusal is MONITOR at the first one;
+  pub half-turn-monitored : T .mode ≡ Coded → (f : List ℕ) → AcceptedFrame T f → (k : ℕ) → firstMonitored T ≡ At k
+      → turnedRead f .report .verdict ≡ refused 14 k
+  half-turn-monitored = HalfTurn.half-turn-monitored T r xs ys f₀ ready
+
+  -- with none, and N odd, it is TRELLIS at pair 1 where P is 3, else at pair 2.
+  pub half-turn-odd : T .mode ≡ Coded → (f : List ℕ) → AcceptedFrame T f → firstMonitored T ≡ Nothing → nonZero T % 2 ≡ 1
+      → turnedRead f .report .verdict ≡ refused 15 (cond (eqb (length (pairsIn T)) 3) 1 2)
+  half-turn-odd = HalfTurn.half-turn-odd T r xs ys f₀ ready
+
+-- ---- how many bits
+
+-- Coded, the bits on the tones number the frame's bits, one per coded pair, and four; uncoded, the frame's bits alone.
+module _ (T : Tables) (ok : AcceptedTables T) where
+  pub bits-coded : T .mode ≡ Coded → sum (bitsOf (T .bits) (orderOf T)) ≡ sizeOf T + length (pairsIn T) + 4
+  bits-coded = Totals.bits-coded T ok
+
+  pub bits-uncoded : T .mode ≡ Uncoded → sum (bitsOf (T .bits) (orderOf T)) ≡ sizeOf T
+  bits-uncoded = Totals.bits-uncoded T ok
+
+  -- and as many are sent for an accepted frame
+  pub bits-sent : (f : List ℕ) → AcceptedFrame T f → length (sentIn T f) ≡ sum (bitsOf (T .bits) (orderOf T))
+  bits-sent = Totals.bits-sent T ok
+
+  -- t' is a re-arrangement of t, and b' sums to the bits of b
+  pub rearranged : (k : ℕ) → count (eqb k) (orderOf T) ≡ count (eqb k) (T .tones)
+  rearranged k = Reordering.count-order (T .bits) (T .tones) (T .mode) (eqb k)
+
+  pub bits-kept : sum (bitsIn T) ≡ sum (T .bits)
+  bits-kept = Totals.bits-kept T ok
+
+  -- t', b' and the points have NSC entries each
+  pub lengths : (r : ℕ) (f : List ℕ)
+      → (length (orderOf T) ≡ length (T .tones)) × (length (bitsIn T) ≡ length (T .tones)) × (length (writtenPoints T r f) ≡ length (T .tones))
+  lengths = Totals.lengths T ok
+
+  -- N is counted in b' as document 01 works it out of the tones, and P pairs are cut
+  pub counts : T .mode ≡ Coded
+      → (nonZero T ≡ entryCount (T .bits) (T .tones)) × (length (pairsIn T) ≡ pairCount (T .bits) (T .tones))
+  counts = Totals.counts T ok
+
+-- ---- which bits go where
+
+-- Sent bits go v then w, lowest first:
+pub sent-low : (x y : ℕ) (u : Word) → 2 ≤ x → length (u .high) ≡ x + y - 4 → 2 ≤ y
+    → (take 2 (sentBits x u) ≡ lowBitsOf u .v0 ∷ lowBitsOf u .v1 ∷ []) × (take 2 (drop x (sentBits x u)) ≡ lowBitsOf u .w0 ∷ lowBitsOf u .w1 ∷ [])
+sent-low = Totals.sent-low
+
+-- so the first of two paired 1-bit tones gets v0, the second v1 (w0 and w1 where their entry is the second of its coded pair).
+pub two-ones : (r : ℕ) (cs : List Class) (b0 b1 : Bool) (d : List Bool)
+    → writePoints r (Data 1 ∷ Data 1 ∷ cs) (b0 ∷ b1 ∷ d) ≡ pointOf 1 (b0 ∷ []) ∷ pointOf 1 (b1 ∷ []) ∷ writePoints r cs d
+two-ones = Totals.two-ones
+
+-- ---- one tone
+
+-- The mapping, for every bit count: reading a mapped label gives the label,
+pub mapped-read : (b l : ℕ) (p : Point) → mapLabel b l ≡ toneDone p → readPoint b p ≡ toneDone l
+mapped-read = Mapping.mapped-read
+
+-- a point that is read maps back,
+pub read-mapped : (b l : ℕ) (p : Point) → readPoint b p ≡ toneDone l → mapLabel b l ≡ toneDone p
+read-mapped = Mapping.read-mapped
+
+-- and labels are below 2 to the b.
+pub labels-below : (b l : ℕ) (p : Point) → readPoint b p ≡ toneDone l → l < 2 ^ b
+labels-below = Mapping.labels-below
+
+-- From 2 bits on the two lowest bits of a label are the second lowest bits of its coordinates: v1 of X, v0 of Y.
+-- What a turn does to the two lowest bits can be read off the coordinates' signs.
+pub low-bits : (b l : ℕ) (p : Point) → 2 ≤ b → mapLabel b l ≡ toneDone p
+    → (secondBit (p .px) ≡ bit (bits b l) 1) × (secondBit (p .py) ≡ bit (bits b l) 0)
+low-bits = Mapping.low-bits
+
+-- The opposite point has a label: the other one for 1 bit, and from 2 bits on one with both lowest bits complemented.
+pub opposite-one : (l : ℕ) (p : Point) → mapLabel 1 l ≡ toneDone p → readPoint 1 (negated p) ≡ toneDone (1 - l)
+opposite-one = Mapping.opposite-one
+
+pub opposite : (b l : ℕ) (p : Point) → 2 ≤ b → mapLabel b l ≡ toneDone p
+    → (m : ℕ) × (readPoint b (negated p) ≡ toneDone m) × (bit (bits b m) 0 ≡ not (bit (bits b l) 0)) × (bit (bits b m) 1 ≡ not (bit (bits b l) 1))
+opposite = Mapping.opposite
+
+-- ---- frames and filler bits
+
+-- Bit k of a frame is in byte k div 8, at weight 2 to the (k mod 8).
+pub frame-bit : (f : List ℕ) (k : ℕ) → bit (unpack f) k ≡ odd (getD f (k / 8) 0 / 2 ^ (k % 8))
+frame-bit = Packed.bit-unpack
+
+-- Filler bits d1 to d23 are 1; later dn = d(n−18) xor d(n−23).
+pub filler-first : (n : ℕ) → 1 ≤ n → n ≤ 23 → fillerBit n ≡ true
+filler-first = Totals.filler-first
+
+pub filler-later : (n : ℕ) → 23 < n → fillerBit n ≡ fillerBit (n - 18) ⊕ fillerBit (n - 23)
+filler-later = Totals.filler-later
+
+-- Bit j of the register is the j-th bit yet to come, and a valid register stays valid: after a draw, and after a symbol.
+pub filler-to-come : (r : ℕ) → ValidRegister r → (j : ℕ) → j < 23 → bit (drawn 23 r) j ≡ odd (r / 2 ^ j)
+filler-to-come = Totals.filler-to-come
+
+pub filler-valid : (r : ℕ) → ValidRegister r → ValidRegister (nextRegister r)
+filler-valid = Totals.filler-valid
+
+pub symbol-valid : (T : Tables) (r : ℕ) → ValidRegister r → ValidRegister (registerAfter r (classesOf T))
+symbol-valid = Totals.symbol-valid
+
+-- ---- the marked bench figures, as one claim
+
+pub marked-figures : Figures.MarkedFigures
+marked-figures = Figures.marked-figures

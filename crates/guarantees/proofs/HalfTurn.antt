@@ -1,0 +1,188 @@
+-- Half a turn of a written symbol in coded mode: with a monitored tone it fails 14 at the first one; else it is read as another
+-- frame where N is even, and breaks the code where N is odd.
+use Prim.Native.Nat.{ℕ, zero, suc, _%_, _<_}
+use mathlib.Core.Bool.{Bool, true, false, cond}
+use mathlib.Core.List.{List, [], _∷_, map}
+use mathlib.Core.Logic.{_↔_, _≢_}
+use mathlib.Core.Path.{_≡_, refl, sym, ap, ap₂, _∙_, subst}
+use native.Mathlib.Omega.{arith}
+use borrow.Author.Tests.{eq-eqb, ne-eqb}
+use lib.Dec.{ltb, eqb}
+use lib.IntN.{ℤ, negℤ}
+use lib.ListN.{length, getD, length-map}
+use Rattle.g9932.specs.Bits.{first}
+use Rattle.g9932.specs.Sizes.{Tables, pack, frameBits, Point, points}
+use Rattle.g9932.specs.Refusals.{Verdict, refused}
+use Rattle.g9932.specs.Order.{count, isOne, bitsOf, entries, reorderedTones, reorderedBits}
+use Rattle.g9932.specs.Trellis.{zeroState, encodePairs, frame, readPairs, sentOf, readingOf}
+use Rattle.g9932.specs.Symbol.{classesOf, orderOf, pairsIn, sizeOf, sentIn, writtenPoints, offgridTest, monitorTest, gatherBits, readingIn}
+use Rattle.g9932.specs.Answers.{reportBy, breakIn, pointsVerdict, Read, readOf}
+use Rattle.g9932.specs.declared.Class.the-variants.{Silent}
+use Rattle.g9932.specs.declared.Found.{Found}
+use Rattle.g9932.specs.declared.Found.the-variants.{At, Nothing}
+use Rattle.g9932.specs.declared.Mode.{Mode}
+use Rattle.g9932.specs.declared.Mode.the-variants.{Coded}
+use Rattle.g9932.proofs.Accepted.{Accepted, AcceptedCoded, accepted-tables}
+use Rattle.g9932.proofs.Constellations.{turnedPoint}
+use Rattle.g9932.proofs.Formed.{Formed}
+use Rattle.g9932.proofs.Packed.{length-frame}
+use Rattle.g9932.proofs.Pairs.{takenTotal}
+use Rattle.g9932.proofs.Reordering.{nonzero-entries}
+use Rattle.g9932.proofs.Search.{first-no, first-all, first-ext}
+use Rattle.g9932.proofs.Symbols.{length-gather}
+use Rattle.g9932.proofs.TurnedPairs.{turnedBits, turned-even, turned-odd}
+use Rattle.g9932.proofs.TurnedTones.{turnedLabels, tones-pairs}
+use Rattle.g9932.proofs.Verdicts.{found-here, found-past}
+use Rattle.guarantees.specs.Words.{AcceptedFrame, RightLength, Ready, isMonitored, firstMonitored, nonZero, turned}
+use Rattle.guarantees.proofs.Operations.{length-classes, Passes, done, reading, reading-done}
+use Rattle.guarantees.proofs.RoundTrip.{length-sentIn, length-written, packed-frame, packed-bits, X-of, Y-of, encoded-xs, encoded-ys, encoded-right}
+use Rattle.guarantees.proofs.Sent.{load-classes, loads-sum, sentOf-read}
+use Rattle.guarantees.proofs.TurnedSymbol.{loaded-classes, symbol-on, symbol-monitor, symbol-bits}
+
+points-turned : (q : List Point) → points (turned (map (λ p. p .px) q)) (turned (map (λ p. p .py) q)) ≡ map turnedPoint q
+unfolding points
+points-turned [] = refl
+points-turned (p ∷ q) = ap (λ (l : List Point). turnedPoint p ∷ l) (points-turned q)
+
+-- ---- the turned points of accepted tables in coded mode
+
+module _ (T : Tables) (a : Accepted T) (m : T .mode ≡ Coded) (r : ℕ) (f : List ℕ) (ok : AcceptedFrame T f) where
+  c : AcceptedCoded T
+  c = a .coded m
+
+  abbrev q : List Point
+  q = map turnedPoint (writtenPoints T r f)
+
+  abbrev g : List Bool
+  g = frameBits (sizeOf T) f
+
+  no-13 : (k : ℕ) → k < length (classesOf T) → offgridTest (classesOf T) q k ≡ false
+  unfolding writtenPoints
+  no-13 = symbol-on r (classesOf T) (sentIn T f) (loaded-classes T (orderOf T)) (length-sentIn T a r f ok)
+
+  at-14 : first (monitorTest r (classesOf T) q) (length (T .tones)) ≡ firstMonitored T
+  unfolding writtenPoints
+  at-14 =
+      first-ext (monitorTest r (classesOf T) q) (λ k. isMonitored (getD (classesOf T) k Silent)) (length (T .tones))
+      (λ k h. symbol-monitor r (classesOf T) (sentIn T f) k (rw (length-classes T) h))
+
+  sent-coded : sentIn T f ≡ encodePairs zeroState (pairsIn T) g
+  unfolding sentOf
+  sent-coded = ap (λ (n : Mode). sentOf n (pairsIn T) g) m
+
+  heard-turned : gatherBits (classesOf T) q ≡ turnedBits (pairsIn T) (encodePairs zeroState (pairsIn T) g)
+  unfolding writtenPoints
+  heard-turned =
+      symbol-bits r (classesOf T) (sentIn T f) (loaded-classes T (orderOf T)) (length-sentIn T a r f ok)
+      ∙ ap (λ (ns : List ℕ). turnedLabels ns (sentIn T f)) (load-classes T (orderOf T) ∙ ap (λ (n : Mode). bitsOf (T .bits) (reorderedTones n (T .bits) (T .tones))) m)
+      ∙ tones-pairs (T .bits) (T .tones) (c .onesEven) (sentIn T f) (length-sentIn T a r f ok ∙ loads-sum T)
+      ∙ ap₂ turnedBits (sym (c .pairs)) sent-coded
+
+  turned-reading : readingIn T q ≡ readPairs zeroState (pairsIn T) (turnedBits (pairsIn T) (encodePairs zeroState (pairsIn T) g))
+  unfolding readingIn readingOf
+  turned-reading = ap (λ (n : Mode). readingOf n (pairsIn T) (gatherBits (classesOf T) q)) m ∙ ap (readPairs zeroState (pairsIn T)) heard-turned
+
+  taken-bits : length g ≡ takenTotal (pairsIn T)
+  taken-bits = length-frame (sizeOf T) f (ok .passes) ∙ sym (c .taken)
+
+  parity : nonZero T ≡ length (entries (T .bits) (T .tones))
+  parity = ap (λ (n : Mode). count (ltb 0) (reorderedBits n (T .bits) (T .tones))) m ∙ nonzero-entries (T .bits) (T .tones)
+
+  -- ---- the verdict on them
+
+  past-13 : first (offgridTest (classesOf T) q) (length (T .tones)) ≡ Nothing
+  past-13 = first-all (offgridTest (classesOf T) q) (length (T .tones)) (λ k h. no-13 k (rw (length-classes T) h))
+
+  pub points-monitored : (k : ℕ) → firstMonitored T ≡ At k → refused 14 k ≡ pointsVerdict T q r
+  unfolding pointsVerdict
+  points-monitored k e = found-past 13 past-13 (found-here 14 _ (at-14 ∙ e))
+
+  formed-as : (o : Bool) → isOne (length (entries (T .bits) (T .tones)) % 2) ≡ o → Formed o (pairsIn T)
+  formed-as o e = rw e at (c .formed)
+
+  pub points-odd : firstMonitored T ≡ Nothing → nonZero T % 2 ≡ 1 → refused 15 (cond (eqb (length (pairsIn T)) 3) 1 2) ≡ pointsVerdict T q r
+  unfolding pointsVerdict
+  points-odd e n =
+      let o = formed-as true (eq-eqb (length (entries (T .bits) (T .tones)) % 2) 1 (rw (← parity) n)) in
+      found-past 13 past-13 (found-past 14 (at-14 ∙ e) (found-here 15 _ (ap breakIn (turned-reading ∙ turned-odd (pairsIn T) g o taken-bits))))
+
+  pub points-even : firstMonitored T ≡ Nothing → nonZero T % 2 ≡ 0
+      → Passes T q r × (h : List Bool) × (readingIn T q ≡ frame h) × (length h ≡ sizeOf T) × (h ≢ g)
+  unfolding readingIn
+  points-even e n =
+      let o = formed-as false (ne-eqb (length (entries (T .bits) (T .tones)) % 2) 1 (λ h. omega (arith, parity))) in
+      let t = turned-even (pairsIn T) g o taken-bits in
+      let is : readingIn T q ≡ frame (t .0) = turned-reading ∙ t .1 in
+      let lq : length q ≡ length (classesOf T) = length-map (writtenPoints T r f) turnedPoint ∙ length-written T a r f ∙ sym (length-classes T) in
+      let lg = length-gather (classesOf T) q lq no-13 ∙ loads-sum T in (
+        record {
+          on = no-13;
+          filled = λ k h. first-no (monitorTest r (classesOf T) q) (length (T .tones)) (at-14 ∙ e) k (rw (← length-classes T) h);
+        },
+        t .0,
+        is,
+        sentOf-read T a (gatherBits (classesOf T) q) (t .0) lg is .0,
+        t .2,
+      )
+
+-- ---- the promises
+
+module _ (T : Tables) (r : ℕ) (xs ys : List ℤ) (f₀ : List ℕ) (ready : Ready T r xs ys f₀) where
+  abbrev pub turnedRead : List ℕ → Read
+  turnedRead f = readOf T (turned (X-of T r xs ys f₀ ready f)) (turned (Y-of T r xs ys f₀ ready f)) r f₀
+
+  module _ (m : T .mode ≡ Coded) (f : List ℕ) (ok : AcceptedFrame T f) where
+    facts : Accepted T
+    facts = accepted-tables T (ready .tables)
+
+    abbrev X′ : List ℤ
+    X′ = turned (X-of T r xs ys f₀ ready f)
+
+    abbrev Y′ : List ℤ
+    Y′ = turned (Y-of T r xs ys f₀ ready f)
+
+    right : RightLength T X′ Y′
+    right =
+        let e = encoded-right T r xs ys f₀ ready f ok in
+        record {
+          xsLength = length-map (X-of T r xs ys f₀ ready f) negℤ ∙ e .xsLength;
+          ysLength = length-map (Y-of T r xs ys f₀ ready f) negℤ ∙ e .ysLength;
+        }
+
+    are-points : points X′ Y′ ≡ map turnedPoint (writtenPoints T r f)
+    are-points = rw (encoded-xs T r xs ys f₀ ready f ok, encoded-ys T r xs ys f₀ ready f ok) (points-turned (writtenPoints T r f))
+
+    verdict-is : turnedRead f .report .verdict ≡ pointsVerdict T (map turnedPoint (writtenPoints T r f)) r
+    unfolding reportBy
+    verdict-is = ap (λ (a : Read). a .report .verdict) (reading T r xs ys f₀ ready X′ Y′ right) ∙ ap (λ (q : List Point). pointsVerdict T q r) are-points
+
+    pub half-turn-monitored : (k : ℕ) → firstMonitored T ≡ At k → turnedRead f .report .verdict ≡ refused 14 k
+    half-turn-monitored k e = verdict-is ∙ sym (points-monitored T facts m r f ok k e)
+
+    pub half-turn-odd : firstMonitored T ≡ Nothing → nonZero T % 2 ≡ 1
+        → turnedRead f .report .verdict ≡ refused 15 (cond (eqb (length (pairsIn T)) 3) 1 2)
+    half-turn-odd e n = verdict-is ∙ sym (points-odd T facts m r f ok e n)
+
+    pub half-turn-only : turnedRead f .report .verdict .number ≡ 0 → (firstMonitored T ≡ Nothing) × (nonZero T % 2 ≡ 0)
+    half-turn-only h = go (firstMonitored T) refl (nonZero T % 2) refl
+      where
+        go : (a : Found) → firstMonitored T ≡ a → (n : ℕ) → nonZero T % 2 ≡ n → (firstMonitored T ≡ Nothing) × (nonZero T % 2 ≡ 0)
+        go (At k) e n d = absurd (omega (arith, ap (λ (v : Verdict). v .number) (half-turn-monitored k e)))
+        go Nothing e zero d = (e, d)
+        go Nothing e (suc n) d = absurd (omega (arith, ap (λ (v : Verdict). v .number) (half-turn-odd e (omega arith))))
+
+    pub half-turn-even : firstMonitored T ≡ Nothing → nonZero T % 2 ≡ 0
+        → (turnedRead f .report .verdict .number ≡ 0) × AcceptedFrame T (turnedRead f .frame) × (turnedRead f .frame ≢ f)
+    half-turn-even e n =
+        let p = points-even T facts m r f ok e n in
+        let whole : turnedRead f ≡ record { report = done T r; frame = pack (p .1) } =
+        reading-done T r xs ys f₀ ready X′ Y′ (p .1) right (rw are-points (p .0)) (ap (readingIn T) are-points ∙ p .2) in
+        let is : turnedRead f .frame ≡ pack (p .1) = ap (λ (a : Read). a .frame) whole in (
+          ap (λ (a : Read). a .report .verdict .number) whole,
+          subst (λ (z : List ℕ). AcceptedFrame T z) (sym is) (packed-frame T facts r (p .1) (p .3)),
+          λ same. p .4 (sym (packed-bits T facts r (p .1) (p .3)) ∙ ap (frameBits (sizeOf T)) (sym is ∙ same)),
+        )
+
+    pub half-turn : ((turnedRead f .report .verdict .number ≡ 0) × AcceptedFrame T (turnedRead f .frame) × (turnedRead f .frame ≢ f))
+        ↔ ((firstMonitored T ≡ Nothing) × (nonZero T % 2 ≡ 0))
+    half-turn = (λ h. half-turn-only (h .0), λ h. half-turn-even (h .0) (h .1))

@@ -1,0 +1,154 @@
+// Points back to sent bits.
+ghost use mathlib.Core.Path.{_≡_};
+ghost use mathlib.Core.Bool.{not};
+ghost use Prim.Native.Nat.{ℕ, _≤_};
+ghost use Rattle.g9932.specs.Bits.{orAt};
+ghost use Rattle.g9932.specs.Points.{samePoint};
+ghost use Rattle.g9932.specs.Sizes.{point, origin, points};
+ghost use Rattle.mapper.specs.Mapping.{classesBy, Carries};
+ghost use Rattle.mapper.specs.Reading.{ReadsTone, ReadRoom, ReadsAll};
+use frame::BitWriter;
+use g9932::Class;
+use g9932::Found;
+use g9932::Place;
+use g9932::Tone;
+
+// A tone read: whether its point is in its constellation and is the one its filler bits give, its sent bits, and the register after it.
+pub struct ToneRead {
+    pub on: bool,
+    pub filler: bool,
+    pub bits: usize,
+    pub label: u32,
+    pub register: u32,
+}
+
+// Reads a data tone.
+fn read_data(b: u8, x: i16, y: i16, register: u32) -> ToneRead
+    requires { ⌜ (1 ≤ b) × (b ≤ 15) ⌝ }
+    ensures { λ r. ⌜ ReadsTone (Class.Data b) register (point x y) r ⌝ }
+{
+    let s = constellation::label_of(b as u32, x, y);
+    ToneRead {
+        on: s.found,
+        filler: true,
+        bits: b as usize,
+        label: s.label,
+        register,
+    }
+}
+
+// Reads a monitored tone: its label is to be the next two filler bits.
+fn read_filler(x: i16, y: i16, register: u32) -> ToneRead
+    ensures { λ r. ⌜ ReadsTone Class.Monitored register (point x y) r ⌝ }
+{
+    let s = constellation::label_of(2, x, y);
+    let f = prbs::filler_label(register);
+    ToneRead {
+        on: s.found,
+        filler: s.found & (s.label == f.label),
+        bits: 0,
+        label: 0,
+        register: f.register,
+    }
+}
+
+// Whether a point is (0, 0).
+fn is_origin(x: i16, y: i16) -> bool
+    ensures { λ r. ⌜ r ≡ samePoint (point x y) origin ⌝ }
+{
+    if x != 0 {
+        return false;
+    }
+    if y != 0 {
+        return false;
+    }
+    true
+}
+
+// Reads a tone.
+fn read_tone(tone: Tone, x: i16, y: i16, register: u32) -> ToneRead
+    requires { ⌜ Carries (tone .class) ⌝ }
+    ensures { λ r. ⌜ ReadsTone (tone .class) register (point x y) r ⌝ }
+{
+    let class = tone.class;
+    match class {
+        Class::Data(b) => read_data(b, x, y, register),
+        Class::Monitored => read_filler(x, y, register),
+        Class::Silent => ToneRead {
+            on: is_origin(x, y),
+            filler: true,
+            bits: 0,
+            label: 0,
+            register,
+        },
+    }
+}
+
+// What was found already, or else place i where it fails.
+fn or_here(found: Found, holds: bool, i: usize) -> Found
+    ensures { λ r. ⌜ r ≡ orAt found (not holds) i ⌝ }
+{
+    match found {
+        Found::At(k) => Found::At(k),
+        Found::Nothing => {
+            if holds {
+                return Found::Nothing;
+            }
+            Found::At(i)
+        }
+    }
+}
+
+// Tones read: the first places that 13 and 14 refuse, the register after the draws, and the writer of sent bits.
+pub struct TonesRead {
+    pub offgrid: Found,
+    pub monitor: Found,
+    pub register: u32,
+    pub writer: BitWriter,
+}
+
+// Reads all tones of t': up to the first that is off its constellation. Called by proved code only.
+pub fn read_tones(
+    bits: &[u8],
+    gains: &[u16],
+    order: &[u16],
+    xs: &[i16],
+    ys: &[i16],
+    register: u32,
+    sent: &mut [u8],
+) -> TonesRead
+    requires { ⌜ ReadRoom (now bits) (now order) (now xs) (now ys) (now sent) ⌝ }
+    ensures { λ r. ⌜ ReadsAll (classesBy (now (bits .entry)) (now (gains .entry)) (now (order .entry))) register (points (now (xs .entry)) (now (ys .entry))) r (now (sent .exit)) ⌝ }
+{
+    let mut writer = BitWriter::new();
+    let mut monitor = Found::Nothing;
+    let mut next = register;
+    let mut i = 0;
+    while i < order.len() {
+        let t = read_tone(
+            tables::tone_of_place(bits, gains, order, Place(i)),
+            xs[i],
+            ys[i],
+            next,
+        );
+        let on = t.on;
+        if !on {
+            return TonesRead {
+                offgrid: Found::At(i),
+                monitor,
+                register: next,
+                writer,
+            };
+        }
+        writer = writer.put(sent, t.bits, t.label);
+        monitor = or_here(monitor, t.filler, i);
+        next = t.register;
+        i += 1;
+    }
+    TonesRead {
+        offgrid: Found::Nothing,
+        monitor,
+        register: next,
+        writer,
+    }
+}

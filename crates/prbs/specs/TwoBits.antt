@@ -1,0 +1,10 @@
+-- The label of a monitored tone: two filler bits.
+use Prim.Native.Nat.{ℕ}
+use mathlib.Core.Path.{_≡_}
+use Rattle.g9932.specs.Bits.{num}
+use Rattle.g9932.specs.Filler.{drawn, afterDraws}
+use Rattle.prbs.specs.declared.FillerLabel.{FillerLabel}
+
+pub record TwoDrawn (r : ℕ) (f : FillerLabel) : Type 0 where
+  pub label : f .label ≡ num (drawn 2 r)
+  pub register : f .register ≡ afterDraws 2 r

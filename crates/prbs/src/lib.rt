@@ -1,0 +1,65 @@
+// The filler bit generator: the pseudo-random sequence that monitored tones carry.
+ghost use mathlib.Core.Path.{_≡_};
+ghost use Rattle.g9932.specs.Filler.{drawOf};
+ghost use Rattle.g9932.specs.Answers.{drawAnswer, drawnOf};
+ghost use Rattle.g9932.specs.Refusals.{seedTest};
+ghost use Rattle.prbs.specs.TwoBits.{TwoDrawn};
+use g9932::Drawn;
+use g9932::FillerBit;
+use g9932::Refusal;
+
+// The next filler bit, and the register after it: bit 22 is old bit 0 xor old bit 5.
+pub fn next_bit(register: u32) -> FillerBit
+    ensures { λ r. ⌜ r ≡ drawOf register ⌝ }
+{
+    let feed = (register % 2 + register / 32 % 2) % 2;
+    FillerBit {
+        bit: register % 2 == 1,
+        register: register / 2 + 4194304 * feed,
+    }
+}
+
+// The label of a monitored tone, and the register after its two bits.
+pub struct FillerLabel {
+    pub label: u32,
+    pub register: u32,
+}
+
+// Draws v0, then v1: the two lowest bits of the register.
+pub fn filler_label(register: u32) -> FillerLabel
+    ensures { λ r. ⌜ TwoDrawn register r ⌝ }
+{
+    let v0 = next_bit(register);
+    let v1 = next_bit(v0.register);
+    FillerLabel {
+        label: register % 4,
+        register: v1.register,
+    }
+}
+
+// Whether SEED (12) applies.
+pub fn seed_refused(register: u32) -> bool
+    ensures { λ r. ⌜ r ≡ seedTest register ⌝ }
+{
+    if register < 1 {
+        return true;
+    }
+    8388607 < register
+}
+
+// Draws one filler bit: refusal 12.
+pub fn draw(register: u32) -> Drawn
+    ensures { λ r. ⌜ drawnOf r ≡ drawAnswer register ⌝ }
+{
+    if seed_refused(register) {
+        return Drawn::Refused {
+            refusal: Refusal::Seed,
+            register,
+        };
+    }
+    let d = next_bit(register);
+    Drawn::Bit {
+        bit: d.bit,
+        register: d.register,
+    }
+}

@@ -1,0 +1,68 @@
+-- The pairs of the entries from a place on.
+use mathlib.Core.Path.{_≡_, refl, sym, ap, _∙_}
+use mathlib.Core.Bool.{Bool, true, false}
+use mathlib.Core.List.{List, [], _∷_}
+use Prim.Native.Nat.{ℕ, zero, suc, _+_, _-_, _%_, _≤_, _<_}
+use native.Mathlib.Numerals.{add-one, add-two}
+use native.Mathlib.Omega.{arith}
+use borrow.Author.Tests.{lt-ltb, le-ltb, ltb-true, ltb-false, eq-eqb, ne-eqb}
+use lib.Dec.{ltb}
+use lib.ListN.{length, drop, getD, length-drop}
+use lib.Seq.{drop-cons}
+use Rattle.g9932.specs.Order.{pair, inTwos, pairsOf}
+use Rattle.g9932.specs.Trellis.{lastTwo}
+use Rattle.trellis.specs.Coding.{Wide}
+
+drop-two : (es : List ℕ) (i : ℕ) → i + 1 < length es → drop i es ≡ getD es i 0 ∷ getD es (i + 1) 0 ∷ drop (i + 2) es
+drop-two es i h =
+    let a : drop i es ≡ getD es i 0 ∷ drop (suc i) es = drop-cons es i 0 (omega arith) in
+    let b : drop (suc i) es ≡ getD es (suc i) 0 ∷ drop (suc (suc i)) es = drop-cons es (suc i) 0 (omega arith) in
+    rw (add-one, add-two, a, b)
+
+-- none where fewer than two entries are left
+pub inTwos-short : (l : List ℕ) → length l ≤ 1 → inTwos l ≡ []
+inTwos-short [] h = refl
+inTwos-short (a ∷ []) h = refl
+inTwos-short (a ∷ b ∷ l) h = absurd (omega arith)
+
+lastTwo-length : (l : List ℕ) → lastTwo (inTwos l) ≡ ltb (length l) 4
+lastTwo-length [] = refl
+lastTwo-length (a ∷ []) = refl
+lastTwo-length (a ∷ b ∷ []) = refl
+lastTwo-length (a ∷ b ∷ c ∷ []) = refl
+lastTwo-length (a ∷ b ∷ c ∷ d ∷ l) = sym (le-ltb (length (a ∷ b ∷ c ∷ d ∷ l)) 4 (omega arith))
+
+ltb-shift : (n i : ℕ) → i + 2 ≤ n → ltb (n - i) 6 ≡ ltb (n - (i + 2)) 4
+ltb-shift n i h = go (ltb (n - (i + 2)) 4) refl
+  where
+    go : (b : Bool) → ltb (n - (i + 2)) 4 ≡ b → ltb (n - i) 6 ≡ b
+    go true e = lt-ltb (n - i) 6 (let k = ltb-true (n - (i + 2)) 4 e in omega arith)
+    go false e = le-ltb (n - i) 6 (let k = ltb-false (n - (i + 2)) 4 e in omega arith)
+
+-- a pair is one of the last two where fewer than six entries are left, its own among them
+pub late-is : (es : List ℕ) (i : ℕ) → i + 2 ≤ length es → ltb (length es - i) 6 ≡ lastTwo (inTwos (drop (i + 2) es))
+late-is es i h = ltb-shift (length es) i h ∙ sym (lastTwo-length (drop (i + 2) es) ∙ rw length-drop)
+
+-- the pair at an entry: it is cut off, and its counts are 2 to 15
+module _ (es : List ℕ) (i x y : ℕ) where
+  pub cut-pair : i + 1 < length es → x ≡ getD es i 0 → y ≡ getD es (i + 1) 0 → inTwos (drop i es) ≡ pair x y ∷ inTwos (drop (i + 2) es)
+  cut-pair more hx hy = rw (drop-two es i more, hx, hy)
+
+  pub pair-wide : Wide es → i + 1 < length es → x ≡ getD es i 0 → y ≡ getD es (i + 1) 0 → (2 ≤ x) × (x ≤ 15) × (2 ≤ y) × (y ≤ 15)
+  pair-wide wide more hx hy =
+      let a = wide i (omega arith) in
+      let b = wide (i + 1) more in
+      rw (hx, hy) (a .0, a .1, b .0, b .1)
+
+-- all pairs: as they stand, or with a 0 in front
+pub whole-pairs : (es : List ℕ) → (length es % 2 ≡ 1 → ⊥) → pairsOf es ≡ inTwos (drop 0 es)
+whole-pairs es even = rw (ne-eqb (length es % 2) 1 even)
+
+pub padded-pairs : (es : List ℕ) (y : ℕ) → 4 ≤ length es → length es % 2 ≡ 1 → y ≡ getD es 0 0 → pairsOf es ≡ pair 0 y ∷ inTwos (drop 1 es)
+padded-pairs es y few odd hy =
+    let d : drop 0 es ≡ getD es 0 0 ∷ drop 1 es = drop-cons es 0 0 (omega arith) in
+    rw (eq-eqb (length es % 2) 1 odd) (ap (λ (l : List ℕ). inTwos (0 ∷ l)) d ∙ rw hy)
+
+-- the pair with the 0 is not among the last two
+pub not-late : (es : List ℕ) → 4 ≤ length es → length es % 2 ≡ 1 → false ≡ lastTwo (inTwos (drop 1 es))
+not-late es few odd = sym (lastTwo-length (drop 1 es) ∙ le-ltb (length (drop 1 es)) 4 (simp length-drop (omega arith)))

@@ -1,0 +1,19 @@
+use lib.Pow.{pow-lt}
+use native.Mathlib.Nat.{one-mul, mod-eq-of-lt}
+use Prim.Native.Nat.{ℕ, _%_, _^_}
+use mathlib.Core.Path.{_∙_, ap}
+use borrow.Author.Needs.{needs}
+use Rattle.trellis.proofs.power.Statement.{statement}
+use Rattle.trellis.proofs.power.Tie as tie
+
+cast-result : tie.Need-cast-result
+cast-result c = search needs
+
+shl-result : tie.Need-shl-result
+shl-result c = search needs
+
+returns : tie.Need-returns
+returns c = ap (λ (x : ℕ). x % 2 ^ 32) (one-mul _) ∙ mod-eq-of-lt (pow-lt {j = 32} (search needs))
+
+pub power-spec : {M : Type 1} → statement M
+power-spec = tie.close (tie.spec cast-result shl-result returns)

@@ -1,0 +1,74 @@
+use Rattle.trellis.proofs.HearPair.{heard-first}
+use Rattle.trellis.proofs.OnePair.{empty-waits}
+use Rattle.g9932.specs.declared.TrellisState.{TrellisState}
+use Rattle.g9932.specs.Trellis.{nextState}
+use Rattle.g9932.specs.Bits.{odd}
+use native.Mathlib.Omega.{arith}
+use mathlib.Core.Bool.{false}
+use mathlib.Core.Path.{_∙_, ap}
+use borrow.Author.Needs.{needs}
+use Rattle.trellis.proofs.read.read_first.Statement.{statement}
+use Rattle.trellis.proofs.read.read_first.Tie as tie
+
+get-requires : tie.Need-get-requires
+get-requires c κs = search needs
+
+zero-state-requires : tie.Need-zero-state-requires
+zero-state-requires c κs = search needs
+
+step-requires : tie.Need-step-requires
+step-requires c κs = search needs
+
+new-requires : tie.Need-new-requires
+new-requires c κs = search needs
+
+sub-put : tie.Need-sub-put
+sub-put c = search needs
+
+weight-requires : tie.Need-weight-requires
+weight-requires c κs = search needs
+
+mul-put : tie.Need-mul-put
+mul-put c = search needs
+
+add-put : tie.Need-add-put
+add-put c = search needs
+
+put-requires : tie.Need-put-requires
+unfolding odd
+put-requires c κs =
+    let q = c .before .before .before .before .before .before .before .before .before .pre in
+    let p = heard-first (c .before .before .before .before .before .before .before .before .before .args .sent .now) (c .before .before .before .before .before .before .before .before .before .args .y) (c .before .before .before .before .before .before .get .result) (q .0) (q .2) (c .before .before .before .before .before .before .get .ensures) in
+    let n = c .before .before .new .ensures in
+    (omega arith, rw (c .weight .ensures .0) (p .small), rw n (omega (arith, q .3)), rw n empty-waits)
+
+same-length : tie.Need-same-length
+same-length c = search needs
+
+returns : tie.Need-returns
+unfolding odd
+returns c =
+    let q = c .before .before .before .before .before .before .before .before .before .before .before .before .pre in
+    let p = heard-first (c .before .before .before .before .before .before .before .before .before .before .before .before .args .sent .now) (c .before .before .before .before .before .before .before .before .before .before .before .before .args .y) (c .before .before .before .before .before .before .before .before .before .get .result) (q .0) (q .2) (c .before .before .before .before .before .before .before .before .before .get .ensures) in
+    record {
+      kept = p .kept;
+      state = c .before .before .before .before .before .before .before .step .ensures .0 ∙ ap (λ (s : TrellisState). nextState s false (odd (c .before .before .before .before .before .before .before .before .before .get .result))) (c .before .before .before .before .before .before .before .before .zero-state .ensures) ∙ p .next;
+      at = omega arith;
+      puts = rw (c .before .before .before .before .before .new .ensures, c .before .before .before .weight .ensures .0, p .takes) at (c .before .before .put .ensures);
+    }
+
+pub read-first-spec : {M : Type 1} → statement M
+read-first-spec =
+    tie.close
+    (tie.spec
+    get-requires
+    zero-state-requires
+    step-requires
+    new-requires
+    sub-put
+    weight-requires
+    mul-put
+    add-put
+    put-requires
+    same-length
+    returns)

@@ -1,0 +1,200 @@
+// Reading sent bits back: each pair is held against the code, and its frame bits are put together.
+ghost use mathlib.Core.Path.{_≡_};
+ghost use mathlib.Core.Bool.{true, false};
+ghost use Prim.Native.Nat.{ℕ, _+_, _-_, _*_, _^_, _≤_, _<_};
+ghost use lib.ListN.{length};
+ghost use Rattle.g9932.specs.Order.{pair};
+ghost use Rattle.g9932.specs.Trellis.{keepsCode};
+ghost use Rattle.trellis.specs.Coding.{firstCoder, Wide};
+ghost use Rattle.trellis.specs.Reading.{heardOf, wordBy, takenNumber, HearRoom, ReadsPair, HearRoomFrom, ReadsFrom, ReadWhole, HearReady, ReadsAll};
+use super::Coder;
+use super::entry;
+use super::label;
+use super::lowest;
+use super::power;
+use super::taken_bits;
+use super::weight;
+use super::zero_state;
+use frame::BitWriter;
+use g9932::Found;
+use g9932::TrellisState;
+
+// The word that a pair's labels imply: u0 to u3 and, as a number, u4 upward.
+pub struct HeardWord {
+    pub u0: bool,
+    pub u1: bool,
+    pub u2: bool,
+    pub u3: bool,
+    pub high: u32,
+}
+
+// The word of the labels d of a pair, v of x bits below w.
+fn hear(d: u32, x: usize) -> HeardWord
+    requires { ⌜ (2 ≤ x) × (x ≤ 15) × (d < 2 ^ 30) ⌝ }
+    ensures { λ r. ⌜ r ≡ heardOf d x ⌝ }
+{
+    let w = d >> x;
+    let v0 = d % 2 == 1;
+    let v1 = d / 2 % 2 == 1;
+    let w0 = w % 2 == 1;
+    let w1 = w / 2 % 2 == 1;
+    HeardWord {
+        u0: ((v0 ^ v1) ^ w0) ^ w1,
+        u1: v0 ^ v1,
+        u2: v0 ^ w0,
+        u3: v0,
+        high: lowest(d, x) / 4 + w / 4 * power(x - 2),
+    }
+}
+
+// Whether a pair keeps the code.
+fn keeps(s: TrellisState, late: bool, u: HeardWord) -> bool
+    ensures { λ r. ⌜ r ≡ keepsCode late s (wordBy u) ⌝ }
+{
+    if late {
+        return !(u.u0 ^ s.s0) & !(u.u1 ^ (s.s1 ^ s.s3)) & !(u.u2 ^ s.s2);
+    }
+    !(u.u0 ^ s.s0)
+}
+
+// The frame bits of a word with x at least 2, as a number.
+fn taken_of(late: bool, u: HeardWord) -> u32
+    requires { ⌜ u .high < 2 ^ 26 ⌝ }
+    ensures { λ r. ⌜ r ≡ takenNumber late u ⌝ }
+{
+    let free = weight(u.u3) + 2 * u.high;
+    if late {
+        return free;
+    }
+    label(u.u1, u.u2, free)
+}
+
+// A pair read: whether it keeps the code, and the coder after it.
+pub struct PairRead {
+    pub kept: bool,
+    pub coder: Coder,
+}
+
+// Reads a pair with x at least 2.
+fn read_pair(c: Coder, sent: &[u8], late: bool, x: usize, y: usize, frame: &mut [u8]) -> PairRead
+    requires { ⌜ (2 ≤ x) × (x ≤ 15) × (2 ≤ y) × (y ≤ 15) × HearRoom c (pair x y) (now sent) (now frame) ⌝ }
+    ensures { λ r. ⌜ ReadsPair c late (pair x y) (now (sent .entry)) (now (frame .entry)) r (now (frame .exit)) ⌝ }
+{
+    let s = c.state;
+    let writer = c.writer;
+    let u = hear(frame::get(sent, c.at, x + y), x);
+    let t = s.step(u.u1, u.u2, u.u3);
+    let next = t.next;
+    let coder = Coder {
+        state: next,
+        at: c.at + (x + y),
+        writer: writer.put(frame, taken_bits(late, x, y), taken_of(late, u)),
+    };
+    PairRead {
+        kept: keeps(s, late, u),
+        coder,
+    }
+}
+
+// Reads a first pair with x = 0: it has no label v.
+fn read_first(sent: &[u8], y: usize, frame: &mut [u8]) -> PairRead
+    requires { ⌜ (2 ≤ y) × (y ≤ 15) × (y ≤ 8 * length (now sent)) × (8 ≤ length (now frame)) ⌝ }
+    ensures { λ r. ⌜ ReadsPair firstCoder false (pair 0 y) (now (sent .entry)) (now (frame .entry)) r (now (frame .exit)) ⌝ }
+{
+    let d = frame::get(sent, 0, y);
+    let w0 = d % 2 == 1;
+    let w1 = d / 2 % 2 == 1;
+    let t = zero_state().step(false, w0, false);
+    let next = t.next;
+    let coder = Coder {
+        state: next,
+        at: y,
+        writer: BitWriter::new().put(frame, y - 1, weight(w0) + 2 * (d / 4)),
+    };
+    PairRead {
+        kept: !(w0 ^ w1),
+        coder,
+    }
+}
+
+// Pairs read: the first that breaks the code, and the writer after the last.
+pub struct PairsRead {
+    pub broken: Found,
+    pub writer: BitWriter,
+}
+
+// Reads the pairs of the entries from `from` on. Entry i is of pair (i + 1) / 2.
+fn read_from(c: Coder, sent: &[u8], entries: &[u8], from: usize, frame: &mut [u8]) -> PairsRead
+    requires { ⌜ Wide (now entries) × (length (now entries) ≤ 4096) × HearRoomFrom c (now entries) from (now sent) (now frame) ⌝ }
+    ensures { λ r. ⌜ ReadsFrom c (now (entries .entry)) from (now (sent .entry)) (now (frame .entry)) r (now (frame .exit)) ⌝ }
+{
+    let mut k = c;
+    let mut i = from;
+    while i + 1 < entries.len() {
+        let late = entries.len() - i < 6;
+        let p = read_pair(
+            k,
+            sent,
+            late,
+            entry(entries, i),
+            entry(entries, i + 1),
+            frame,
+        );
+        let kept = p.kept;
+        let old = k.writer;
+        if !kept {
+            return PairsRead {
+                broken: Found::At((i + 1) / 2),
+                writer: old,
+            };
+        }
+        k = p.coder;
+        i += 2;
+    }
+    let writer = k.writer;
+    PairsRead {
+        broken: Found::Nothing,
+        writer,
+    }
+}
+
+// Reads all pairs: a first one with x = 0 where the count of entries is odd.
+fn read_all(sent: &[u8], entries: &[u8], frame: &mut [u8]) -> PairsRead
+    requires { ⌜ HearReady (now entries) (now sent) (now frame) ⌝ }
+    ensures { λ r. ⌜ ReadWhole (now (entries .entry)) (now (sent .entry)) r (now (frame .exit)) ⌝ }
+{
+    if entries.len() % 2 == 1 {
+        let first = read_first(sent, entry(entries, 0), frame);
+        let kept = first.kept;
+        let coder = first.coder;
+        if !kept {
+            let writer = coder.writer;
+            return PairsRead {
+                broken: Found::At(0),
+                writer,
+            };
+        }
+        return read_from(coder, sent, entries, 1, frame);
+    }
+    let start = Coder {
+        state: zero_state(),
+        at: 0,
+        writer: BitWriter::new(),
+    };
+    read_from(start, sent, entries, 0, frame)
+}
+
+// Reads sent bits back: the first pair that breaks the code, or else the frame, at the start of a buffer. Called by proved code only.
+pub fn read_pairs(sent: &[u8], entries: &[u8], frame: &mut [u8]) -> Found
+    requires { ⌜ HearReady (now entries) (now sent) (now frame) ⌝ }
+    ensures { λ r. ⌜ ReadsAll (now (entries .entry)) (now (sent .entry)) r (now (frame .exit)) ⌝ }
+{
+    let all = read_all(sent, entries, frame);
+    let broken = all.broken;
+    let writer = all.writer;
+    if let Found::At(k) = broken {
+        return Found::At(k);
+    }
+    writer.finish(frame);
+    Found::Nothing
+}

@@ -1,0 +1,158 @@
+//! One call made of both sides, and the answers held against each other.
+
+use crate::lent::Lent;
+use crate::random::Random;
+use crate::tables::GivenTables;
+use crate::tally::{Operation, Tally};
+use crate::under_test::Core;
+use clevisroot_sys::{Answer, Drawn, Label, Point};
+use std::fmt::Debug;
+
+/// The operation, both answers and the inputs, for a person to read.
+pub type Mismatch = String;
+
+/// Compares calls to one implementation and counts the numbers that came.
+pub struct Comparison<'a> {
+    pub core: &'a dyn Core,
+    pub tally: Tally,
+}
+
+impl Comparison<'_> {
+    pub fn check(&mut self, given: &GivenTables) -> Result<(), Mismatch> {
+        let expected = answer(&reference::check(&given.tables));
+        let actual = self.core.check(given.lent());
+        self.hold(Operation::Check, expected.number, &expected, &actual, given)
+    }
+
+    pub fn reorder(
+        &mut self,
+        random: &mut Random,
+        given: &GivenTables,
+        rooms: (usize, usize),
+    ) -> Result<(), Mismatch> {
+        let mut tones = Lent::<u16>::new(random, rooms.0);
+        let mut bits = Lent::<u8>::new(random, rooms.1);
+        let told = reference::reorder(&given.tables, rooms.0, rooms.1);
+        let (tones_after, bits_after) = match &told.contents {
+            Some((t, b)) => (tones.after(Some(t)), bits.after(Some(b))),
+            None => (tones.after(None), bits.after(None)),
+        };
+        let actual = self
+            .core
+            .reorder(given.lent(), tones.buffer(), bits.buffer());
+        let expected = (answer(&told), tones_after, bits_after);
+        let actual = (actual, tones.whole().to_vec(), bits.whole().to_vec());
+        let inputs = (given, rooms);
+        self.hold(Operation::Reorder, told.number, &expected, &actual, inputs)
+    }
+
+    pub fn encode(
+        &mut self,
+        random: &mut Random,
+        given: &GivenTables,
+        frame: &[u8],
+        register: u32,
+        rooms: (usize, usize),
+    ) -> Result<(), Mismatch> {
+        let mut x = Lent::<i16>::new(random, rooms.0);
+        let mut y = Lent::<i16>::new(random, rooms.1);
+        let told = reference::encode(&given.tables, frame, register, rooms.0, rooms.1);
+        let lists = told.contents.as_deref().map(reference::words::lists_of);
+        let (x_after, y_after) = match &lists {
+            Some((xs, ys)) => (x.after(Some(xs)), y.after(Some(ys))),
+            None => (x.after(None), y.after(None)),
+        };
+        let actual = self
+            .core
+            .encode(given.lent(), frame, register, x.buffer(), y.buffer());
+        let expected = (answer(&told), x_after, y_after);
+        let actual = (actual, x.whole().to_vec(), y.whole().to_vec());
+        let inputs = (given, frame, register, rooms);
+        self.hold(Operation::Encode, told.number, &expected, &actual, inputs)
+    }
+
+    pub fn read(
+        &mut self,
+        random: &mut Random,
+        given: &GivenTables,
+        (x, y): (&[i16], &[i16]),
+        register: u32,
+        room: usize,
+    ) -> Result<(), Mismatch> {
+        let mut frame = Lent::<u8>::new(random, room);
+        let told = reference::read(&given.tables, x, y, register, room);
+        let expected = (answer(&told), frame.after(told.contents.as_deref()));
+        let actual = self.core.read(given.lent(), x, y, register, frame.buffer());
+        let actual = (actual, frame.whole().to_vec());
+        let inputs = (given, x, y, register, room);
+        self.hold(Operation::Read, told.number, &expected, &actual, inputs)
+    }
+
+    pub fn map_label(&mut self, bits: u8, label: u32) -> Result<(), Mismatch> {
+        let told = reference::map_label(bits, label);
+        let (x, y) = told.contents.unwrap_or((0, 0));
+        let number = told.number;
+        let expected = Point { number, x, y };
+        let actual = self.core.map_label(bits, label);
+        self.hold(
+            Operation::MapLabel,
+            number,
+            &expected,
+            &actual,
+            (bits, label),
+        )
+    }
+
+    pub fn read_point(&mut self, bits: u8, x: i16, y: i16) -> Result<(), Mismatch> {
+        let told = reference::read_point(bits, x, y);
+        let number = told.number;
+        let label = told.contents.unwrap_or(0);
+        let expected = Label { number, label };
+        let actual = self.core.read_point(bits, x, y);
+        self.hold(
+            Operation::ReadPoint,
+            number,
+            &expected,
+            &actual,
+            (bits, x, y),
+        )
+    }
+
+    pub fn draw(&mut self, register: u32) -> Result<(), Mismatch> {
+        let told = reference::draw(register);
+        let number = told.number;
+        let bit = u32::from(told.contents.unwrap_or(false));
+        let reg = told.register;
+        let expected = Drawn { number, bit, reg };
+        let actual = self.core.draw(register);
+        self.hold(Operation::Draw, number, &expected, &actual, register)
+    }
+
+    fn hold<A: PartialEq + Debug>(
+        &mut self,
+        operation: Operation,
+        number: u32,
+        expected: &A,
+        actual: &A,
+        inputs: impl Debug,
+    ) -> Result<(), Mismatch> {
+        self.tally.record(operation, number);
+        if expected == actual {
+            return Ok(());
+        }
+        let name = operation.name();
+        Err(format!(
+            "{name} (each buffer has 4 guards at either end)\n\
+             reference {expected:?}\nlibrary   {actual:?}\ninputs    {inputs:?}"
+        ))
+    }
+}
+
+fn answer<C>(told: &reference::Answer<C>) -> Answer {
+    Answer {
+        number: told.number,
+        place: told.place,
+        size: told.size,
+        reg: told.register,
+    }
+}

@@ -1,0 +1,15 @@
+//! Differential tests: an implementation of the seven calls against the reference.
+//!
+//! [`run::random_cases`] and [`exhaustive::one_tone`] compare number, place, size, register and
+//! the whole of every lent buffer, on success and on refusal.
+
+pub mod compare;
+pub mod exhaustive;
+pub mod inputs;
+pub mod lent;
+pub mod points;
+pub mod random;
+pub mod run;
+pub mod tables;
+pub mod tally;
+pub mod under_test;

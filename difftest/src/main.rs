@@ -1,0 +1,53 @@
+//! `difftest [CASES] [SEED]`: the static library against the reference. Exit 1 on a mismatch, or
+//! if a number that an operation can give never came.
+
+use difftest::compare::Comparison;
+use difftest::exhaustive::one_tone;
+use difftest::run::random_cases;
+use difftest::tally::Tally;
+use difftest::under_test::Library;
+use std::process::ExitCode;
+use std::time::Instant;
+
+const CASES: u64 = 200_000;
+const SEED: u64 = 1;
+
+fn main() -> ExitCode {
+    let Some((cases, seed)) = arguments() else {
+        eprintln!("usage: difftest [CASES] [SEED]");
+        return ExitCode::from(2);
+    };
+    match run(cases, seed) {
+        Ok(()) => ExitCode::SUCCESS,
+        Err(told) => {
+            println!("{told}");
+            ExitCode::FAILURE
+        }
+    }
+}
+
+fn arguments() -> Option<(u64, u64)> {
+    let numbers: Result<Vec<u64>, _> = std::env::args().skip(1).map(|word| word.parse()).collect();
+    match numbers.ok()?.as_slice() {
+        [] => Some((CASES, SEED)),
+        [cases] => Some((*cases, SEED)),
+        [cases, seed] => Some((*cases, *seed)),
+        _ => None,
+    }
+}
+
+fn run(cases: u64, seed: u64) -> Result<(), String> {
+    let start = Instant::now();
+    let mut comparison = Comparison {
+        core: &Library,
+        tally: Tally::default(),
+    };
+    one_tone(&mut comparison, 15).map_err(|told| format!("MISMATCH, exhaustive: {told}"))?;
+    random_cases(&mut comparison, cases, seed)
+        .map_err(|(case, told)| format!("MISMATCH, seed {seed} case {case}: {told}"))?;
+    println!("{}", comparison.tally);
+    let calls = comparison.tally.total();
+    let seconds = start.elapsed().as_secs_f64();
+    println!("{cases} cases, seed {seed}: {calls} calls alike in {seconds:.1} s");
+    comparison.tally.verdict()
+}

@@ -1,0 +1,77 @@
+//! The random cases: each draws tables and makes every call at least once.
+
+use crate::compare::{Comparison, Mismatch};
+use crate::inputs::{random_bits, random_frame, random_label, random_point};
+use crate::inputs::{random_register, random_room};
+use crate::points::{any_points, points_to_read};
+use crate::random::Random;
+use crate::tables::{random_tables, GivenTables};
+use reference::words::lists_of;
+
+/// Runs this many cases; the case's number comes with a mismatch.
+pub fn random_cases(
+    comparison: &mut Comparison,
+    cases: u64,
+    seed: u64,
+) -> Result<(), (u64, Mismatch)> {
+    for case in 0..cases {
+        let random = &mut Random::for_case(seed, case);
+        run_case(comparison, random).map_err(|mismatch| (case, mismatch))?;
+    }
+    Ok(())
+}
+
+fn run_case(comparison: &mut Comparison, random: &mut Random) -> Result<(), Mismatch> {
+    let given = random_tables(random);
+    let nsc = given.tables.nsc();
+    comparison.check(&given)?;
+    let rooms = (random_room(random, nsc), random_room(random, nsc));
+    comparison.reorder(random, &given, rooms)?;
+    encode_case(comparison, random, &given)?;
+    for _ in 0..2 {
+        read_case(comparison, random, &given)?;
+    }
+    one_tone_case(comparison, random)
+}
+
+fn encode_case(
+    comparison: &mut Comparison,
+    random: &mut Random,
+    given: &GivenTables,
+) -> Result<(), Mismatch> {
+    let nsc = given.tables.nsc();
+    let l = reference::check(&given.tables).size as usize;
+    let frame = random_frame(random, l);
+    let register = random_register(random);
+    let rooms = (random_room(random, nsc), random_room(random, nsc));
+    comparison.encode(random, given, &frame, register, rooms)
+}
+
+fn read_case(
+    comparison: &mut Comparison,
+    random: &mut Random,
+    given: &GivenTables,
+) -> Result<(), Mismatch> {
+    let nsc = given.tables.nsc();
+    let checked = reference::check(&given.tables);
+    let l = checked.size as usize;
+    let register = random_register(random);
+    let points = match checked.number {
+        0 => points_to_read(random, &given.tables, l, register),
+        _ => any_points(random, nsc),
+    };
+    let (mut x, mut y) = lists_of(&points);
+    x.resize(random_room(random, nsc), 1);
+    y.resize(random_room(random, nsc), 1);
+    let room = random_room(random, l.div_ceil(8));
+    comparison.read(random, given, (&x, &y), register, room)
+}
+
+fn one_tone_case(comparison: &mut Comparison, random: &mut Random) -> Result<(), Mismatch> {
+    let bits = random_bits(random);
+    comparison.map_label(bits, random_label(random, bits))?;
+    let bits = random_bits(random);
+    let (x, y) = random_point(random, bits);
+    comparison.read_point(bits, x, y)?;
+    comparison.draw(random_register(random))
+}

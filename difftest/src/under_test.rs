@@ -1,0 +1,61 @@
+//! What is held against the reference.
+
+use clevisroot_sys::{Answer, Drawn, Label, Point, Tables};
+
+/// The seven calls of include/clevisroot.h.
+pub trait Core {
+    fn check(&self, tables: Tables) -> Answer;
+    fn reorder(&self, tables: Tables, tones_out: &mut [u16], bits_out: &mut [u8]) -> Answer;
+    fn encode(
+        &self,
+        tables: Tables,
+        frame: &[u8],
+        reg: u32,
+        x: &mut [i16],
+        y: &mut [i16],
+    ) -> Answer;
+    fn read(&self, tables: Tables, x: &[i16], y: &[i16], reg: u32, frame: &mut [u8]) -> Answer;
+    fn map_label(&self, bits: u8, label: u32) -> Point;
+    fn read_point(&self, bits: u8, x: i16, y: i16) -> Label;
+    fn draw(&self, reg: u32) -> Drawn;
+}
+
+/// The static library.
+pub struct Library;
+
+impl Core for Library {
+    fn check(&self, tables: Tables) -> Answer {
+        clevisroot_sys::check(tables)
+    }
+
+    fn reorder(&self, tables: Tables, tones_out: &mut [u16], bits_out: &mut [u8]) -> Answer {
+        clevisroot_sys::reorder(tables, tones_out, bits_out)
+    }
+
+    fn encode(
+        &self,
+        tables: Tables,
+        frame: &[u8],
+        reg: u32,
+        x: &mut [i16],
+        y: &mut [i16],
+    ) -> Answer {
+        clevisroot_sys::encode(tables, frame, reg, x, y)
+    }
+
+    fn read(&self, tables: Tables, x: &[i16], y: &[i16], reg: u32, frame: &mut [u8]) -> Answer {
+        clevisroot_sys::read(tables, x, y, reg, frame)
+    }
+
+    fn map_label(&self, bits: u8, label: u32) -> Point {
+        clevisroot_sys::map_label(bits, label)
+    }
+
+    fn read_point(&self, bits: u8, x: i16, y: i16) -> Label {
+        clevisroot_sys::read_point(bits, x, y)
+    }
+
+    fn draw(&self, reg: u32) -> Drawn {
+        clevisroot_sys::draw(reg)
+    }
+}

@@ -1,0 +1,132 @@
+//! The functions of include/clevisroot.h and safe wrappers around them. The header says what each
+//! one does; the names here are its names without the prefix.
+
+mod raw;
+
+/// Number and place of the refusal (0 and 0 if done), frame size L, register.
+#[repr(C)]
+#[derive(Clone, Copy, Debug, PartialEq, Eq)]
+pub struct Answer {
+    pub number: u32,
+    pub place: u32,
+    pub size: u32,
+    pub reg: u32,
+}
+
+#[repr(C)]
+#[derive(Clone, Copy, Debug, PartialEq, Eq)]
+pub struct Point {
+    pub number: u32,
+    pub x: i16,
+    pub y: i16,
+}
+
+#[repr(C)]
+#[derive(Clone, Copy, Debug, PartialEq, Eq)]
+pub struct Label {
+    pub number: u32,
+    pub label: u32,
+}
+
+#[repr(C)]
+#[derive(Clone, Copy, Debug, PartialEq, Eq)]
+pub struct Drawn {
+    pub number: u32,
+    pub bit: u32,
+    pub reg: u32,
+}
+
+/// The mode and the lent tables. `coded` 0 is uncoded, anything else coded.
+#[derive(Clone, Copy, Debug)]
+pub struct Tables<'a> {
+    pub coded: u8,
+    pub bits: &'a [u8],
+    pub gains: &'a [u16],
+    pub tones: &'a [u16],
+}
+
+/// Calls a function of [`raw`] with the tables taken apart, then the other arguments.
+macro_rules! call_with_tables {
+    ($function:ident, $tables:expr $(, $argument:expr)*) => {{
+        let Tables { coded, bits, gains, tones } = $tables;
+        // SAFETY: each pointer and length come from one live slice, the mutable ones from slices
+        // that the borrow checker keeps apart from all others; the library keeps none of them.
+        unsafe {
+            raw::$function(
+                coded,
+                bits.as_ptr(),
+                bits.len(),
+                gains.as_ptr(),
+                gains.len(),
+                tones.as_ptr(),
+                tones.len()
+                $(, $argument)*
+            )
+        }
+    }};
+}
+
+/// Checks the tables and tells L.
+pub fn check(tables: Tables) -> Answer {
+    call_with_tables!(clevisroot_check, tables)
+}
+
+/// Writes t' and b'.
+pub fn reorder(tables: Tables, tones_out: &mut [u16], bits_out: &mut [u8]) -> Answer {
+    call_with_tables!(
+        clevisroot_reorder,
+        tables,
+        tones_out.as_mut_ptr(),
+        tones_out.len(),
+        bits_out.as_mut_ptr(),
+        bits_out.len()
+    )
+}
+
+/// Writes the points of a frame.
+pub fn encode(tables: Tables, frame: &[u8], reg: u32, x: &mut [i16], y: &mut [i16]) -> Answer {
+    call_with_tables!(
+        clevisroot_encode,
+        tables,
+        frame.as_ptr(),
+        frame.len(),
+        reg,
+        x.as_mut_ptr(),
+        x.len(),
+        y.as_mut_ptr(),
+        y.len()
+    )
+}
+
+/// Writes the frame of the points.
+pub fn read(tables: Tables, x: &[i16], y: &[i16], reg: u32, frame: &mut [u8]) -> Answer {
+    call_with_tables!(
+        clevisroot_read,
+        tables,
+        x.as_ptr(),
+        x.len(),
+        y.as_ptr(),
+        y.len(),
+        reg,
+        frame.as_mut_ptr(),
+        frame.len()
+    )
+}
+
+/// The point of one label.
+pub fn map_label(bits: u8, label: u32) -> Point {
+    // SAFETY: takes and returns numbers only.
+    unsafe { raw::clevisroot_map_label(bits, label) }
+}
+
+/// The label of one point.
+pub fn read_point(bits: u8, x: i16, y: i16) -> Label {
+    // SAFETY: takes and returns numbers only.
+    unsafe { raw::clevisroot_read_point(bits, x, y) }
+}
+
+/// One filler bit.
+pub fn draw(reg: u32) -> Drawn {
+    // SAFETY: takes and returns numbers only.
+    unsafe { raw::clevisroot_draw(reg) }
+}

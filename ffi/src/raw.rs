@@ -1,0 +1,67 @@
+//! The declarations of include/clevisroot.h. Nothing checks them against the library.
+
+use crate::{Answer, Drawn, Label, Point};
+
+extern "C" {
+    pub fn clevisroot_check(
+        coded: u8,
+        bits: *const u8,
+        bits_len: usize,
+        gains: *const u16,
+        gains_len: usize,
+        tones: *const u16,
+        tones_len: usize,
+    ) -> Answer;
+
+    pub fn clevisroot_reorder(
+        coded: u8,
+        bits: *const u8,
+        bits_len: usize,
+        gains: *const u16,
+        gains_len: usize,
+        tones: *const u16,
+        tones_len: usize,
+        tones_out: *mut u16,
+        tones_out_len: usize,
+        bits_out: *mut u8,
+        bits_out_len: usize,
+    ) -> Answer;
+
+    pub fn clevisroot_encode(
+        coded: u8,
+        bits: *const u8,
+        bits_len: usize,
+        gains: *const u16,
+        gains_len: usize,
+        tones: *const u16,
+        tones_len: usize,
+        frame: *const u8,
+        frame_len: usize,
+        reg: u32,
+        x: *mut i16,
+        x_len: usize,
+        y: *mut i16,
+        y_len: usize,
+    ) -> Answer;
+
+    pub fn clevisroot_read(
+        coded: u8,
+        bits: *const u8,
+        bits_len: usize,
+        gains: *const u16,
+        gains_len: usize,
+        tones: *const u16,
+        tones_len: usize,
+        x: *const i16,
+        x_len: usize,
+        y: *const i16,
+        y_len: usize,
+        reg: u32,
+        frame: *mut u8,
+        frame_len: usize,
+    ) -> Answer;
+
+    pub fn clevisroot_map_label(bits: u8, label: u32) -> Point;
+    pub fn clevisroot_read_point(bits: u8, x: i16, y: i16) -> Label;
+    pub fn clevisroot_draw(reg: u32) -> Drawn;
+}

@@ -1,0 +1,185 @@
+/*
+ * Clevisroot: the symbol core of a VDSL2 tester (G.993.2 clause 10.3).
+ *
+ * It checks bit, gain and tone tables, re-orders them, turns a frame of bits into one integer
+ * point per tone, and turns points back into the frame: with trellis coding or without.
+ *
+ * Link with libclevisroot.a. The library uses some 30 KiB of stack at most, no heap and no global
+ * state; it is re-entrant. It keeps no pointer after a call. A pointer must not be null, even if
+ * its length is 0, and an output must not overlap any other argument. All lengths count entries.
+ *
+ * THE TABLES
+ *
+ * Every call that takes tables takes the same seven arguments first:
+ *
+ *   coded             0: uncoded; anything else: trellis coded
+ *   bits,  bits_len   bits[i] is the bit count of sub-carrier i, 0 to 15; G = bits_len, 1 to 4096
+ *   gains, gains_len  gains[i] is its gain, 0 to 4095, where 512 stands for 1; gains_len is G too
+ *   tones, tones_len  the tone table t: distinct sub-carriers below G; NSC = tones_len, 1 to G
+ *
+ * A tone with bits carries data and must have a gain. A tone with 0 bits and a gain is monitored:
+ * it carries two filler bits that both ends know. A tone with 0 bits and gain 0 is silent: its
+ * point is (0, 0). A sub-carrier that is not in t must have 0 bits and gain 0.
+ *
+ * FRAMES AND POINTS
+ *
+ * A frame has L bits, packed: bit k is in byte k / 8, at weight 1 << (k % 8). It has exactly
+ * (L + 7) / 8 bytes, at most 7680, and its unused high bits are 0. L follows from the tables;
+ * clevisroot_check tells it.
+ *
+ * The points of a symbol are two lists, x and y, of NSC entries each. They are in the order of the
+ * re-ordered tone table t', which clevisroot_reorder writes: x[p] and y[p] belong to tone t'[p].
+ * Uncoded, t' is t. Coded, the 1-bit tones go to the end and all else keeps its order.
+ *
+ * THE REGISTER
+ *
+ * The filler bits come from a register, 1 to 8388607, CLEVISROOT_RESET at the start. Encoding and
+ * reading are given the register and hand it back after the draws: two bits for each monitored
+ * tone. Give it to the next symbol. A reader must be given what the writer was given.
+ *
+ * ANSWERS AND REFUSALS
+ *
+ * Every answer has a number: 0 if the call is done, else the number below. If several refusals
+ * apply, the smallest number is given. So in reading all places pass 13 before any is tested for
+ * 14, and all 14 before any pair is tested for 15. A refused call writes nothing to any buffer,
+ * has size 0 and hands the register back as it was given. A call that is done writes the whole of
+ * each lent buffer.
+ *
+ *   no.  given exactly when                                              place
+ *   1    G is not 1 to 4096, gains_len is not G, NSC is 0 or above G     0
+ *   2    an entry of t is G or more                                      first place in t
+ *   3    an entry of t equals an earlier one                             first such place in t
+ *   4    a bit count is above 15                                         smallest sub-carrier
+ *   5    a sub-carrier not in t has bits or a gain                       smallest sub-carrier
+ *   6    a gain is above 4095, or bits come with gain 0                  smallest sub-carrier
+ *   7    coded: the number of 1-bit tones is odd                         0
+ *   8    coded: fewer than 4 non-zero entries in b'                      0
+ *   9    coded: a pair of entries of b' holds a 1 (never happens)        number of the pair
+ *   10   a lent output or a point list has not its exact length          0
+ *   11   the frame's length is wrong, or an unused bit of it is 1        0
+ *   12   the register is 0 or above 8388607                              0
+ *   13   a point is not one that its tone can have                       first place in t'
+ *   14   a monitored tone's point is not the one its filler bits give    first place in t'
+ *   15   a pair of tones breaks the trellis code                         number of the first pair
+ *   16   one-tone calls: bits not 1 to 15, or label not below 2^bits     0
+ *
+ * Places, sub-carriers and pairs count from 0. For 13 a monitored tone can have the points of 2
+ * bits, a silent one (0, 0) only. Pairs are cut from the non-zero entries of b' in order; if their
+ * count is odd, the first entry makes pair 0 on its own.
+ *
+ * HALF A TURN
+ *
+ * If the clips are the wrong way round, every point (X, Y) arrives as (-X, -Y). Coded, reading
+ * refuses such a symbol with 14 if any tone is monitored, and with 15 if none is and the count of
+ * non-zero entries in b' is odd. If none is monitored and the count is even, the turned symbol is
+ * read as another frame, and nothing tells. Uncoded, only a monitored tone tells.
+ */
+#ifndef CLEVISROOT_H
+#define CLEVISROOT_H
+
+#include <stddef.h>
+#include <stdint.h>
+
+#ifdef __cplusplus
+extern "C" {
+#endif
+
+enum {
+    CLEVISROOT_DONE = 0,
+    CLEVISROOT_SIZE = 1,
+    CLEVISROOT_TONE = 2,
+    CLEVISROOT_TWICE = 3,
+    CLEVISROOT_BITS = 4,
+    CLEVISROOT_STRAY = 5,
+    CLEVISROOT_GAIN = 6,
+    CLEVISROOT_ODD = 7,
+    CLEVISROOT_FEW = 8,
+    CLEVISROOT_PAIR = 9,
+    CLEVISROOT_ROOM = 10,
+    CLEVISROOT_FRAME = 11,
+    CLEVISROOT_SEED = 12,
+    CLEVISROOT_OFFGRID = 13,
+    CLEVISROOT_MONITOR = 14,
+    CLEVISROOT_TRELLIS = 15,
+    CLEVISROOT_LABEL = 16
+};
+
+/* The register at reset. */
+#define CLEVISROOT_RESET UINT32_C(8388607)
+
+/* What the calls with tables answer. */
+typedef struct {
+    uint32_t number; /* 0 or the refusal */
+    uint32_t place;  /* where the refusal applies, 0 if done */
+    uint32_t size;   /* L, 0 on refusal */
+    uint32_t reg;    /* the register after the draws; as given on refusal; 0 if none was given */
+} clevisroot_answer;
+
+typedef struct {
+    uint32_t number;
+    int16_t x, y; /* 0, 0 on refusal */
+} clevisroot_point;
+
+typedef struct {
+    uint32_t number;
+    uint32_t label; /* 0 on refusal */
+} clevisroot_label;
+
+typedef struct {
+    uint32_t number;
+    uint32_t bit; /* 0 or 1; 0 on refusal */
+    uint32_t reg; /* the register after the draw; as given on refusal */
+} clevisroot_drawn;
+
+/* Checks the tables and tells L. Refusals 1 to 9. */
+clevisroot_answer clevisroot_check(
+    uint8_t coded, const uint8_t *bits, size_t bits_len,
+    const uint16_t *gains, size_t gains_len, const uint16_t *tones, size_t tones_len);
+
+/*
+ * Writes the re-ordered tables: t' to tones_out and b' to bits_out, NSC entries each.
+ * Uncoded, b' has the bits in t order. Coded, it has zeros first, then the counts of at least 2 in
+ * t' order, then a 2 for each two neighbouring 1-bit tones.
+ * Refusals 1 to 9, then 10 if an output has not NSC entries.
+ */
+clevisroot_answer clevisroot_reorder(
+    uint8_t coded, const uint8_t *bits, size_t bits_len,
+    const uint16_t *gains, size_t gains_len, const uint16_t *tones, size_t tones_len,
+    uint16_t *tones_out, size_t tones_out_len, uint8_t *bits_out, size_t bits_out_len);
+
+/*
+ * Writes the points of a frame to x and y, NSC entries each.
+ * Refusals 1 to 9, then 10 if x or y has not NSC entries, 11 for the frame, 12 for the register.
+ */
+clevisroot_answer clevisroot_encode(
+    uint8_t coded, const uint8_t *bits, size_t bits_len,
+    const uint16_t *gains, size_t gains_len, const uint16_t *tones, size_t tones_len,
+    const uint8_t *frame, size_t frame_len, uint32_t reg,
+    int16_t *x, size_t x_len, int16_t *y, size_t y_len);
+
+/*
+ * Reads points that carry no noise and writes their frame, (L + 7) / 8 bytes. It reads exactly
+ * the points that clevisroot_encode writes for some frame, and gives that frame.
+ * Refusals 1 to 9, then 10 if x or y has not NSC entries or the frame not its bytes, 12 for the
+ * register, then 13 at every place, 14 at every place, 15.
+ */
+clevisroot_answer clevisroot_read(
+    uint8_t coded, const uint8_t *bits, size_t bits_len,
+    const uint16_t *gains, size_t gains_len, const uint16_t *tones, size_t tones_len,
+    const int16_t *x, size_t x_len, const int16_t *y, size_t y_len, uint32_t reg,
+    uint8_t *frame, size_t frame_len);
+
+/* The point of one label. Refusal 16 if bits is not 1 to 15, or label not below 2^bits. */
+clevisroot_point clevisroot_map_label(uint8_t bits, uint32_t label);
+
+/* The label of one point. Refusal 16 if bits is not 1 to 15, then 13 if no label has the point. */
+clevisroot_label clevisroot_read_point(uint8_t bits, int16_t x, int16_t y);
+
+/* Draws one filler bit. Refusal 12 if the register is 0 or above 8388607. */
+clevisroot_drawn clevisroot_draw(uint32_t reg);
+
+#ifdef __cplusplus
+}
+#endif
+
+#endif

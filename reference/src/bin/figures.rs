@@ -1,0 +1,5 @@
+//! Prints every bench figure of document 01 as the reference works it out.
+
+fn main() {
+    print!("{}", reference::figures::page());
+}

@@ -1,0 +1,18 @@
+//! A second implementation of document 01, written from its text alone: lists of bits and plain
+//! loops, with one module for each section and the section's letters.
+//!
+//! The seven calls are in [`operations`]. Each answers for all inputs.
+
+pub mod coding;
+pub mod figures;
+pub mod filler;
+pub mod forms;
+pub mod operations;
+pub mod points;
+pub mod refusals;
+pub mod reordering;
+pub mod symbol;
+pub mod words;
+
+pub use forms::{Mode, Tables};
+pub use operations::{check, draw, encode, map_label, read, read_point, reorder, Answer};

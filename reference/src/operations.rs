@@ -1,0 +1,145 @@
+//! The seven calls: which refusals each uses, in the order of their numbers, and what each answers.
+
+use crate::filler::{register_valid, Filler};
+use crate::forms::{bits_of_frame, frame_accepted, frame_bytes, frame_of_bits, Tables};
+use crate::points::{constellation, label_of, Point};
+use crate::refusals::{refuse_if, test_tables, Refusal};
+use crate::reordering::{frame_size, reordered_bits, reordered_tones};
+use crate::symbol::{read_points, write_points};
+
+/// What a call answers. Without contents every lent buffer is as it came.
+#[derive(Clone, Debug, PartialEq, Eq)]
+pub struct Answer<C> {
+    pub number: u32,
+    pub place: u32,
+    /// L, 0 on refusal and in the one-tone calls.
+    pub size: u32,
+    /// The register after the draws, as given on refusal, 0 where none was given.
+    pub register: u32,
+    pub contents: Option<C>,
+}
+
+/// L, the register after the draws, and the contents.
+type Done<C> = (usize, u32, C);
+
+fn answer<C>(given: u32, outcome: Result<Done<C>, Refusal>) -> Answer<C> {
+    match outcome {
+        Ok((l, register, contents)) => Answer {
+            number: 0,
+            place: 0,
+            size: u32::try_from(l).expect("L is at most 61,440"),
+            register,
+            contents: Some(contents),
+        },
+        Err(refusal) => Answer {
+            number: refusal.number(),
+            place: refusal.place(),
+            size: 0,
+            register: given,
+            contents: None,
+        },
+    }
+}
+
+/// Checks the tables and tells L: 1 to 9.
+pub fn check(tables: &Tables) -> Answer<()> {
+    answer(0, test_tables(tables).map(|()| (frame_size(tables), 0, ())))
+}
+
+/// t' and b' for lent lists of these lengths: 1 to 10.
+pub fn reorder(
+    tables: &Tables,
+    tones_room: usize,
+    bits_room: usize,
+) -> Answer<(Vec<u16>, Vec<u8>)> {
+    let outcome = || {
+        test_tables(tables)?;
+        let nsc = tables.nsc();
+        refuse_if(tones_room != nsc || bits_room != nsc, Refusal::Room)?;
+        let tones = reordered_tones(tables)
+            .iter()
+            .map(|tone| tone.0 as u16)
+            .collect();
+        let bits = reordered_bits(tables)
+            .iter()
+            .map(|&entry| entry as u8)
+            .collect();
+        Ok((frame_size(tables), 0, (tones, bits)))
+    };
+    answer(0, outcome())
+}
+
+/// The points of a frame for lent lists of these lengths: 1 to 12.
+pub fn encode(
+    tables: &Tables,
+    frame: &[u8],
+    register: u32,
+    x_room: usize,
+    y_room: usize,
+) -> Answer<Vec<Point>> {
+    let outcome = || {
+        test_tables(tables)?;
+        let (nsc, l) = (tables.nsc(), frame_size(tables));
+        refuse_if(x_room != nsc || y_room != nsc, Refusal::Room)?;
+        refuse_if(!frame_accepted(frame, l), Refusal::Frame)?;
+        refuse_if(!register_valid(register), Refusal::Seed)?;
+        let (points, after) = write_points(tables, &bits_of_frame(frame, l), register);
+        Ok((l, after, points))
+    };
+    answer(register, outcome())
+}
+
+/// The frame of the points, for a lent frame of this length: 1 to 10 and 12 to 15.
+pub fn read(
+    tables: &Tables,
+    x: &[i16],
+    y: &[i16],
+    register: u32,
+    frame_room: usize,
+) -> Answer<Vec<u8>> {
+    let outcome = || {
+        test_tables(tables)?;
+        let (nsc, l) = (tables.nsc(), frame_size(tables));
+        let exact = x.len() == nsc && y.len() == nsc && frame_room == frame_bytes(l);
+        refuse_if(!exact, Refusal::Room)?;
+        refuse_if(!register_valid(register), Refusal::Seed)?;
+        let points: Vec<Point> = x.iter().copied().zip(y.iter().copied()).collect();
+        let (bits, after) = read_points(tables, &points, register)?;
+        Ok((l, after, frame_of_bits(&bits)))
+    };
+    answer(register, outcome())
+}
+
+/// The point of one label: 16.
+pub fn map_label(bits: u8, label: u32) -> Answer<Point> {
+    let b = usize::from(bits);
+    let fits = (1..=15).contains(&b) && label < 1 << b;
+    let outcome = refuse_if(!fits, Refusal::Label);
+    answer(
+        0,
+        outcome.map(|()| (0, 0, constellation(b)[label as usize])),
+    )
+}
+
+/// The label of one point: 16 for the bits, then 13.
+pub fn read_point(bits: u8, x: i16, y: i16) -> Answer<u32> {
+    let b = usize::from(bits);
+    let outcome = || {
+        refuse_if(!(1..=15).contains(&b), Refusal::Label)?;
+        let offgrid = Refusal::Offgrid(crate::forms::Place(0));
+        let label = label_of(b, (x, y)).ok_or(offgrid)?;
+        Ok((0, 0, label as u32))
+    };
+    answer(0, outcome())
+}
+
+/// One filler bit: 12.
+pub fn draw(register: u32) -> Answer<bool> {
+    let outcome = || {
+        refuse_if(!register_valid(register), Refusal::Seed)?;
+        let mut filler = Filler::from_register(register);
+        let bit = filler.draw();
+        Ok((0, filler.register(), bit))
+    };
+    answer(register, outcome())
+}

@@ -1,0 +1,98 @@
+//! Every bench figure of document 01, marked (*) and unmarked.
+
+use reference::figures::{equal_tones, table_a, table_a_silent};
+use reference::filler::RESET;
+use reference::points::Point;
+use reference::words::lists_of;
+use reference::{check, encode, map_label, read, reorder, Answer, Mode, Tables};
+
+fn write(tables: &Tables, byte: u8) -> Answer<Vec<Point>> {
+    encode(tables, &[byte], RESET, tables.nsc(), tables.nsc())
+}
+
+fn points(tables: &Tables, byte: u8) -> Vec<Point> {
+    write(tables, byte).contents.unwrap()
+}
+
+fn size(tables: &Tables) -> (u32, u32) {
+    let answer = check(tables);
+    (answer.number, answer.size)
+}
+
+#[test]
+fn table_a_is_reordered() {
+    let answer = reorder(&table_a(), 6, 6);
+    let (tones, entries) = answer.contents.unwrap();
+    assert_eq!(tones, [7, 5, 2, 4, 3, 6]);
+    assert_eq!(entries, [0, 0, 4, 2, 3, 2]);
+    assert_eq!(answer.size, 5);
+}
+
+#[test]
+fn table_a_frame_0() {
+    let answer = write(&table_a(), 0);
+    let expected = [(1, 1), (1, 1), (1, 1), (-1, -1), (1, 1), (1, 1)];
+    assert_eq!(answer.contents.unwrap(), expected);
+    assert_eq!(answer.register, 2_097_151);
+    assert_eq!((answer.number, answer.place, answer.size), (0, 0, 5));
+}
+
+#[test]
+fn table_a_frame_1() {
+    let expected = [(3, 3), (-1, -1), (1, 1), (-1, -1), (1, 1), (1, 1)];
+    assert_eq!(points(&table_a(), 1), expected);
+}
+
+#[test]
+fn silent_table_a_reads_frame_15() {
+    let points = [(-1, -1), (-1, -1), (-1, -1), (0, 0), (-1, -1), (-1, -1)];
+    let (x, y) = lists_of(&points);
+    let answer = read(&table_a_silent(), &x, &y, RESET, 1);
+    assert_eq!((answer.number, answer.contents.unwrap()), (0, vec![15]));
+}
+
+#[test]
+fn silent_table_a_draws_nothing() {
+    assert_eq!(write(&table_a_silent(), 0).register, RESET);
+}
+
+#[test]
+fn table_a_frame_32_is_refused() {
+    assert_eq!(write(&table_a(), 32).number, 11);
+}
+
+#[test]
+fn five_two_bit_tones() {
+    let five = equal_tones(5, 2, Mode::Coded);
+    assert_eq!(size(&five), (0, 3));
+    assert_eq!(
+        points(&five, 1),
+        [(-1, -1), (-1, 1), (-1, 1), (-1, 1), (-1, 1)]
+    );
+}
+
+#[test]
+fn few_and_odd() {
+    assert_eq!(size(&equal_tones(3, 2, Mode::Coded)), (8, 0));
+    assert_eq!(size(&equal_tones(4, 2, Mode::Coded)), (0, 2));
+    assert_eq!(size(&equal_tones(1, 1, Mode::Coded)), (7, 0));
+    assert_eq!(size(&equal_tones(1, 1, Mode::Uncoded)), (0, 1));
+}
+
+#[test]
+fn single_labels() {
+    let point = |bits, label| map_label(bits, label).contents.unwrap();
+    assert_eq!(point(4, 9), (-3, 3));
+    assert_eq!(
+        [point(5, 16), point(5, 24), point(5, 31)],
+        [(5, 1), (-3, 5), (-5, -1)]
+    );
+    assert_eq!([point(7, 64), point(7, 67)], [(9, 1), (11, 3)]);
+    assert_eq!(point(15, 17_407), (191, 63));
+}
+
+#[test]
+fn largest_frames() {
+    assert_eq!(size(&equal_tones(4096, 15, Mode::Coded)), (0, 59_388));
+    assert_eq!(size(&equal_tones(4096, 15, Mode::Uncoded)), (0, 61_440));
+}

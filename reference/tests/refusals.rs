@@ -1,0 +1,197 @@
+//! Every refusal number with its place, and the order in which they are tested.
+
+use reference::figures::{equal_tones, table_a};
+use reference::filler::RESET;
+use reference::points::Point;
+use reference::words::lists_of;
+use reference::{check, draw, encode, map_label, read, read_point, reorder, Mode, Tables};
+
+/// Number and place for bench table A after a change.
+fn changed(change: impl Fn(&mut Tables)) -> (u32, u32) {
+    let mut tables = table_a();
+    change(&mut tables);
+    let answer = check(&tables);
+    assert_eq!(
+        (answer.size, answer.register, answer.contents),
+        (0, 0, None)
+    );
+    (answer.number, answer.place)
+}
+
+/// Number and place for bench table A's frame 0 read after a change of its points.
+fn read_changed(change: impl Fn(&mut Vec<Point>)) -> (u32, u32) {
+    let mut points = encode(&table_a(), &[0], RESET, 6, 6).contents.unwrap();
+    change(&mut points);
+    let (x, y) = lists_of(&points);
+    let answer = read(&table_a(), &x, &y, RESET, 1);
+    assert_eq!(
+        (answer.size, answer.register, answer.contents),
+        (0, RESET, None)
+    );
+    (answer.number, answer.place)
+}
+
+#[test]
+fn size_1() {
+    assert_eq!(changed(|a| a.gains.push(0)), (1, 0));
+    assert_eq!(changed(|a| a.gains.truncate(7)), (1, 0));
+    assert_eq!(changed(|a| a.tones.clear()), (1, 0));
+    assert_eq!(changed(|a| a.tones = (0..9).collect()), (1, 0));
+    assert_eq!(changed(|a| (a.bits, a.gains) = (vec![], vec![])), (1, 0));
+    assert_eq!(check(&equal_tones(4097, 0, Mode::Uncoded)).number, 1);
+    assert_eq!(check(&equal_tones(4096, 0, Mode::Uncoded)).number, 0);
+}
+
+#[test]
+fn tone_2() {
+    assert_eq!(changed(|a| (a.tones[1], a.tones[4]) = (8, 65_535)), (2, 1));
+}
+
+#[test]
+fn twice_3() {
+    assert_eq!(changed(|a| a.tones[5] = 5), (3, 5));
+    assert_eq!(changed(|a| (a.tones[3], a.tones[5]) = (7, 3)), (3, 3));
+}
+
+#[test]
+fn bits_4() {
+    assert_eq!(changed(|a| (a.bits[1], a.bits[7]) = (16, 255)), (4, 1));
+    assert_eq!(changed(|a| a.bits[2] = 16), (4, 2));
+}
+
+#[test]
+fn stray_5() {
+    assert_eq!(changed(|a| a.gains[1] = 1), (5, 1));
+    assert_eq!(changed(|a| (a.bits[0], a.bits[1]) = (1, 1)), (5, 0));
+}
+
+#[test]
+fn gain_6() {
+    assert_eq!(changed(|a| (a.gains[3], a.gains[6]) = (0, 4096)), (6, 3));
+    assert_eq!(changed(|a| (a.gains[3], a.gains[6]) = (4096, 0)), (6, 3));
+    let mut tables = table_a();
+    tables.gains[3] = 4095;
+    assert_eq!(check(&tables).number, 0);
+}
+
+#[test]
+fn odd_7_and_few_8() {
+    assert_eq!(changed(|a| a.bits[3] = 2), (7, 0));
+    assert_eq!(changed(|a| (a.bits[3], a.bits[6]) = (0, 0)), (8, 0));
+}
+
+#[test]
+fn room_10() {
+    let a = table_a();
+    assert_eq!(reorder(&a, 5, 6).number, 10);
+    assert_eq!(reorder(&a, 6, 7).number, 10);
+    assert_eq!(encode(&a, &[32], 0, 7, 6).number, 10);
+    assert_eq!(encode(&a, &[32], 0, 6, 0).number, 10);
+    assert_eq!(read(&a, &[0; 6], &[0; 5], 0, 1).number, 10);
+    assert_eq!(read(&a, &[0; 7], &[0; 6], 0, 1).number, 10);
+    assert_eq!(read(&a, &[0; 6], &[0; 6], 0, 2).number, 10);
+}
+
+#[test]
+fn frame_11() {
+    for frame in [&[][..], &[32], &[0, 0]] {
+        let answer = encode(&table_a(), frame, 0, 6, 6);
+        assert_eq!((answer.number, answer.place, answer.register), (11, 0, 0));
+    }
+}
+
+#[test]
+fn seed_12() {
+    for register in [0, 8_388_608, u32::MAX] {
+        let encoded = encode(&table_a(), &[0], register, 6, 6);
+        assert_eq!(
+            (encoded.number, encoded.place, encoded.register),
+            (12, 0, register)
+        );
+        let read = read(&table_a(), &[0; 6], &[0; 6], register, 1);
+        assert_eq!((read.number, read.place, read.register), (12, 0, register));
+        let drawn = draw(register);
+        assert_eq!(
+            (drawn.number, drawn.register, drawn.contents),
+            (12, register, None)
+        );
+    }
+}
+
+#[test]
+fn offgrid_13_before_monitor_14_before_trellis_15() {
+    assert_eq!(read_changed(|points| points[1] = (3, 1)), (13, 1));
+    assert_eq!(read_changed(|points| points[3] = (1, 1)), (14, 3));
+    assert_eq!(read_changed(|points| points[0] = (1, -1)), (15, 0));
+    assert_eq!(read_changed(|points| points[5] = (-1, -1)), (15, 1));
+    assert_eq!(
+        read_changed(|points| (points[0], points[3]) = ((1, -1), (1, 1))),
+        (14, 3)
+    );
+    let all = |points: &mut Vec<Point>| {
+        (points[0], points[3], points[5]) = ((1, -1), (1, 1), (1, -1));
+    };
+    assert_eq!(read_changed(all), (13, 5));
+}
+
+#[test]
+fn monitored_has_two_bits_and_silent_one_point() {
+    assert_eq!(read_changed(|points| points[3] = (0, 0)), (13, 3));
+    assert_eq!(read_changed(|points| points[3] = (3, 1)), (13, 3));
+    let silent = Tables {
+        mode: Mode::Uncoded,
+        bits: vec![0],
+        gains: vec![0],
+        tones: vec![0],
+    };
+    assert_eq!(read(&silent, &[0], &[0], 1, 0).number, 0);
+    assert_eq!(read(&silent, &[0], &[1], 1, 0).number, 13);
+}
+
+#[test]
+fn label_16_then_offgrid_13() {
+    for (bits, label) in [
+        (0, 0),
+        (16, 0),
+        (255, 0),
+        (1, 2),
+        (15, 32_768),
+        (4, u32::MAX),
+    ] {
+        let answer = map_label(bits, label);
+        assert_eq!(
+            (answer.number, answer.place, answer.contents),
+            (16, 0, None)
+        );
+    }
+    assert_eq!(read_point(0, 1, 1).number, 16);
+    assert_eq!(read_point(16, 0, 0).number, 16);
+    let offgrid = read_point(2, 3, 1);
+    assert_eq!(
+        (offgrid.number, offgrid.place, offgrid.contents),
+        (13, 0, None)
+    );
+}
+
+#[test]
+fn the_smallest_number_is_given() {
+    let told = |tables: &Tables| (check(tables).number, check(tables).place);
+    let mut tables = table_a();
+    tables.bits[0] = 16;
+    tables.gains[1] = 5000;
+    tables.tones[2] = 3;
+    tables.tones[4] = 8;
+    assert_eq!(told(&tables), (2, 4));
+    tables.tones[4] = 6;
+    assert_eq!(told(&tables), (3, 2));
+    tables.tones[2] = 5;
+    assert_eq!(told(&tables), (4, 0));
+    tables.bits[0] = 0;
+    assert_eq!(told(&tables), (5, 1));
+    tables.gains[1] = 0;
+    tables.gains[7] = 4096;
+    tables.bits[3] = 2;
+    assert_eq!(told(&tables), (6, 7));
+    tables.gains[7] = 512;
+    assert_eq!(told(&tables), (7, 0));
+}
