@@ -1,4 +1,4 @@
--- `reorder_through` meets its contract: a lent buffer is written only where none of 1 to 10 refuses.
+-- `tables::reorder_through` meets its contract: a lent buffer is written only where none of 1 to 10 refuses.
 use native.Mathlib.Omega.{arith}
 use mathlib.Core.Path.{_≡_, sym, ap, _∙_}
 use denote.Ref.{now}

@@ -1,4 +1,4 @@
--- `check_lists` meets its contract: each return follows the chain of refusals 1 to 6 to the one that it makes.
+-- `tables::lists::check_lists` meets its contract: each return follows the chain of refusals 1 to 6 to the one that it makes.
 use denote.Ref.{now}
 use mathlib.Core.Path.{_≡_, refl, sym, _∙_}
 use mathlib.Core.Bool.{false}

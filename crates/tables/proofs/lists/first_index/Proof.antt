@@ -1,4 +1,5 @@
--- `first_index` meets its contract. The loop's invariant: the rule applies to no index before i. The measure is what is left.
+-- `tables::lists::first_index` meets its contract. The invariant: the rule applies to no index before i. The measure is what is
+-- left.
 use borrow.Author.Needs.{needs}
 use native.Mathlib.Omega.{arith}
 use mathlib.Core.Path.{_≡_, _∙_}

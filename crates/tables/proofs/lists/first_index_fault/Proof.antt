@@ -1,5 +1,5 @@
--- `first_index_fault` meets its contract. The loop's invariant: none of 4, 5 and 6 applies to an index before i. The measure is
--- what is left.
+-- `tables::lists::first_index_fault` meets its contract. The invariant: none of 4, 5 and 6 applies to an index before i. The
+-- measure is what is left.
 use borrow.Author.Needs.{needs}
 use native.Mathlib.Omega.{arith}
 use mathlib.Core.Path.{_≡_, _∙_}

@@ -1,5 +1,5 @@
--- `first_place_fault` meets its contract. The loop's invariant: neither 2 nor 3 applies to a place before i, and the entries
--- before i are marked. The measure is what is left of t.
+-- `tables::lists::first_place_fault` meets its contract. The invariant: neither 2 nor 3 applies to a place before i, and the
+-- entries before i are marked. The measure is what is left of t.
 use borrow.Author.Needs.{needs}
 use native.Mathlib.Omega.{arith}
 use mathlib.Core.Path.{_≡_, _∙_, ap, sym}

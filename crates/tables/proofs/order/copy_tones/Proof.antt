@@ -1,4 +1,5 @@
--- `copy_tones` meets its contract. The loop's invariant: the first i entries are copied. The measure is what is left of `out`.
+-- `tables::order::copy_tones` meets its contract. The invariant: the first i entries are copied. The measure is what is left of
+-- `out`.
 use borrow.Author.Needs.{needs}
 use native.Mathlib.Omega.{arith}
 use mathlib.Core.Path.{_≡_, refl}

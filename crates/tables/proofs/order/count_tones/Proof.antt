@@ -1,4 +1,4 @@
--- `count_tones` meets its contract. The loop's invariant: each count so far with that of the tones left is that of all.
+-- `tables::order::count_tones` meets its contract. The invariant: each count so far with that of the tones left is that of all.
 -- The measure is what is left of t.
 use borrow.Author.Needs.{needs}
 use native.Mathlib.Omega.{arith}

@@ -1,5 +1,5 @@
--- `order_coded` meets its contract: each return follows the chain of refusals 7 to 9, whose tests are those of the counts and
--- of the entries that were written.
+-- `tables::order::order_coded` meets its contract: each return follows the chain of refusals 7 to 9, whose tests are those of the
+-- counts and of the entries that were written.
 use native.Mathlib.Omega.{arith}
 use denote.Ref.{now}
 use Prim.Native.Nat.{_+_, _-_, _/_, _≤_}

@@ -1,5 +1,5 @@
--- `order_uncoded` meets its contract. The loop's invariant: writing what is left of t and of its bits gives what the whole gives,
--- and the sum so far with the bits left is the sum of all. The measure is what is left of t.
+-- `tables::order::order_uncoded` meets its contract. The invariant: writing what is left of t and of its bits gives what the
+-- whole gives, and the sum so far with the bits left is the sum of all. The measure is what is left of t.
 use borrow.Author.Needs.{needs}
 use native.Mathlib.Omega.{arith}
 use mathlib.Core.Path.{_≡_, refl, sym, ap, _∙_}

@@ -1,5 +1,5 @@
--- `place_tones` meets its contract. The loop's invariant: writing the three lists of the tones left, each from its cursor, gives
--- what the three whole lists give from the start. The measure is what is left of t.
+-- `tables::order::place_tones` meets its contract. The invariant: writing the three lists of the tones left, each from its
+-- cursor, gives what the three whole lists give from the start. The measure is what is left of t.
 use borrow.Author.Needs.{needs}
 use native.Mathlib.Omega.{arith}
 use mathlib.Core.Path.{_≡_, refl, _∙_}

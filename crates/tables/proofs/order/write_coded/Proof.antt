@@ -1,4 +1,5 @@
--- `write_coded` meets its contract: two runs of stores fill the front of the array for t', and three that of the array for b'.
+-- `tables::order::write_coded` meets its contract: two runs of stores fill the front of the array for t', and three that of the
+-- array for b'.
 use native.Mathlib.Omega.{arith}
 use denote.Ref.{now}
 use mathlib.Core.Path.{_≡_}
