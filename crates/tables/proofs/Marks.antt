@@ -1,6 +1,6 @@
 -- Laws of the marks: after a pass over the first i tones the array is true at the tones passed, and nowhere else.
 use Prim.Native.Nat.{ℕ, _+_, _<_, _≤_}
-use mathlib.Core.Bool.{Bool, true, false, _||_}
+use mathlib.Core.Bool.{Bool, true, false, _||_, or-true, or-false, or-assoc}
 use mathlib.Core.List.{List, [], _∷_, _++_}
 use mathlib.Core.Path.{_≡_, refl, sym, ap, _∙_}
 use native.Mathlib.Numerals.{add-one}
@@ -13,21 +13,9 @@ use Rattle.g9932.specs.Sizes.{entry}
 use Rattle.g9932.specs.Refusals.{member}
 use Rattle.tables.specs.Checks.{Marks}
 
-or-false : (b : Bool) → b || false ≡ b
-or-false true = refl
-or-false false = refl
-
-or-true : (b : Bool) → b || true ≡ true
-or-true true = refl
-or-true false = refl
-
-or-assoc : (a b c : Bool) → a || (b || c) ≡ (a || b) || c
-or-assoc true b c = refl
-or-assoc false b c = refl
-
 member-snoc : (k x : ℕ) (ys : List ℕ) → member k (ys ++ (x ∷ [])) ≡ member k ys || eqb k x
 member-snoc k x [] = or-false (eqb k x)
-member-snoc k x (y ∷ ys) = ap (λ (b : Bool). eqb k y || b) (member-snoc k x ys) ∙ or-assoc (eqb k y) (member k ys) (eqb k x)
+member-snoc k x (y ∷ ys) = ap (λ (b : Bool). eqb k y || b) (member-snoc k x ys) ∙ sym (or-assoc (eqb k y) (member k ys) (eqb k x))
 
 pub marks-none : (t : List ℕ) {seen : List Bool} → seen ≡ replicate 4096 false → Marks (take 0 t) seen
 marks-none t e k h = ap (λ (l : List Bool). getD l k false) e ∙ getD-replicate 4096 k false false h

@@ -1,21 +1,17 @@
 -- Laws of the pairs: pair k of a list holds its entries 2k and 2k + 1, from any array and place.
 use Prim.Native.Nat.{ℕ, zero, suc, _+_, _-_, _*_, _/_, _%_, _<_, _≤_}
-use mathlib.Core.Bool.{Bool, true, false, _||_}
+use mathlib.Core.Bool.{_||_}
 use mathlib.Core.List.{List, [], _∷_}
 use mathlib.Core.Path.{_≡_, refl, sym, ap, _∙_}
 use native.Mathlib.Omega.{arith}
-use borrow.Author.Tests.{eqb-true, eqb-false, eq-eqb, ne-eqb}
+use borrow.Author.Tests.{eq-eqb, ne-eqb}
 use lib.ListN.{length, getD, take, drop, length-drop}
 use lib.Seq.{getD-take, getD-drop, length-take-le}
 use Rattle.g9932.specs.Refusals.{holdsOne, pairTest}
 use Rattle.g9932.specs.Order.{Pair, pair, isOne, inTwos, zeroInFront, pairsOf}
+use Rattle.g9932.proofs.Formed.{length-pairsOf}
 
-length-twos : (l : List ℕ) → length (inTwos l) ≡ length l / 2
-length-twos [] = refl
-length-twos (a ∷ []) = refl
-length-twos (a ∷ b ∷ l) = omega (arith, length-twos l)
-
-pair-at : (l : List ℕ) (k : ℕ) → 2 * k + 1 < length l → getD (inTwos l) k (pair 0 0) ≡ pair (getD l (2 * k) 0) (getD l (2 * k + 1) 0)
+pair-at : (l : List ℕ) (k : ℕ) → k < length (inTwos l) → getD (inTwos l) k (pair 0 0) ≡ pair (getD l (2 * k) 0) (getD l (2 * k + 1) 0)
 pair-at [] k h = absurd (omega arith)
 pair-at (a ∷ []) k h = absurd (omega arith)
 pair-at (a ∷ b ∷ l) zero h = refl
@@ -23,13 +19,6 @@ pair-at (a ∷ b ∷ l) (suc k) h =
     let e : 2 * suc k ≡ suc (suc (2 * k)) = omega arith in
     let f : 2 * suc k + 1 ≡ suc (suc (2 * k + 1)) = omega arith in
     rw (f, e) (pair-at l k (omega arith))
-
-length-front : (n : ℕ) (l : List ℕ) → length l ≡ n → length (zeroInFront (isOne (n % 2)) l) ≡ n + n % 2
-length-front n l e = go (isOne (n % 2)) refl
-  where
-    go : (p : Bool) → isOne (n % 2) ≡ p → length (zeroInFront p l) ≡ n + n % 2
-    go true q = let o = eqb-true (n % 2) 1 q in omega arith
-    go false q = let o = eqb-false (n % 2) 1 q in omega arith
 
 -- the n entries from a place on, a 0 put in front where n is odd
 module _ (arr : List ℕ) (from n : ℕ) where
@@ -62,10 +51,10 @@ module _ (arr : List ℕ) (from n : ℕ) where
     pairs-cut = ap (λ (m : ℕ). inTwos (zeroInFront (isOne (m % 2)) part)) length-part
 
     pub length-pairs : length (pairsOf part) ≡ (n + 1) / 2
-    length-pairs = ap length pairs-cut ∙ length-twos padded ∙ omega (arith, length-front n part length-part)
+    length-pairs = length-pairsOf part ∙ ap (λ (m : ℕ). (m + 1) / 2) length-part
 
     pub pair-test : (k : ℕ) {x y : ℕ} → k < (n + 1) / 2 → x ≡ getD padded (2 * k) 0 → y ≡ getD padded (2 * k + 1) 0 → pairTest (pairsOf part) k ≡ isOne x || isOne y
     pair-test k {x} {y} h p q =
-        let l = length-front n part length-part in
-        let e : getD (pairsOf part) k (pair 0 0) ≡ pair x y = ap (λ (ps : List Pair). getD ps k (pair 0 0)) pairs-cut ∙ pair-at padded k (omega arith) ∙ rw (← p, ← q) in
+        let l : k < length (inTwos padded) = omega (arith, ap length pairs-cut, length-pairs) in
+        let e : getD (pairsOf part) k (pair 0 0) ≡ pair x y = ap (λ (ps : List Pair). getD ps k (pair 0 0)) pairs-cut ∙ pair-at padded k l ∙ rw (← p, ← q) in
         ap holdsOne e

@@ -1,6 +1,5 @@
 -- What stands in the two arrays for t' and b', and what the functions that write them ask.
 use Prim.Native.Nat.{ℕ, _+_, _-_, _%_, _≤_}
-use mathlib.Core.Bool.{false}
 use mathlib.Core.List.{List}
 use mathlib.Core.Path.{_≡_}
 use lib.Dec.{leb}
@@ -8,7 +7,7 @@ use lib.ListN.{length, take}
 use lib.Seq.{sets}
 use Rattle.g9932.specs.Sizes.{Tables}
 use Rattle.g9932.specs.Refusals.{Verdict, tableVerdict}
-use Rattle.g9932.specs.Order.{sum, filter, isOne, bitsOf, singles, others, loaded, ones, reorderedTones, entryCount, reorderedBits}
+use Rattle.g9932.specs.Order.{sum, filter, bitsOf, singles, others, loaded, ones, reorderedTones, entryCount, reorderedBits}
 use Rattle.g9932.specs.Answers.{verdictOf}
 use Rattle.g9932.specs.declared.Mode.{Mode}
 use Rattle.g9932.specs.declared.Checked.{Checked}
@@ -47,7 +46,7 @@ pub record CountsAre (c : Counts) (b t : List ℕ) : Type 0 where
 -- what writing t' and b' asks: an even number of 1-bit tones, and where the entries of b' begin
 pub record CodedReady (b t : List ℕ) (one zeros : ℕ) : Type 0 where
   pub onesIs : one ≡ ones b t
-  pub even : isOne (ones b t % 2) ≡ false
+  pub even : ones b t % 2 ≡ 0
   pub zerosIs : zeros ≡ length t - entryCount b t
 
 -- what placing the tones asks: the 1-bit tones come behind the others, and there is room for all

@@ -1,3 +1,4 @@
+-- `mapper::map_data` meets its contract: the bits got are the label, and b more are taken from the source.
 use Rattle.mapper.proofs.OneTone.{label-at}
 use Rattle.g9932.specs.Points.{pointOf}
 use mir.ValLaws.{toZ-ofZ}

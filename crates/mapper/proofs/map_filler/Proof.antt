@@ -1,3 +1,4 @@
+-- `mapper::map_filler` meets its contract: the label is the next two bits drawn, and no sent bit is taken.
 use Rattle.mapper.proofs.OneTone.{filler-at}
 use Rattle.g9932.specs.Points.{pointOf}
 use mir.ValLaws.{toZ-ofZ}

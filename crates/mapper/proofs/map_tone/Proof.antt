@@ -1,3 +1,4 @@
+-- `mapper::map_tone` meets its contract, by the class: a label, two filler bits, or (0, 0).
 use native.Mathlib.Omega.{arith}
 use mathlib.Core.Path.{refl}
 use borrow.Author.Needs.{needs}

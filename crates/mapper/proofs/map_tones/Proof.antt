@@ -1,3 +1,5 @@
+-- `mapper::map_tones` meets its contract. The invariant: the points written before place i, with those that the tones left give
+-- from the bits and the register left, are the whole symbol. The measure is the tones left.
 use mir.ValLaws.{toZ-ofZ}
 use mir.Syntax.{w16}
 use mathlib.Core.Path.{_∙_, sym}

@@ -1,4 +1,4 @@
--- `gain_at` meets its contract: past the end the entry is 0.
+-- `tables::gain_at` meets its contract: past the end the entry is 0.
 use denote.Ref.{now}
 use mathlib.Core.Path.{sym}
 use lib.ListN.{List·getD-eq-default}

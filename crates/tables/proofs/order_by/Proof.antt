@@ -1,4 +1,4 @@
--- `order_by` meets its contract: by the mode, that of the function called.
+-- `tables::order_by` meets its contract: by the mode, that of the function called.
 use borrow.Author.Needs.{needs}
 use Rattle.tables.proofs.order_by.Statement.{statement}
 use Rattle.tables.proofs.order_by.Tie as tie

@@ -1,4 +1,4 @@
--- `order_tables` meets its contract: refusals 1 to 6, and then those of the mode.
+-- `tables::order_tables` meets its contract: refusals 1 to 6, and then those of the mode.
 use native.Mathlib.Omega.{arith}
 use mathlib.Core.Path.{sym, ap, _∙_}
 use Rattle.g9932.specs.Answers.{verdictOf}

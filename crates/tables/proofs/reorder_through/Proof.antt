@@ -1,14 +1,12 @@
--- `reorder_through` meets its contract: a lent buffer is written only where none of 1 to 10 refuses.
+-- `tables::reorder_through` meets its contract: a lent buffer is written only where none of 1 to 10 refuses.
 use native.Mathlib.Omega.{arith}
 use mathlib.Core.Path.{_≡_, sym, ap, _∙_}
-use Prim.Native.Nat.{ℕ}
 use denote.Ref.{now}
-use lib.ListN.{take}
 use borrow.Author.Tests.{eq-eqb, ne-eqb}
 use Rattle.g9932.specs.Sizes.{tables}
 use Rattle.g9932.specs.Refusals.{accepted, tableVerdict}
 use Rattle.g9932.specs.Answers.{verdictOf}
-use Rattle.tables.proofs.Answers.{number-none, table-fits, reorder-refused, reorder-room, reorder-done}
+use Rattle.tables.proofs.Answers.{table-fits, reorder-refused, reorder-room, reorder-done}
 use borrow.Author.Needs.{needs}
 use Rattle.tables.proofs.reorder_through.Statement.{statement}
 use Rattle.tables.proofs.reorder_through.Tie as tie
@@ -73,13 +71,8 @@ same-length-10 c = search needs
 
 returns-4 : tie.Need-returns-4
 returns-4 c =
-    let o = c .before .before .before .before .before .before .before .before .before .before .before .before .before .before .before .before .before .before .before .order-tables in
-    let e = passed (c .before .before .before .before .before .before .before .before .before .before .before .before .before) in
-    let p = c .before .before .before .before .before .before .before .before .before .before .before .if1 .left in
-    let q = c .before .before .before .before .before .before .before .before .before .before .if2 .left in
-    reorder-done e p q
-    (c .before .before .before .before .before .before .before .copy-tones .ensures ∙ ap (λ (n : ℕ). take n (o .last .1 .1 .1 .1 .0)) p ∙ o .ensures .tones (number-none e))
-    (c .before .before .copy-bits .ensures ∙ ap (λ (n : ℕ). take n (o .last .1 .1 .1 .1 .1 .0)) q ∙ o .ensures .bits (number-none e))
+    reorder-done (passed (c .before .before .before .before .before .before .before .before .before .before .before .before .before)) (c .before .before .before .before .before .before .before .before .before .before .before .before .before .before .before .before .before .before .before .order-tables .ensures) (c .before .before .before .before .before .before .before .before .before .before .before .if1 .left) (c .before .before .before .before .before .before .before .before .before .before .if2 .left)
+    (c .before .before .before .before .before .before .before .copy-tones .ensures) (c .before .before .copy-bits .ensures)
 
 pub reorder-through-spec : {M : Type 1} → statement M
 reorder-through-spec =

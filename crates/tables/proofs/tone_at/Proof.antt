@@ -1,4 +1,4 @@
--- `tone_at` meets its contract: past the end the entry is 0.
+-- `tables::tone_at` meets its contract: past the end the entry is 0.
 use native.Mathlib.Omega.{arith}
 use denote.Ref.{now}
 use mathlib.Core.Path.{sym}

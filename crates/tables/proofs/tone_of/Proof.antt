@@ -1,4 +1,4 @@
--- `tone_of` meets its contract, by the two tests of the class.
+-- `tables::tone_of` meets its contract, by the two tests of the class.
 use borrow.Author.Tests.{lt-ltb, le-ltb}
 use Rattle.tables.proofs.tone_of.Statement.{statement}
 use Rattle.tables.proofs.tone_of.Tie as tie

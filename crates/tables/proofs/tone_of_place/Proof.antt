@@ -1,4 +1,4 @@
--- `tone_of_place` meets its contract: the tone of the two entries at the sub-carrier that was looked up.
+-- `tables::tone_of_place` meets its contract: the tone of the two entries at the sub-carrier that was looked up.
 use denote.Ref.{now}
 use mathlib.Core.Path.{_∙_, ap}
 use Prim.Native.Nat.{ℕ}

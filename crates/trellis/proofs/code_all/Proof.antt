@@ -1,3 +1,5 @@
+-- `trellis::code_all` meets its contract: an odd count of entries begins with the pair of a 0 and the first entry, an even one
+-- with the first two.
 use Rattle.trellis.proofs.CodeAll.{even-room, even-coded, first-room, odd-room, odd-coded}
 use native.Mathlib.Omega.{arith}
 use mathlib.Core.Path.{_∙_}

@@ -1,3 +1,4 @@
+-- `trellis::code_first` meets its contract: the bits got are u2 and u4 upward, u1 and u3 are 0, and w alone is put.
 use Rattle.trellis.proofs.OnePair.{got-first, got-next, got-low, empty-waits}
 use mathlib.Core.Bool.{false}
 use Rattle.trellis.proofs.OnePair.{got-first, got-low, empty-waits}

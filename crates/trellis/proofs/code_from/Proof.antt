@@ -1,3 +1,5 @@
+-- `trellis::code_from` meets its contract. The invariant: what is sent, with what the pairs left send from the state and the
+-- frame bits left, is the whole. The measure is the entries left.
 use Rattle.trellis.proofs.CodeLoop.{Going, going-start, going-end, pair-room, going-step}
 use Rattle.trellis.proofs.Entries.{pair-wide}
 use mathlib.Core.Path.{refl}

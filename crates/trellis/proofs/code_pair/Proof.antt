@@ -1,3 +1,4 @@
+-- `trellis::code_pair` meets its contract: the bits got make the pair's word, whose labels are put, v below w.
 use Rattle.trellis.proofs.OnePair.{got-high, got-pair}
 use native.Mathlib.Omega.{arith}
 use mathlib.Core.Path.{_∙_}

@@ -1,3 +1,4 @@
+-- `trellis::encode_pairs` meets its contract: all pairs are coded, and the last byte holds the bits that wait.
 use mathlib.Core.Path.{_∙_}
 use Rattle.trellis.proofs.CodeAll.{finish-room}
 use Rattle.frame.proofs.Stores.{finished}

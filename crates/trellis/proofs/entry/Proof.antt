@@ -1,3 +1,4 @@
+-- `trellis::entry` meets its contract: a byte fits.
 use native.Mathlib.Omega.{arith}
 use borrow.Author.Needs.{needs}
 use Rattle.trellis.proofs.entry.Statement.{statement}

@@ -1,3 +1,4 @@
+-- `trellis::inputs_of` meets its contract, by whether the pair is one of the last two.
 use Rattle.trellis.specs.Coding.{inputsOf}
 use Rattle.g9932.specs.Bits.{odd}
 use Rattle.trellis.proofs.inputs_of.Statement.{statement}

@@ -1,3 +1,4 @@
+-- `trellis::labels` meets its contract: v has x - 2 bits above its lowest two, w has the rest, and the sum does not wrap.
 use Rattle.trellis.proofs.Numbers.{labels-fit}
 use Rattle.trellis.specs.Coding.{sentNumber}
 use native.Mathlib.Nat.{lt-of-le-of-lt, mod-le, div-le-self}

@@ -1,3 +1,4 @@
+-- `trellis::lowest` meets its contract: a mask of n ones is the remainder by 2 to the n.
 use lib.Pow.{pow-pos}
 use lib.Bits.{bitAnd, and-mask}
 use Prim.Native.Nat.{ℕ, _-_}

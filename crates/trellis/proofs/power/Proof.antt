@@ -1,3 +1,4 @@
+-- `trellis::power` meets its contract: the shifted 1 fits.
 use lib.Pow.{pow-lt}
 use native.Mathlib.Nat.{one-mul, mod-eq-of-lt}
 use Prim.Native.Nat.{ℕ, _%_, _^_}

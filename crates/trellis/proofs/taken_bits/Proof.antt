@@ -1,3 +1,4 @@
+-- `trellis::taken_bits` meets its contract, by whether the pair is one of the last two.
 use native.Mathlib.Omega.{arith}
 use borrow.Author.Needs.{needs}
 use Rattle.trellis.proofs.taken_bits.Statement.{statement}

@@ -1,3 +1,4 @@
+-- `trellis::weight` meets its contract, by the bit.
 use Rattle.g9932.specs.Bits.{weight}
 use native.Mathlib.Omega.{arith}
 use Rattle.trellis.proofs.weight.Statement.{statement}

@@ -1,3 +1,4 @@
+-- `mapper::read::is_origin` meets its contract: a coordinate is 0 where its 16 bits are.
 use Rattle.mapper.proofs.Origin.{not-x, not-y, is-zero}
 use Rattle.mapper.proofs.read.is_origin.Statement.{statement}
 use Rattle.mapper.proofs.read.is_origin.Tie as tie

@@ -1,3 +1,4 @@
+-- `mapper::read::or_here` meets its contract, by what was found already.
 use borrow.Author.Needs.{needs}
 use Rattle.mapper.proofs.read.or_here.Statement.{statement}
 use Rattle.mapper.proofs.read.or_here.Tie as tie

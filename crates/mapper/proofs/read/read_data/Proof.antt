@@ -1,3 +1,4 @@
+-- `mapper::read::read_data` meets its contract: the label found is the tone's sent bits.
 use Rattle.mapper.proofs.OneTone.{label-read}
 use Rattle.g9932.specs.Sizes.{point}
 use mir.ValLaws.{toZ-ofZ}

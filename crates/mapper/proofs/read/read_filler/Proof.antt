@@ -1,3 +1,4 @@
+-- `mapper::read::read_filler` meets its contract: a point is the filler's exactly where its label is the two bits drawn.
 use Rattle.mapper.proofs.OneTone.{filler-read}
 use Rattle.g9932.specs.Sizes.{point}
 use Rattle.g9932.specs.Bits.{bits}

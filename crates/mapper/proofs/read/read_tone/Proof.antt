@@ -1,3 +1,4 @@
+-- `mapper::read::read_tone` meets its contract, by the class: a label, two filler bits, or (0, 0) and no bits.
 use mir.ValLaws.{toZ-ofZ}
 use mir.Syntax.{w16}
 use Rattle.g9932.specs.Bits.{bits}

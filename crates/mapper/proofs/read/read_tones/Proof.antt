@@ -1,3 +1,6 @@
+-- `mapper::read::read_tones` meets its contract. The invariant: no place before i is off its constellation, `monitor` is the
+-- first of them that 14 refuses, and the bits put, with those of the tones left, are all sent bits. The measure is the tones
+-- left.
 use mir.ValLaws.{toZ-ofZ}
 use mir.Syntax.{w16}
 use lib.IntN.{pos}

@@ -1,4 +1,4 @@
--- `breaks` meets its contract, by the rule.
+-- `tables::lists::breaks` meets its contract, by the rule.
 use borrow.Author.Needs.{needs}
 use Rattle.tables.proofs.lists.breaks.Statement.{statement}
 use Rattle.tables.proofs.lists.breaks.Tie as tie

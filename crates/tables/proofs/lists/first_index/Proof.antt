@@ -1,17 +1,16 @@
--- `first_index` meets its contract. The loop's invariant: the rule applies to no index before i. The measure is what is left.
+-- `tables::lists::first_index` meets its contract. The invariant: the rule applies to no index before i. The measure is what is
+-- left.
 use borrow.Author.Needs.{needs}
 use native.Mathlib.Omega.{arith}
-use mathlib.Core.Path.{_≡_, _∙_, ap, sym}
-use mathlib.Core.Bool.{Bool}
-use Prim.Native.Nat.{ℕ, _-_, _≤_}
+use mathlib.Core.Path.{_≡_, _∙_}
+use Prim.Native.Nat.{_-_, _≤_}
 use lib.ListN.{length}
 use denote.Ref.{now}
 use Rattle.g9932.specs.Bits.{first}
-use Rattle.g9932.specs.Sizes.{entry}
-use Rattle.g9932.specs.Refusals.{member}
 use Rattle.tables.specs.Checks.{ruleBy, ruleTest}
 use Rattle.g9932.specs.declared.Found.the-variants.{Nothing}
 use Rattle.g9932.proofs.Search.{first-none, first-more, first-at, first-end}
+use Rattle.tables.proofs.Faults.{test-at}
 use Rattle.tables.proofs.lists.first_index.Statement.{statement}
 use Rattle.tables.proofs.lists.first_index.Tie as tie
 
@@ -25,13 +24,7 @@ abbrev μ-loop : tie.MeasureT-loop
 tested : (c : tie.After-breaks Inv-loop μ-loop) → let a = c .before .before .before .before .before .before .before .before .before .args in ruleTest (a .rule) (now (a .bits)) (now (a .gains)) (now (a .tones)) (c .before .before .before .before .before .loop .i) ≡ c .breaks .result
 tested c =
     let a = c .before .before .before .before .before .before .before .before .before .args in
-    let i = c .before .before .before .before .before .loop .i in
-    let m = c .before .before .before .before .before .before .before .before .before .pre .1 i (omega arith) in
-    sym
-    (c .breaks .ensures
-    ∙ ap (λ (x : Bool). ruleBy (a .rule) x (c .before .before .bits-at .result) (c .before .gain-at .result)) m
-    ∙ ap (λ (x : ℕ). ruleBy (a .rule) (member i (now (a .tones))) x (c .before .gain-at .result)) (c .before .before .bits-at .ensures)
-    ∙ ap (ruleBy (a .rule) (member i (now (a .tones))) (entry (now (a .bits)) i)) (c .before .gain-at .ensures))
+    test-at (ruleBy (a .rule)) (c .breaks .ensures) (c .before .before .before .before .before .before .before .before .before .pre .1 (c .before .before .before .before .before .loop .i) (omega arith)) (c .before .before .bits-at .ensures) (c .before .gain-at .ensures)
 
 loop-holds : tie.Need-loop-holds Inv-loop μ-loop
 loop-holds c = (omega arith, first-none _)

@@ -1,5 +1,5 @@
--- `first_place_fault` meets its contract. The loop's invariant: neither 2 nor 3 applies to a place before i, and the entries
--- before i are marked. The measure is what is left of t.
+-- `tables::lists::first_place_fault` meets its contract. The invariant: neither 2 nor 3 applies to a place before i, and the
+-- entries before i are marked. The measure is what is left of t.
 use borrow.Author.Needs.{needs}
 use native.Mathlib.Omega.{arith}
 use mathlib.Core.Path.{_≡_, _∙_, ap, sym}
@@ -14,6 +14,7 @@ use Rattle.g9932.specs.Refusals.{member}
 use Rattle.g9932.specs.declared.Found.the-variants.{Nothing}
 use Rattle.g9932.proofs.Search.{first-none, first-more, first-at, first-end}
 use Rattle.tables.specs.Checks.{placeFault, Marks}
+use Rattle.tables.proofs.Faults.{found-some}
 use Rattle.tables.proofs.Marks.{marks-none, marks-more, marks-end}
 use Rattle.tables.proofs.lists.first_place_fault.Statement.{statement}
 use Rattle.tables.proofs.lists.first_place_fault.Tie as tie
@@ -46,7 +47,7 @@ returns : tie.Need-returns Inv-loop μ-loop
 returns c =
     record {
       found = first-at _ _ _ (c .before .before .before .loop .inv .1) (simp (sym (c .before .tone-at .ensures), le-leb _ _ (c .if1 .taken))) (omega arith);
-      marks = λ e. let z : _≡_ {A = ℕ} 0 1 = cc in absurd (omega arith);
+      marks = found-some;
     }
 
 element-copy-out-if2 : tie.Need-element-copy-out-if2 Inv-loop μ-loop
@@ -56,7 +57,7 @@ returns-2 : tie.Need-returns-2 Inv-loop μ-loop
 returns-2 c =
     record {
       found = first-at _ _ _ (c .before .before .before .before .before .loop .inv .1) (marked (c .before .before) ∙ c .if2 .taken) (omega arith);
-      marks = λ e. let z : _≡_ {A = ℕ} 0 1 = cc in absurd (omega arith);
+      marks = found-some;
     }
 
 element-write-seen : tie.Need-element-write-seen Inv-loop μ-loop

@@ -1,4 +1,5 @@
--- `first_tone` meets its contract. The loop's invariant: no entry before place i is G or more. The measure is what is left of t.
+-- `tables::lists::first_tone` meets its contract. The invariant: no entry before place i is G or more. The measure is what is
+-- left of t.
 use borrow.Author.Needs.{needs}
 use native.Mathlib.Omega.{arith}
 use mathlib.Core.Path.{_≡_, _∙_, ap, sym}

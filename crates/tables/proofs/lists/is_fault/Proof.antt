@@ -1,4 +1,4 @@
--- `is_fault` meets its contract, by its tests.
+-- `tables::lists::is_fault` meets its contract, by its tests.
 use mathlib.Core.Path.{_∙_, sym}
 use borrow.Author.Tests.{lt-ltb, le-ltb}
 use borrow.Author.Needs.{needs}

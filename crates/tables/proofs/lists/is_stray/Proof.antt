@@ -1,4 +1,4 @@
--- `is_stray` meets its contract, by its tests.
+-- `tables::lists::is_stray` meets its contract, by its tests.
 use borrow.Author.Tests.{lt-ltb, le-ltb}
 use borrow.Author.Needs.{needs}
 use Rattle.tables.proofs.lists.is_stray.Statement.{statement}

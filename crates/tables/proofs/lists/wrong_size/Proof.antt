@@ -1,4 +1,4 @@
--- `wrong_size` meets its contract, one return for each part of the test.
+-- `tables::lists::wrong_size` meets its contract, one return for each part of the test.
 use borrow.Author.Tests.{lt-ltb, le-ltb, eq-eqb, ne-eqb}
 use Rattle.tables.proofs.lists.wrong_size.Statement.{statement}
 use Rattle.tables.proofs.lists.wrong_size.Tie as tie

@@ -1,24 +1,23 @@
--- `copy_bits` meets its contract. The loop's invariant: writing what is left of the front of the array gives the front of the array.
--- The measure is what is left of `out`.
+-- `tables::order::copy_bits` meets its contract. The invariant: the first i entries are copied. The measure is what is left of
+-- `out`.
 use borrow.Author.Needs.{needs}
 use native.Mathlib.Omega.{arith}
 use mathlib.Core.Path.{_≡_, refl}
 use Prim.Native.Nat.{_-_, _≤_}
 use denote.Ref.{now}
-use lib.ListN.{length, take, drop, length-set}
-use lib.Seq.{sets}
-use Rattle.tables.proofs.Runs.{sets-step, sets-done, copy-start, copy-next, copy-end}
+use lib.ListN.{length, take, length-set}
+use Rattle.tables.proofs.Runs.{copy-more, copy-end}
 use Rattle.tables.proofs.order.copy_bits.Statement.{statement}
 use Rattle.tables.proofs.order.copy_bits.Tie as tie
 
 abbrev Inv-loop : tie.InvT-loop
-Inv-loop entries out₀ i₀ out i = (i ≤ length out₀) × (length out ≡ length out₀) × (sets out i (drop i (take (length out₀) entries)) ≡ take (length out₀) entries)
+Inv-loop entries out₀ i₀ out i = (i ≤ length out₀) × (length out ≡ length out₀) × (take i out ≡ take i entries)
 
 abbrev μ-loop : tie.MeasureT-loop
 μ-loop entries out₀ i₀ out i = length out - i
 
 loop-holds : tie.Need-loop-holds Inv-loop μ-loop
-loop-holds c = (omega arith, refl, copy-start (now (c .args .entries)) (now (c .args .out)) (c .pre))
+loop-holds c = (omega arith, refl, refl)
 
 shared-slice-read-out : tie.Need-shared-slice-read-out Inv-loop μ-loop
 shared-slice-read-out c = search needs
@@ -34,11 +33,9 @@ loop-less c = simp length-set (omega arith)
 
 loop-again : tie.Need-loop-again Inv-loop μ-loop
 loop-again c =
-    let l = c .before .before .loop in (
-      omega arith,
-      simp length-set (l .inv .1),
-      sets-step (l .out) (l .i) _ (copy-next (now (c .before .before .before .args .entries)) (now (c .before .before .before .args .out)) (c .before .before .before .pre) (l .i) (omega arith)) (l .inv .2),
-    )
+    let s = c .before .before .before in
+    let l = c .before .before .loop in
+    (omega arith, simp length-set (l .inv .1), copy-more (now (s .args .entries)) (l .out) (l .i) (l .inv .2) (omega (arith, s .pre)) (omega arith))
 
 same-length : tie.Need-same-length Inv-loop μ-loop
 same-length c = search needs
@@ -46,7 +43,7 @@ same-length c = search needs
 returns : tie.Need-returns Inv-loop μ-loop
 returns c =
     let l = c .before .loop in
-    sets-done (l .out) (l .i) (copy-end (now (c .before .before .args .entries)) (now (c .before .before .args .out)) (c .before .before .pre) (l .i) (omega arith)) (l .inv .2)
+    copy-end (now (c .before .before .args .entries)) (l .out) (l .i) (l .inv .2) (l .inv .1) (l .inv .0) (omega arith)
 
 pub copy-bits-spec : {M : Type 1} → statement M
 copy-bits-spec =

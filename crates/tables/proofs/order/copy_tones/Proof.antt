@@ -1,24 +1,23 @@
--- `copy_tones` meets its contract. The loop's invariant: writing what is left of the front of the array gives the front of the array.
--- The measure is what is left of `out`.
+-- `tables::order::copy_tones` meets its contract. The invariant: the first i entries are copied. The measure is what is left of
+-- `out`.
 use borrow.Author.Needs.{needs}
 use native.Mathlib.Omega.{arith}
 use mathlib.Core.Path.{_≡_, refl}
 use Prim.Native.Nat.{_-_, _≤_}
 use denote.Ref.{now}
-use lib.ListN.{length, take, drop, length-set}
-use lib.Seq.{sets}
-use Rattle.tables.proofs.Runs.{sets-step, sets-done, copy-start, copy-next, copy-end}
+use lib.ListN.{length, take, length-set}
+use Rattle.tables.proofs.Runs.{copy-more, copy-end}
 use Rattle.tables.proofs.order.copy_tones.Statement.{statement}
 use Rattle.tables.proofs.order.copy_tones.Tie as tie
 
 abbrev Inv-loop : tie.InvT-loop
-Inv-loop order out₀ i₀ out i = (i ≤ length out₀) × (length out ≡ length out₀) × (sets out i (drop i (take (length out₀) order)) ≡ take (length out₀) order)
+Inv-loop order out₀ i₀ out i = (i ≤ length out₀) × (length out ≡ length out₀) × (take i out ≡ take i order)
 
 abbrev μ-loop : tie.MeasureT-loop
 μ-loop order out₀ i₀ out i = length out - i
 
 loop-holds : tie.Need-loop-holds Inv-loop μ-loop
-loop-holds c = (omega arith, refl, copy-start (now (c .args .order)) (now (c .args .out)) (c .pre))
+loop-holds c = (omega arith, refl, refl)
 
 mul-out : tie.Need-mul-out Inv-loop μ-loop
 mul-out c = search needs
@@ -40,11 +39,9 @@ loop-less c = simp length-set (omega arith)
 
 loop-again : tie.Need-loop-again Inv-loop μ-loop
 loop-again c =
-    let l = c .before .before .loop in (
-      omega arith,
-      simp length-set (l .inv .1),
-      sets-step (l .out) (l .i) _ (copy-next (now (c .before .before .before .args .order)) (now (c .before .before .before .args .out)) (c .before .before .before .pre) (l .i) (omega arith)) (l .inv .2),
-    )
+    let s = c .before .before .before in
+    let l = c .before .before .loop in
+    (omega arith, simp length-set (l .inv .1), copy-more (now (s .args .order)) (l .out) (l .i) (l .inv .2) (omega (arith, s .pre)) (omega arith))
 
 same-length : tie.Need-same-length Inv-loop μ-loop
 same-length c = search needs
@@ -52,7 +49,7 @@ same-length c = search needs
 returns : tie.Need-returns Inv-loop μ-loop
 returns c =
     let l = c .before .loop in
-    sets-done (l .out) (l .i) (copy-end (now (c .before .before .args .order)) (now (c .before .before .args .out)) (c .before .before .pre) (l .i) (omega arith)) (l .inv .2)
+    copy-end (now (c .before .before .args .order)) (l .out) (l .i) (l .inv .2) (l .inv .1) (l .inv .0) (omega arith)
 
 pub copy-tones-spec : {M : Type 1} → statement M
 copy-tones-spec =

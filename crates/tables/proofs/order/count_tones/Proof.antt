@@ -1,15 +1,15 @@
--- `count_tones` meets its contract. The loop's invariant: each count so far with that of the tones left is that of all.
+-- `tables::order::count_tones` meets its contract. The invariant: each count so far with that of the tones left is that of all.
 -- The measure is what is left of t.
 use borrow.Author.Needs.{needs}
 use native.Mathlib.Omega.{arith}
 use mathlib.Core.Path.{_≡_, ap}
 use Prim.Native.Nat.{_+_, _*_, _-_, _≤_}
 use lib.Dec.{ltb}
-use lib.ListN.{length, drop}
+use lib.ListN.{length, drop, drop-of-length-le}
 use denote.Ref.{now}
 use Rattle.g9932.specs.Order.{sum, count, isOne, bitsOf, loaded, ones}
-use Rattle.tables.proofs.Runs.{drop-none}
-use Rattle.tables.proofs.Counts.{bits-next, weight-le}
+use Rattle.g9932.proofs.Words.{weight-le}
+use Rattle.tables.proofs.Counts.{bits-next}
 use Rattle.tables.proofs.order.count_tones.Statement.{statement}
 use Rattle.tables.proofs.order.count_tones.Tie as tie
 
@@ -57,7 +57,7 @@ loop-again c =
 returns : tie.Need-returns Inv-loop μ-loop
 returns c =
     let a = c .before .before .before .before .args in
-    let e = ap (bitsOf (now (a .bits))) (drop-none (now (a .tones)) (c .before .loop .i) (omega arith)) in
+    let e = ap (bitsOf (now (a .bits))) (drop-of-length-le (now (a .tones)) {i = c .before .loop .i} (omega arith)) in
     let e0 = ap sum e in
     let e1 = ap (count (ltb 0)) e in
     let e2 = ap (count isOne) e in

@@ -1,5 +1,5 @@
--- `fill` meets its contract. The loop's invariant: writing what is left from here gives what the whole gives from the start.
--- The measure is what is left.
+-- `tables::order::fill` meets its contract. The invariant: writing what is left from here gives what the whole gives from the
+-- start. The measure is what is left.
 use borrow.Author.Needs.{needs}
 use native.Mathlib.Omega.{arith}
 use mathlib.Core.Path.{_≡_, refl, ap}

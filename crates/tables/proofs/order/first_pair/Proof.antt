@@ -1,4 +1,5 @@
--- `first_pair` meets its contract. The loop's invariant: no pair before k holds an entry of 1. The measure is the pairs left.
+-- `tables::order::first_pair` meets its contract. The invariant: no pair before k holds an entry of 1. The measure is the pairs
+-- left.
 use borrow.Author.Needs.{needs}
 use native.Mathlib.Omega.{arith}
 use mathlib.Core.Path.{_≡_, _∙_, sym}

@@ -1,4 +1,4 @@
--- `holds_one` meets its contract, by its tests.
+-- `tables::order::holds_one` meets its contract, by its tests.
 use borrow.Author.Tests.{eq-eqb, ne-eqb}
 use Rattle.tables.proofs.order.holds_one.Statement.{statement}
 use Rattle.tables.proofs.order.holds_one.Tie as tie

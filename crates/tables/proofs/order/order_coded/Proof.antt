@@ -1,7 +1,9 @@
--- `order_coded` meets its contract: each return follows the chain of refusals 7 to 9, whose tests are those of the counts and
--- of the entries that were written.
+-- `tables::order::order_coded` meets its contract: each return follows the chain of refusals 7 to 9, whose tests are those of the
+-- counts and of the entries that were written.
 use native.Mathlib.Omega.{arith}
 use denote.Ref.{now}
+use Prim.Native.Nat.{_+_, _-_, _/_, _≤_}
+use lib.ListN.{length}
 use mathlib.Core.Path.{_≡_, refl, sym, ap, _∙_}
 use Rattle.g9932.specs.Order.{entries}
 use Rattle.g9932.specs.declared.Refusal.the-variants.{Odd, Few, Pair}
@@ -11,14 +13,21 @@ use borrow.Author.Needs.{needs}
 use Rattle.tables.proofs.order.order_coded.Statement.{statement}
 use Rattle.tables.proofs.order.order_coded.Tie as tie
 
+-- past 7 and 8: N entries fit, and P + 4 bits are there to take
+within : (c : tie.Else2) → let k = c .before .before .before .before .before .count-tones .result in k .loaded - k .ones / 2 ≤ length (now (c .before .before .before .before .before .before .before .before .before .before .args .tones))
+within c = coded-within (c .before .before .before .before .before .count-tones .ensures) (c .before .before .before .if1 .left)
+
+enough : (c : tie.Else2) → let k = c .before .before .before .before .before .count-tones .result in (k .loaded - k .ones / 2 + 1) / 2 + 4 ≤ k .sum
+enough c = coded-room (c .before .before .before .before .before .count-tones .ensures) (c .before .before .before .if1 .left) (c .if2 .left)
+
 -- the pairs that were searched are those of b'
 searched : (c : tie.After-first-pair) → let a = c .before .before .before .before .before .before .before .before .before .before .before .before .before .before .before .before .before .before .before .args in c .first-pair .result ≡ pairIn (entries (now (a .bits)) (now (a .tones)))
 searched c =
-    let p = c .before .before .before .before .before .before .before .before .before .before .before .before in
-    let k = p .before .before .count-tones .ensures in
+    let k = c .before .before .before .before .before .before .before .before .before .before .before .before .before .before .count-tones .ensures in
+    let e = c .before .before .before .before .before .before .before .before .before .before .before .before .if1 .left in
     let w = c .before .before .before .before .before .before .write-coded in
-    c .first-pair .ensures
-    ∙ ap pairIn (entries-in _ _ (coded-even k (p .if1 .left)) (omega (arith, c .before .before .before .before .before .before .before .before .before .before .before .before .before .before .before .before .before .before .before .pre .entriesRoom, w .kept .1 .1 .1 .1 .1 .0)) (coded-count k (p .if1 .left)) refl (w .ensures))
+    let room = c .before .before .before .before .before .before .before .before .before .before .before .before .before .before .before .before .before .before .before .pre .entriesRoom in
+    c .first-pair .ensures ∙ ap pairIn (entries-in _ _ (coded-even k e) (omega (arith, room, w .kept .1 .1 .1 .1 .1 .0)) (coded-count k e) refl (w .ensures))
 
 count-tones-requires : tie.Need-count-tones-requires
 count-tones-requires c κs = search needs
@@ -33,7 +42,7 @@ returns-2 : tie.Need-returns-2
 returns-2 c = ordered-refused Few (coded-few (c .before .before .before .before .before .count-tones .ensures) (c .before .before .before .if1 .left) (c .if2 .taken))
 
 sub-zeros : tie.Need-sub-zeros
-sub-zeros c = coded-within (c .before .before .before .before .before .count-tones .ensures) (c .before .before .before .if1 .left)
+sub-zeros c = within c
 
 write-coded-requires : tie.Need-write-coded-requires
 write-coded-requires c κs =
@@ -43,8 +52,7 @@ write-coded-requires c κs =
 
 first-pair-requires : tie.Need-first-pair-requires
 first-pair-requires c κs =
-    let k = c .before .before .before .before .before .before .before .before .before .before .before .before .before .count-tones .ensures in
-    omega (arith, coded-within k (c .before .before .before .before .before .before .before .before .before .before .before .if1 .left), c .before .before .before .before .before .before .before .before .before .before .before .before .before .before .before .before .before .before .pre .entriesRoom, c .before .before .before .before .before .write-coded .kept .1 .1 .1 .1 .1 .0)
+    omega (arith, within (c .before .before .before .before .before .before .before .before), c .before .before .before .before .before .before .before .before .before .before .before .before .before .before .before .before .before .before .pre .entriesRoom, c .before .before .before .before .before .write-coded .kept .1 .1 .1 .1 .1 .0)
 
 enum-known-k : tie.Need-enum-known-k
 enum-known-k c = search needs
@@ -57,20 +65,20 @@ same-length-2 c = search needs
 
 returns-3 : tie.Need-returns-3
 returns-3 c =
-    let k = c .before .before .before .before .before .before .before .before .before .before .before .before .before .before .before .before .before .count-tones .ensures in
-    ordered-refused (Pair _) (coded-pair k (c .before .before .before .before .before .before .before .before .before .before .before .before .before .before .before .if1 .left) (c .before .before .before .before .before .before .before .before .before .before .before .before .if2 .left) (sym (searched (c .before .before .before)) ∙ c .before .k .given .1))
+    let d = c .before .before .before .before .before .before .before .before .before .before .before .before in
+    ordered-refused (Pair _) (coded-pair (d .before .before .before .before .before .count-tones .ensures) (d .before .before .before .if1 .left) (d .if2 .left) (sym (searched (c .before .before .before)) ∙ c .before .k .given .1))
 
 enum-told : tie.Need-enum-told
 enum-told c = search needs
 
 add-t9 : tie.Need-add-t9
-add-t9 c = omega (arith, coded-within (c .before .before .before .before .before .before .before .before .before .before .before .before .before .before .before .before .count-tones .ensures) (c .before .before .before .before .before .before .before .before .before .before .before .before .before .before .if1 .left), c .before .before .before .before .before .before .before .before .before .before .before .before .before .before .before .before .before .before .before .before .before .pre .size)
+add-t9 c = omega (arith, within (c .before .before .before .before .before .before .before .before .before .before .before), c .before .before .before .before .before .before .before .before .before .before .before .before .before .before .before .before .before .before .before .before .before .pre .size)
 
 sub-t23 : tie.Need-sub-t23
-sub-t23 c = omega (arith, coded-room (c .before .before .before .before .before .before .before .before .before .before .before .before .before .before .before .before .before .count-tones .ensures) (c .before .before .before .before .before .before .before .before .before .before .before .before .before .before .before .if1 .left) (c .before .before .before .before .before .before .before .before .before .before .before .before .if2 .left))
+sub-t23 c = omega (arith, enough (c .before .before .before .before .before .before .before .before .before .before .before .before))
 
 sub-t24 : tie.Need-sub-t24
-sub-t24 c = omega (arith, coded-room (c .before .before .before .before .before .before .before .before .before .before .before .before .before .before .before .before .before .count-tones .ensures) (c .before .before .before .before .before .before .before .before .before .before .before .before .before .before .before .if1 .left) (c .before .before .before .before .before .before .before .before .before .before .before .before .if2 .left))
+sub-t24 c = omega (arith, enough (c .before .before .before .before .before .before .before .before .before .before .before .before))
 
 same-length-3 : tie.Need-same-length-3
 same-length-3 c = search needs
@@ -80,10 +88,10 @@ same-length-4 c = search needs
 
 returns-4 : tie.Need-returns-4
 returns-4 c =
-    let k = c .before .before .before .before .before .before .before .before .before .before .before .before .before .before .before .before .before .count-tones .ensures in
+    let d = c .before .before .before .before .before .before .before .before .before .before .before .before in
     let w = c .before .before .before .before .before .before .before .before .before .write-coded .ensures in
     record {
-      answer = coded-done k (c .before .before .before .before .before .before .before .before .before .before .before .before .before .before .before .if1 .left) (c .before .before .before .before .before .before .before .before .before .before .before .before .if2 .left) (sym (searched (c .before .before .before)) ∙ c .before .enum-told .given .1);
+      answer = coded-done (d .before .before .before .before .before .count-tones .ensures) (d .before .before .before .if1 .left) (d .if2 .left) (sym (searched (c .before .before .before)) ∙ c .before .enum-told .given .1);
       tones = λ _. w .tones;
       bits = λ _. w .bits;
     }

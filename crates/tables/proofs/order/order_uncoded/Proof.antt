@@ -1,16 +1,16 @@
--- `order_uncoded` meets its contract. The loop's invariant: writing what is left of t and of its bits gives what the whole gives,
--- and the sum so far with the bits left is the sum of all. The measure is what is left of t.
+-- `tables::order::order_uncoded` meets its contract. The invariant: writing what is left of t and of its bits gives what the
+-- whole gives, and the sum so far with the bits left is the sum of all. The measure is what is left of t.
 use borrow.Author.Needs.{needs}
 use native.Mathlib.Omega.{arith}
 use mathlib.Core.Path.{_≡_, refl, sym, ap, _∙_}
 use mathlib.Core.List.{List}
 use Prim.Native.Nat.{ℕ, _+_, _*_, _-_, _≤_}
 use denote.Ref.{now}
-use lib.ListN.{length, take, drop, length-set, length-map}
+use lib.ListN.{length, take, drop, length-set, length-map, drop-of-length-le}
 use lib.Seq.{sets}
 use Rattle.g9932.specs.Sizes.{entry}
 use Rattle.g9932.specs.Order.{sum as total, bitsOf, reorderedTones, reorderedBits}
-use Rattle.tables.proofs.Runs.{sets-step, take-sets, drop-none}
+use Rattle.tables.proofs.Runs.{sets-step, take-sets}
 use Rattle.tables.proofs.Counts.{tones-next, bits-next}
 use Rattle.tables.proofs.Modes.{uncoded-verdict}
 use Rattle.tables.proofs.order.order_uncoded.Statement.{statement}
@@ -88,7 +88,7 @@ returns c =
     let b = now (c .before .before .before .before .before .before .args .bits) in
     let t = now (c .before .before .before .before .before .before .args .tones) in
     let r = c .before .before .before .before .before .before .pre in
-    let d = drop-none t (l .i) (omega arith) in
+    let d = drop-of-length-le t {i = l .i} (omega arith) in
     let g = ap (λ (s : List ℕ). total (bitsOf b s)) d in
     record {
       answer = uncoded-verdict b t (omega arith);

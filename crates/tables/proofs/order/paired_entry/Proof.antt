@@ -1,4 +1,4 @@
--- `paired_entry` meets its contract: past the 0 in front, entry j stands one place before.
+-- `tables::order::paired_entry` meets its contract: past the 0 in front, entry j stands one place before.
 use denote.Ref.{now}
 use Rattle.tables.proofs.Pairs.{padded, front-zero, front-odd, front-even}
 use mathlib.Core.Path.{_∙_, ap, sym}

@@ -1,4 +1,4 @@
--- `with_tone` meets its contract, by the tests of the bit count.
+-- `tables::order::with_tone` meets its contract, by the tests of the bit count.
 use native.Mathlib.Omega.{arith}
 use Prim.Native.Nat.{_<_, _≤_}
 use mathlib.Core.Path.{refl}

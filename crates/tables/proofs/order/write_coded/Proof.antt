@@ -1,11 +1,13 @@
--- `write_coded` meets its contract: two runs of stores fill the front of the array for t', and three that of the array for b'.
+-- `tables::order::write_coded` meets its contract: two runs of stores fill the front of the array for t', and three that of the
+-- array for b'.
 use native.Mathlib.Omega.{arith}
 use denote.Ref.{now}
 use mathlib.Core.Path.{_≡_}
 use Prim.Native.Nat.{_-_}
 use lib.ListN.{length}
-use Rattle.g9932.specs.Order.{others}
-use Rattle.tables.proofs.Counts.{length-split, length-singles, Fits, entries-fit}
+use Rattle.g9932.specs.Order.{oneBit, others}
+use Rattle.g9932.proofs.Counts.{length-parts}
+use Rattle.tables.proofs.Counts.{length-singles, Fits, entries-fit}
 use Rattle.tables.proofs.Modes.{tones-written, bits-written}
 use borrow.Author.Needs.{needs}
 use Rattle.tables.proofs.order.write_coded.Statement.{statement}
@@ -19,7 +21,7 @@ behind : (c : tie.Start) → length (now (c .args .tones)) - c .args .ones ≡ l
 behind c =
     let b = now (c .args .bits) in
     let t = now (c .args .tones) in
-    omega (arith, length-split b t, length-singles b t, c .pre .0 .onesIs)
+    omega (arith, length-parts (oneBit b) t, length-singles b t, c .pre .0 .onesIs)
 
 fill-requires : tie.Need-fill-requires
 fill-requires c κs = search needs

@@ -1,3 +1,4 @@
+-- `trellis::read::hear` meets its contract: v is the x lowest bits, w the bits above, and u4 upward fits.
 use Rattle.trellis.proofs.HearPair.{heard-fits}
 use Rattle.trellis.specs.Reading.{heardOf}
 use Rattle.g9932.specs.Bits.{odd}

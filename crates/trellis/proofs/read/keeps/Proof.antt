@@ -1,3 +1,4 @@
+-- `trellis::read::keeps` meets its contract, by whether the pair is one of the last two.
 use Rattle.trellis.proofs.read.keeps.Statement.{statement}
 use Rattle.trellis.proofs.read.keeps.Tie as tie
 

@@ -1,3 +1,5 @@
+-- `trellis::read::read_all` meets its contract: an odd count of entries begins with the pair of a 0 and the first entry, which
+-- may break the code itself; an even one with the first two.
 use Rattle.trellis.proofs.HearAll.{even-hearing, even-read, first-hearing, first-broken, odd-hearing, odd-read}
 use borrow.Author.Tests.{not-true, not-false}
 use native.Mathlib.Omega.{arith}

@@ -1,3 +1,4 @@
+-- `trellis::read::read_first` meets its contract: the pair has no v, so u0 is w0 xor w1, and w0 is u2.
 use Rattle.trellis.proofs.HearPair.{heard-first}
 use Rattle.trellis.proofs.OnePair.{empty-waits}
 use Rattle.g9932.specs.declared.TrellisState.{TrellisState}

@@ -1,3 +1,5 @@
+-- `trellis::read::read_from` meets its contract. The invariant: every pair before entry i keeps the code, and their frame bits,
+-- before the reading of the pairs left, make the whole reading. The measure is the entries left.
 use Rattle.trellis.proofs.HearLoop.{Hearing, hearing-start, hearing-end, hear-room, hearing-broken, hearing-step}
 use Rattle.trellis.proofs.Entries.{pair-wide}
 use lib.ListN.{length}

@@ -1,3 +1,5 @@
+-- `trellis::read::read_pair` meets its contract: the bits got are the labels, whose word is held against the state, and its frame
+-- bits are put.
 use Rattle.trellis.proofs.HearPair.{labels-small, heard-high, heard-pair}
 use native.Mathlib.Omega.{arith}
 use mathlib.Core.Path.{_∙_}

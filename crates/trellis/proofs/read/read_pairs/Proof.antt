@@ -1,3 +1,4 @@
+-- `trellis::read::read_pairs` meets its contract: the first pair that breaks the code, or the frame finished.
 use mathlib.Core.Path.{_∙_, sym}
 use Rattle.trellis.proofs.HearLoop.{found-not}
 use Rattle.trellis.proofs.HearAll.{read-room}

@@ -1,3 +1,4 @@
+-- `trellis::read::taken_of` meets its contract: u3 upward, below it u1 and u2 where they are not forced.
 use Rattle.trellis.specs.Reading.{takenNumber}
 use borrow.Author.Needs.{needs}
 use Rattle.trellis.proofs.read.taken_of.Statement.{statement}
