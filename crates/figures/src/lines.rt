@@ -1,0 +1,116 @@
+// What one operation answers, as the end of a line.
+use super::words::list8;
+use super::words::number;
+use super::words::place;
+use super::words::point;
+use super::words::points;
+use super::words::refused;
+use super::words::text;
+use g9932::Answer;
+use g9932::Checked;
+use g9932::Mapped;
+use g9932::Mode;
+
+// The register at reset: all 23 bits are 1.
+const RESET: u32 = 8388607;
+
+// L, or the refusal of the tables.
+pub fn size(mode: Mode, bits: &[u8], gains: &[u16], tones: &[u16]) {
+    let checked = tables::check_tables(mode, bits, gains, tones);
+    match checked {
+        Checked::Accepted(l) => {
+            text(b" L ");
+            number(l as u64);
+        }
+        Checked::Refused(refusal) => refused(refusal),
+    }
+    text(b"\n");
+}
+
+// The points of a frame of one byte, or the refusal.
+pub fn written(
+    mode: Mode,
+    bits: &[u8],
+    gains: &[u16],
+    tones: &[u16],
+    byte: u8,
+    xs: &mut [i16],
+    ys: &mut [i16],
+) {
+    let frame = [byte];
+    let answer = symbol::encode(mode, bits, gains, tones, &frame, RESET, xs, ys);
+    match answer {
+        Answer::Done {
+            size: _,
+            register: _,
+        } => {
+            text(b" points");
+            points(xs, ys);
+        }
+        Answer::Refused {
+            refusal,
+            register: _,
+        } => refused(refusal),
+    }
+    text(b"\n");
+}
+
+// Writes a frame of one byte to the lent lists and answers the register.
+pub fn register_after(
+    mode: Mode,
+    bits: &[u8],
+    gains: &[u16],
+    tones: &[u16],
+    byte: u8,
+    xs: &mut [i16],
+    ys: &mut [i16],
+) -> u32 {
+    let frame = [byte];
+    let answer = symbol::encode(mode, bits, gains, tones, &frame, RESET, xs, ys);
+    match answer {
+        Answer::Done { size: _, register } => register,
+        Answer::Refused {
+            refusal: _,
+            register,
+        } => register,
+    }
+}
+
+// The frame of one byte that the points are read as, or the refusal with its place. Answers whether they were read.
+pub fn read(mode: Mode, bits: &[u8], gains: &[u16], tones: &[u16], xs: &[i16], ys: &[i16]) -> bool {
+    let mut frame = [0u8; 1];
+    let answer = symbol::read(mode, bits, gains, tones, xs, ys, RESET, &mut frame);
+    match answer {
+        Answer::Done {
+            size: _,
+            register: _,
+        } => {
+            text(b" read as frame");
+            list8(&frame);
+            true
+        }
+        Answer::Refused {
+            refusal,
+            register: _,
+        } => {
+            text(b" refused");
+            refused(refusal);
+            place(refusal);
+            false
+        }
+    }
+}
+
+// The point of one label, or the refusal.
+pub fn mapped(bits: u8, label: u32) {
+    number(bits as u64);
+    text(b" bits label ");
+    number(label as u64);
+    text(b":");
+    let answer = constellation::map_label(bits, label);
+    match answer {
+        Mapped::Point { x, y } => point(x, y),
+        Mapped::Refused(refusal) => refused(refusal),
+    }
+    text(b"\n");
+}
