@@ -1,3 +1,4 @@
+-- `encode_checks` meets its contract: ROOM of both lists, FRAME, SEED, in this order; past all of them L stands.
 use Rattle.symbol.proofs.Answers.{room-x, room-y, room-none}
 use Rattle.symbol.specs.Encoding.{encodeLate}
 use Rattle.g9932.proofs.Verdicts.{test-here, test-past}

@@ -1,3 +1,5 @@
+-- `encode_through` meets its contract: refused by the tables, refused after them, or the symbol is written. Only the last writes
+-- the lists.
 use mathlib.Core.Path.{_∙_, sym}
 use lib.Seq.{length-take-le}
 use Rattle.symbol.proofs.Answers.{encode-tables, encode-late, encode-done, as-told, told, symbol-ready, tones-fit}

@@ -1,3 +1,5 @@
+-- `first_entry` meets its contract. The invariant: the zeros in front are i and those in front of what is left.
+-- The measure is what is left of `entries`.
 use Rattle.symbol.proofs.Writing.{zero-more, zero-last, zero-all}
 use Rattle.symbol.specs.Encoding.{leadingZeros}
 use lib.ListN.{length, drop}

@@ -1,3 +1,5 @@
+-- `write_symbol` meets its contract: uncoded, the points are those of the frame's bits; coded, those of what the trellis left in
+-- `sent`.
 use Rattle.symbol.proofs.Writing.{lent-part}
 use Rattle.symbol.proofs.Writing.{plain-room, plain-written, start-inside, coded-ready, coded-room, coded-written}
 use Rattle.g9932.specs.Sizes.{tables}

@@ -1,3 +1,4 @@
+-- `read_checks` meets its contract: ROOM of both lists and of the frame, then SEED; past both L stands.
 use Rattle.symbol.proofs.Answers.{room-x, room-y, rooms-two, rooms-frame, rooms-none}
 use Rattle.symbol.specs.Reading.{readLate}
 use Rattle.g9932.proofs.Verdicts.{test-here, test-past}

@@ -1,3 +1,5 @@
+-- `read_symbol` meets its contract: 13 at every place, then 14 at every place, then 15; past them the frame is written and the
+-- register is the one after the draws.
 use mathlib.Core.Path.{refl}
 use Rattle.symbol.proofs.Points.{points-refused, read-room, offgrid-found, monitor-found, store-room, undo-ready, points-broken, points-done}
 use borrow.Author.Needs.{needs}

@@ -1,3 +1,4 @@
+-- `read_through` meets its contract: refused by the tables, refused after them, or as the points are read.
 use mathlib.Core.Path.{_∙_, sym}
 use lib.Seq.{length-take-le}
 use Rattle.symbol.proofs.Answers.{read-tables, read-late, read-points, as-told, told, points-ready, tones-fit}

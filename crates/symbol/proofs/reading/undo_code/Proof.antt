@@ -1,3 +1,5 @@
+-- `undo_code` meets its contract: uncoded, the sent bits are the frame; coded, a broken pair keeps the frame buffer, and none
+-- has it hold the bits before coding.
 use Rattle.symbol.proofs.Undoing.{plain-fits, plain-undone, read-start, hear-ready, coded-broken, coded-fits, coded-undone}
 use Rattle.symbol.proofs.Writing.{lent-part}
 use Rattle.g9932.specs.Sizes.{tables}
