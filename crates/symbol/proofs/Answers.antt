@@ -77,7 +77,7 @@ module _ (T : Tables) (f : List ℕ) (r : ℕ) (xs ys : List ℤ) where
 
 -- ---- nothing refused
 
-no-room : (a b n : ℕ) → roomTest a n || roomTest b n ≡ false → (a ≡ n) × (b ≡ n)
+pub no-room : (a b n : ℕ) → roomTest a n || roomTest b n ≡ false → (a ≡ n) × (b ≡ n)
 no-room a b n e = go (eqb a n) (eqb b n) refl refl e
   where
     go : (c d : Bool) → eqb a n ≡ c → eqb b n ≡ d → not c || not d ≡ false → (a ≡ n) × (b ≡ n)

@@ -2,3 +2,4 @@ pub mod Answers
 pub mod Writing
 pub mod Undoing
 pub mod Points
+pub mod RoundTrip
