@@ -8,7 +8,7 @@ use native.Mathlib.Omega.{arith}
 use lib.Dec.{eqb}
 use borrow.Author.Tests.{eqb-true, eqb-false}
 use lib.ListN.{length, take, drop, getD, set}
-use lib.Seq.{take-suc, take-suc-set, length-take-le, getD-set-same, getD-set-other}
+use lib.Seq.{drop-cons, take-suc, take-suc-set, length-take-le, getD-set-same, getD-set-other}
 use Rattle.g9932.specs.Bits.{bits}
 use Rattle.frame.specs.Spelled.{spell, Within}
 
@@ -18,6 +18,17 @@ spell-more [] [] e l h = append-nil (bits e l)
 spell-more [] (a ∷ ls) e l h = absurd (omega arith)
 spell-more (d ∷ es) [] e l h = absurd (omega arith)
 spell-more (d ∷ es) (a ∷ ls) e l h = ap (λ t. bits d a ++ t) (spell-more es ls e l (omega arith)) ∙ sym (append-assoc (bits d a) (spell es ls) (bits e l))
+
+-- labels past the last count spell nothing
+pub spell-take : (es ls : List ℕ) → spell es (take (length es) ls) ≡ spell es ls
+spell-take [] ls = refl
+spell-take (e ∷ es) [] = refl
+spell-take (e ∷ es) (l ∷ ls) = ap (λ t. bits e l ++ t) (spell-take es ls)
+
+-- the label at i, and those after it
+pub spell-drop : (es ls : List ℕ) (i : ℕ) → i < length es → i < length ls
+    → spell (drop i es) (drop i ls) ≡ bits (getD es i 0) (getD ls i 0) ++ spell (drop (i + 1) es) (drop (i + 1) ls)
+spell-drop es ls i h k = rw (add-one, drop-cons es i 0 h, drop-cons ls i 0 k)
 
 -- the label at i written
 pub spell-set : (es ls : List ℕ) (i l : ℕ) → i < length es → i < length ls
