@@ -1,19 +1,18 @@
 -- The loop that codes pair by pair: what is sent and what is still to code make the whole.
 use mathlib.Core.Path.{_≡_, refl, sym, ap, _∙_}
-use mathlib.Core.Bool.{Bool, true, false}
+use mathlib.Core.Bool.{Bool}
 use mathlib.Core.List.{List, [], _∷_, _++_, append-assoc, append-nil}
-use Prim.Native.Nat.{ℕ, zero, suc, _+_, _-_, _*_, _≤_, _<_}
+use Prim.Native.Nat.{ℕ, _+_, _-_, _≤_, _<_}
 use native.Mathlib.Omega.{arith}
 use lib.Dec.{ltb}
 use lib.ListN.{length, take, drop, getD, set, length-drop, length-set}
 use lib.Seq.{drop-drop, take-all}
 use Rattle.frame.proofs.Spelled.{spell-take, spell-set, within-set}
 use Rattle.frame.specs.Spelled.{spell}
-use Rattle.g9932.proofs.Pairs.{takenTotal}
 use Rattle.g9932.specs.Bits.{bits}
 use Rattle.g9932.specs.Order.{Pair, pair, inTwos}
 use Rattle.g9932.specs.Sizes.{unpack}
-use Rattle.g9932.specs.Trellis.{Word, lastTwo, taken, wordOf, sentBits, nextOf, encodePairs}
+use Rattle.g9932.specs.Trellis.{lastTwo, taken, wordOf, sentBits, nextOf, encodePairs}
 use Rattle.g9932.specs.declared.TrellisState.{TrellisState}
 use Rattle.trellis.specs.Coding.{codedWord, PairRoom, CodesPair, Wide, RoomFrom, CodesFrom}
 use Rattle.trellis.specs.declared.Coder.{Coder}

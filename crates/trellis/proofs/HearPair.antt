@@ -1,25 +1,22 @@
 -- One pair read: what the code works out in numbers is the word that the labels imply and its frame bits.
 use mathlib.Core.Path.{_≡_, refl, sym, ap, _∙_}
 use mathlib.Core.Bool.{Bool, true, false, not}
-use mathlib.Core.List.{List, [], _∷_, _++_}
-use Prim.Native.Nat.{ℕ, zero, suc, _+_, _-_, _*_, _/_, _%_, _^_, _≤_, _<_}
-use native.Mathlib.Nat.{lt-of-lt-of-le, lt-of-le-of-lt, le-trans, mul-comm, mul-le-mul-left, mul-le-mul-right, div-add-mod', div-le-self, mod-le, div-one}
+use mathlib.Core.List.{List, _∷_, _++_}
+use Prim.Native.Nat.{ℕ, zero, suc, _+_, _-_, _*_, _/_, _^_, _≤_, _<_}
+use native.Mathlib.Nat.{lt-of-lt-of-le, mul-comm, mul-le-mul-left, mod-eq-of-lt}
 use native.Mathlib.Omega.{arith}
-use lib.ListN.{length, take, drop, getD, length-append, length-drop}
+use lib.ListN.{length, take, drop, length-append, length-drop}
 use lib.Pow.{pow-mono}
-use lib.Seq.{getD-take, length-take-le}
+use lib.Seq.{take-at, drop-at}
 use Rattle.g9932.specs.Bits.{_⊕_, bit, bits, num, odd, weight}
 use Rattle.g9932.specs.Order.{pair}
-use Rattle.g9932.specs.Sizes.{unpack}
-use Rattle.g9932.specs.Trellis.{Word, taken, width, same, zeroState, implied, heardWord, keepsCode, takenBits, nextState, nextOf}
+use Rattle.g9932.specs.Trellis.{Word, taken, same, zeroState, implied, heardWord, keepsCode, takenBits, nextState, nextOf}
 use Rattle.g9932.specs.declared.TrellisState.{TrellisState}
 use Rattle.g9932.proofs.Identities.{bits-agree}
-use Rattle.g9932.proofs.Words.{num-append, num-lt, num-take, num-drop, num-take-lt, bits-num}
-use Rattle.trellis.specs.Coding.{labelNumber}
-use Rattle.trellis.specs.Reading.{heardOf, wordBy, takenNumber}
+use Rattle.g9932.proofs.Words.{num-append, num-bits, num-lt, num-drop, length-bits, bits-num}
+use Rattle.trellis.specs.Reading.{heardOf, wordBy, takenNumber, heardIn}
 use Rattle.trellis.specs.declared.read.HeardWord.{HeardWord}
 use Rattle.trellis.proofs.Numbers.{lowest, bit-num}
-use Rattle.trellis.proofs.OnePair.{length-part}
 
 -- what the code has of a word
 pub record IsHeard (u : Word) (r : HeardWord) : Type 0 where
@@ -29,35 +26,33 @@ pub record IsHeard (u : Word) (r : HeardWord) : Type 0 where
   pub u3 : r .u3 ≡ u .u3
   pub high : r .high ≡ num (u .high)
 
--- the lowest bits of both labels
-low-take : (x i : ℕ) (d : List Bool) → i < x → bit (take x d) i ≡ odd (num d / 2 ^ i)
-low-take x i d h = getD-take x d i false h ∙ bit-num d i
+-- the word that labels of x and y bits imply
+module _ (x y v w : ℕ) (hv : v < 2 ^ x) (hw : w < 2 ^ y) where
+  v-is : num (bits x v) ≡ v
+  v-is = num-bits x v ∙ mod-eq-of-lt hv
 
-low-drop : (x i : ℕ) (d : List Bool) → bit (drop x d) i ≡ odd (num d / 2 ^ x / 2 ^ i)
-low-drop x i d = bit-num (drop x d) i ∙ ap (λ (n : ℕ). odd (n / 2 ^ i)) (num-drop x d)
+  w-is : num (bits y w) ≡ w
+  w-is = num-bits y w ∙ mod-eq-of-lt hw
 
-module _ (d : List Bool) (x : ℕ) (h : 2 ≤ x) (fits : x ≤ length d) where
-  v0 : bit (take x d) 0 ≡ odd (num d)
-  v0 = low-take x 0 d (omega arith) ∙ ap odd (div-one (num d))
+  cut-v : take x (bits x v ++ bits y w) ≡ bits x v
+  cut-v = take-at (bits x v) (bits y w) x (length-bits x v)
 
-  v1 : bit (take x d) 1 ≡ odd (num d / 2)
-  v1 = low-take x 1 d h
+  cut-w : drop x (bits x v ++ bits y w) ≡ bits y w
+  cut-w = drop-at (bits x v) (bits y w) x (length-bits x v)
 
-  w0 : bit (drop x d) 0 ≡ odd (num d / 2 ^ x)
-  w0 = low-drop x 0 d ∙ ap odd (div-one (num d / 2 ^ x))
+  high-length : length (drop 2 (bits x v)) ≡ x - 2
+  high-length = simp length-drop (rw (length-bits x v))
 
-  w1 : bit (drop x d) 1 ≡ odd (num d / 2 ^ x / 2)
-  w1 = low-drop x 1 d
-
-  high-length : length (drop 2 (take x d)) ≡ x - 2
-  high-length = simp length-drop (omega (arith, length-take-le x d fits))
-
-  pub implied-number : IsHeard (implied (take x d) (drop x d)) (heardOf (num d) x)
+  implied-number : IsHeard (implied (bits x v) (bits y w)) (heardOf v w x)
   unfolding heardOf
   implied-number =
-      let n : num (drop 2 (take x d) ++ drop 2 (drop x d)) ≡ num d % 2 ^ x / 4 + num d / 2 ^ x / 4 * 2 ^ (x - 2) =
-      num-append (drop 2 (take x d)) (drop 2 (drop x d))
-      ∙ rw (high-length, num-drop, num-drop, num-take, num-drop) (ap (λ (m : ℕ). num d % 2 ^ x / 4 + m) (mul-comm (2 ^ (x - 2)) (num d / 2 ^ x / 4))) in
+      let v0 : bit (bits x v) 0 ≡ odd v = lowest (bits x v) ∙ ap odd v-is in
+      let v1 : bit (bits x v) 1 ≡ odd (v / 2) = bit-num (bits x v) 1 ∙ ap (λ (n : ℕ). odd (n / 2)) v-is in
+      let w0 : bit (bits y w) 0 ≡ odd w = lowest (bits y w) ∙ ap odd w-is in
+      let w1 : bit (bits y w) 1 ≡ odd (w / 2) = bit-num (bits y w) 1 ∙ ap (λ (n : ℕ). odd (n / 2)) w-is in
+      let n : num (drop 2 (bits x v) ++ drop 2 (bits y w)) ≡ v / 4 + w / 4 * 2 ^ (x - 2) =
+      num-append (drop 2 (bits x v)) (drop 2 (bits y w))
+      ∙ rw (high-length, num-drop, num-drop, v-is, w-is) (ap (λ (m : ℕ). v / 4 + m) (mul-comm (2 ^ (x - 2)) (w / 4))) in
       record {
         u0 = rw (v0, v1, w0, w1);
         u1 = rw (v0, v1);
@@ -66,17 +61,10 @@ module _ (d : List Bool) (x : ℕ) (h : 2 ≤ x) (fits : x ≤ length d) where
         high = sym n;
       }
 
-heard-number : (d : List Bool) (x : ℕ) → 2 ≤ x → x ≤ length d → IsHeard (heardWord x d) (heardOf (num d) x)
+heard-implied : (x y v w : ℕ) → 2 ≤ x → v < 2 ^ x → w < 2 ^ y → heardWord x (bits x v ++ bits y w) ≡ implied (bits x v) (bits y w)
 unfolding heardWord
-heard-number d zero h k = absurd (omega arith)
-heard-number d (suc x) h k = implied-number d (suc x) h k
-
-heard-length : (d : List Bool) (x y : ℕ) → 2 ≤ x → 2 ≤ y → length d ≡ x + y → length (heardWord x d .high) ≡ x + y - 4
-unfolding heardWord
-heard-length d zero y h k e = absurd (omega arith)
-heard-length d (suc x) y h k e =
-    length-append (drop 2 (take (suc x) d)) (drop 2 (drop (suc x) d))
-    ∙ omega (arith, high-length d (suc x) h (omega arith), length-drop 2 (drop (suc x) d), length-drop (suc x) d)
+heard-implied zero y v w h hv hw = absurd (omega arith)
+heard-implied (suc x) y v w h hv hw = rw (cut-v (suc x) y v w hv hw, cut-w (suc x) y v w hv hw)
 
 join3 : (a b c h : ℕ) → a + 2 * (b + 2 * (c + 2 * h)) ≡ a + 2 * b + 4 * (c + 2 * h)
 join3 a b c h = omega arith
@@ -98,60 +86,49 @@ keeps-by : (late : Bool) (s : TrellisState) (u : Word) (r : HeardWord) → IsHea
 keeps-by true s u r i = rw (i .u0, i .u1, i .u2)
 keeps-by false s u r i = rw (i .u0)
 
--- ---- as the code has it: the labels d got from the sent bits l
+-- ---- as the code has it
 
-pub record PairHeard (late : Bool) (s : TrellisState) (x y : ℕ) (f : List Bool) (r : HeardWord) : Type 0 where
-  pub kept : keepsCode late s (wordBy r) ≡ keepsCode late s (heardWord x f)
-  pub next : nextState s (r .u1) (r .u2) ≡ nextOf s (heardWord x f)
-  pub takes : bits (taken late (pair x y)) (takenNumber late r) ≡ takenBits late x (heardWord x f)
+pub record PairHeard (late : Bool) (s : TrellisState) (x y v w : ℕ) (r : HeardWord) : Type 0 where
+  pub kept : keepsCode late s (wordBy r) ≡ keepsCode late s (heardIn (pair x y) v w)
+  pub next : nextState s (r .u1) (r .u2) ≡ nextOf s (heardIn (pair x y) v w)
+  pub takes : bits (taken late (pair x y)) (takenNumber late r) ≡ takenBits late x (heardIn (pair x y) v w)
   pub small : takenNumber late r < 2 ^ taken late (pair x y)
 
-module _ (l : List ℕ) (at x y d : ℕ) (hx : 2 ≤ x) (hy : 2 ≤ y) (room : at + (x + y) ≤ 8 * length l) (hd : d ≡ num (take (x + y) (drop at (unpack l)))) where
-  pub labels-small : x ≤ 15 → y ≤ 15 → d < 1073741824
-  labels-small kx ky = rw hd (lt-of-lt-of-le (num-take-lt (x + y) (drop at (unpack l))) (pow-mono {j = 30} (omega arith)))
+module _ (x y v w : ℕ) (hx : 2 ≤ x) (hy : 2 ≤ y) (hv : v < 2 ^ x) (hw : w < 2 ^ y) where
+  high-is : length (heardIn (pair x y) v w .high) ≡ x + y - 4
+  high-is =
+      rw (heard-implied x y v w hx hv hw)
+      (length-append (drop 2 (bits x v)) (drop 2 (bits y w))
+      ∙ omega (arith, length-drop 2 (bits x v), length-drop 2 (bits y w), length-bits x v, length-bits y w))
 
-  module _ (r : HeardWord) (hr : r ≡ heardOf d x) where
-    sized : length (take (x + y) (drop at (unpack l))) ≡ x + y
-    sized = length-part l at (x + y) room
+  -- how many frame bits a pair gives
+  pub length-takes : (late : Bool) → length (takenBits late x (heardIn (pair x y) v w)) ≡ taken late (pair x y)
+  length-takes late = taken-length late (heardIn (pair x y) v w) x y hx hy high-is
 
-    is-heard : IsHeard (heardWord x (take (x + y) (drop at (unpack l)))) r
-    is-heard = rw (hr, hd) (heard-number (take (x + y) (drop at (unpack l))) x hx (omega (arith, sized)))
-
-    high-is : length (heardWord x (take (x + y) (drop at (unpack l))) .high) ≡ x + y - 4
-    high-is = heard-length (take (x + y) (drop at (unpack l))) x y hx hy sized
+  module _ (r : HeardWord) (hr : r ≡ heardOf v w x) where
+    is-heard : IsHeard (heardIn (pair x y) v w) r
+    is-heard = rw (hr, heard-implied x y v w hx hv hw) (implied-number x y v w hv hw)
 
     pub heard-high : x ≤ 15 → y ≤ 15 → r .high < 67108864
-    heard-high kx ky =
-        rw (is-heard .high) (lt-of-lt-of-le (num-lt (heardWord x (take (x + y) (drop at (unpack l))) .high)) (rw high-is (pow-mono {j = 26} (omega arith))))
+    heard-high kx ky = rw (is-heard .high) (lt-of-lt-of-le (num-lt (heardIn (pair x y) v w .high)) (rw high-is (pow-mono {j = 26} (omega arith))))
 
-    pub heard-pair : (late : Bool) (s : TrellisState) → PairHeard late s x y (take (x + y) (drop at (unpack l))) r
+    pub heard-pair : (late : Bool) (s : TrellisState) → PairHeard late s x y v w r
     heard-pair late s =
-        let f : List Bool = take (x + y) (drop at (unpack l)) in
-        let n : takenNumber late r ≡ num (takenBits late x (heardWord x f)) = taken-number late (heardWord x f) x r hx is-heard in
-        let m : length (takenBits late x (heardWord x f)) ≡ taken late (pair x y) = taken-length late (heardWord x f) x y hx hy high-is in
+        let u : Word = heardIn (pair x y) v w in
+        let n : takenNumber late r ≡ num (takenBits late x u) = taken-number late u x r hx is-heard in
+        let m : length (takenBits late x u) ≡ taken late (pair x y) = length-takes late in
         record {
-          kept = keeps-by late s (heardWord x f) r is-heard;
+          kept = keeps-by late s u r is-heard;
           next = rw (is-heard .u1, is-heard .u2);
-          takes = rw (n, ← m) (bits-num (takenBits late x (heardWord x f)));
-          small = rw (n, ← m) (num-lt (takenBits late x (heardWord x f)));
+          takes = rw (n, ← m) (bits-num (takenBits late x u));
+          small = rw (n, ← m) (num-lt (takenBits late x u));
         }
 
 -- the number that the code puts u4 upward together to fits
-pub heard-fits : (d x : ℕ) → 2 ≤ x → d < 1073741824 → (d / 2 ^ x / 4 * 2 ^ (x - 2) < 2147483648) × (d % 2 ^ x / 4 < 2147483648)
-heard-fits d x h k =
-    let q : ℕ = d / 2 ^ x in
-    let a : q / 4 * 2 ^ (x - 2) ≤ q * 2 ^ (x - 2) = mul-le-mul-right (2 ^ (x - 2)) (div-le-self q 4) in
-    let b : q * 2 ^ (x - 2) ≤ q * 2 ^ x = mul-le-mul-left q (pow-mono {j = x} (omega arith)) in
-    let c = div-add-mod' d (2 ^ x) in
-    let e = div-le-self (d % 2 ^ x) 4 in
-    let g = mod-le d (2 ^ x) in
-    (omega arith, omega arith)
-
--- how many frame bits a pair gives
-pub length-takes : (l : List ℕ) (at x y : ℕ) (late : Bool) → 2 ≤ x → 2 ≤ y → at + (x + y) ≤ 8 * length l
-    → length (takenBits late x (heardWord x (take (x + y) (drop at (unpack l))))) ≡ taken late (pair x y)
-length-takes l at x y late hx hy room =
-    taken-length late _ x y hx hy (heard-length (take (x + y) (drop at (unpack l))) x y hx hy (length-part l at (x + y) room))
+pub heard-fits : (w x : ℕ) → x ≤ 15 → w < 32768 → w / 4 * 2 ^ (x - 2) < 67108864
+heard-fits w x h k =
+    let a : w / 4 * 2 ^ (x - 2) ≤ w / 4 * 8192 = mul-le-mul-left (w / 4) (pow-mono {j = 13} (omega arith)) in
+    omega arith
 
 -- ---- a first pair with x = 0: the labels d are w alone
 
@@ -161,34 +138,32 @@ xor-false = bits-agree 1 (λ a. false ⊕ a) (λ a. a) refl
 same-false : (a b : Bool) → same (false ⊕ false ⊕ a ⊕ b) false ≡ not (a ⊕ b)
 same-false = bits-agree 2 (λ a b. same (false ⊕ false ⊕ a ⊕ b) false) (λ a b. not (a ⊕ b)) refl
 
-pub record FirstHeard (y d : ℕ) (f : List Bool) : Type 0 where
-  pub kept : not (odd d ⊕ odd (d / 2)) ≡ keepsCode false zeroState (heardWord 0 f)
-  pub next : nextState zeroState false (odd d) ≡ nextOf zeroState (heardWord 0 f)
-  pub takes : bits (y - 1) (weight (odd d) + 2 * (d / 4)) ≡ takenBits false 0 (heardWord 0 f)
-  pub small : weight (odd d) + 2 * (d / 4) < 2 ^ (y - 1)
+pub record FirstHeard (y w : ℕ) : Type 0 where
+  pub kept : not (odd w ⊕ odd (w / 2)) ≡ keepsCode false zeroState (heardIn (pair 0 y) 0 w)
+  pub next : nextState zeroState false (odd w) ≡ nextOf zeroState (heardIn (pair 0 y) 0 w)
+  pub takes : bits (y - 1) (weight (odd w) + 2 * (w / 4)) ≡ takenBits false 0 (heardIn (pair 0 y) 0 w)
+  pub small : weight (odd w) + 2 * (w / 4) < 2 ^ (y - 1)
 
-first-heard : (y : ℕ) (f : List Bool) → 2 ≤ y → length f ≡ y → FirstHeard y (num f) f
+first-heard : (y : ℕ) (f : List Bool) → 2 ≤ y → length f ≡ y
+    → (not (odd (num f) ⊕ odd (num f / 2)) ≡ keepsCode false zeroState (heardWord 0 f))
+    × (nextState zeroState false (odd (num f)) ≡ nextOf zeroState (heardWord 0 f))
+    × (bits (y - 1) (weight (odd (num f)) + 2 * (num f / 4)) ≡ takenBits false 0 (heardWord 0 f))
+    × (weight (odd (num f)) + 2 * (num f / 4) < 2 ^ (y - 1))
 unfolding heardWord takenBits num
 first-heard y f h e =
     let w0 : bit f 0 ≡ odd (num f) = lowest f in
     let w1 : bit f 1 ≡ odd (num f / 2) = bit-num f 1 in
     let n : weight (odd (num f)) + 2 * (num f / 4) ≡ num ((false ⊕ bit f 0) ∷ drop 2 f) = rw (xor-false (bit f 0), w0, num-drop 2 f) in
     let m : length ((false ⊕ bit f 0) ∷ drop 2 f) ≡ y - 1 = let k = length-drop 2 f in omega arith in
-    record {
-      kept = rw (← w0, ← w1) (sym (same-false (bit f 0) (bit f 1)));
-      next = rw (xor-false (bit f 0), w0);
-      takes = rw (n, ← m) (bits-num ((false ⊕ bit f 0) ∷ drop 2 f));
-      small = rw (n, ← m) (num-lt ((false ⊕ bit f 0) ∷ drop 2 f));
-    }
+    (rw (← w0, ← w1) (sym (same-false (bit f 0) (bit f 1))), rw (xor-false (bit f 0), w0), rw (n, ← m) (bits-num ((false ⊕ bit f 0) ∷ drop 2 f)), rw (n, ← m) (num-lt ((false ⊕ bit f 0) ∷ drop 2 f)))
 
-pub heard-first : (l : List ℕ) (y d : ℕ) → 2 ≤ y → y ≤ 8 * length l → d ≡ num (take y (drop 0 (unpack l))) → FirstHeard y d (take (width (pair 0 y)) (drop 0 (unpack l)))
-heard-first l y d h room e =
-    let z : 0 + y ≡ y = omega arith in
-    rw (z, e) (first-heard y (take y (unpack l)) h (length-part l 0 y (omega arith)))
+module _ (y w : ℕ) (h : 2 ≤ y) (hw : w < 2 ^ y) where
+  pub heard-first : FirstHeard y w
+  unfolding bits
+  heard-first =
+      let p = rw (w-is 0 y 0 w (omega arith) hw) at (first-heard y (bits y w) h (length-bits y w)) in
+      record { kept = p .0; next = p .1; takes = p .2; small = p .3 }
 
-pub first-takes : (l : List ℕ) (y : ℕ) → 2 ≤ y → y ≤ 8 * length l → length (takenBits false 0 (heardWord 0 (take (width (pair 0 y)) (drop 0 (unpack l))))) ≡ taken false (pair 0 y)
-unfolding heardWord takenBits
-first-takes l y h room =
-    let n = length-part l 0 (0 + y) (omega arith) in
-    let m = length-drop 2 (take (0 + y) (unpack l)) in
-    omega arith
+  pub first-takes : length (takenBits false 0 (heardIn (pair 0 y) 0 w)) ≡ taken false (pair 0 y)
+  unfolding heardWord takenBits bits
+  first-takes = omega (arith, length-drop 2 (bits y w), length-bits y w)

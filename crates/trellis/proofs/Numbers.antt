@@ -1,18 +1,16 @@
 -- A pair's word and its labels as numbers.
 use mathlib.Core.Path.{_≡_, refl, sym, ap, _∙_}
 use mathlib.Core.Bool.{Bool, true, false}
-use mathlib.Core.List.{List, [], _∷_, _++_}
-use Prim.Native.Nat.{ℕ, zero, suc, _+_, _-_, _*_, _/_, _%_, _^_, _≤_, _<_}
-use native.Mathlib.Nat.{pow-suc, add-zero, lt-of-lt-of-le, div-add-mod', mul-le-mul-right}
+use mathlib.Core.List.{List, [], _∷_}
+use Prim.Native.Nat.{ℕ, suc, _-_, _/_, _%_, _^_}
+use native.Mathlib.Nat.{add-zero}
 use native.Mathlib.Omega.{arith}
-use lib.ListN.{length, take, drop, getD, length-append}
-use lib.Pow.{pow-mono}
-use lib.Seq.{getD-drop, length-take-le}
-use Rattle.g9932.specs.Bits.{bit, weight, odd, num}
-use Rattle.g9932.specs.Trellis.{Word, wordOf, lowBits, lowBitsOf, sentBits}
-use Rattle.g9932.specs.declared.LowBits.{LowBits}
+use lib.ListN.{take, drop, getD}
+use lib.Seq.{getD-drop}
+use Rattle.g9932.specs.Bits.{bit, odd, num}
+use Rattle.g9932.specs.Trellis.{Word, wordOf, lowBitsOf}
 use Rattle.g9932.specs.declared.TrellisState.{TrellisState}
-use Rattle.g9932.proofs.Words.{odd-weight, num-append, num-take, num-drop, weight-le, num-lt, bits-num}
+use Rattle.g9932.proofs.Words.{odd-weight, num-take, num-drop}
 use Rattle.trellis.specs.Coding.{inputsOf, labelNumber}
 use Rattle.trellis.specs.declared.Inputs.{Inputs}
 

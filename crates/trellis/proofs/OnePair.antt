@@ -16,7 +16,7 @@ use Rattle.g9932.specs.Trellis.{Word, taken, wordOf, lowBits, lowBitsOf, sentBi
 use Rattle.g9932.specs.declared.LowBits.{LowBits}
 use Rattle.g9932.specs.declared.TrellisState.{TrellisState}
 use Rattle.g9932.proofs.Formed.{fit-both}
-use Rattle.g9932.proofs.OnePair.{Fit, highs, Valid, word-valid, length-sent}
+use Rattle.g9932.proofs.OnePair.{highs, Valid, word-valid}
 use Rattle.g9932.proofs.Packed.{length-unpack}
 use Rattle.g9932.proofs.Words.{num-lt, num-drop, num-take-lt, bits-num}
 use Rattle.trellis.specs.Coding.{inputsOf, labelNumber}

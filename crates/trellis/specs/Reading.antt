@@ -1,17 +1,16 @@
--- Reading between packed buffers: a heard word as numbers, and what the reader asks and does.
-use Prim.Native.Nat.{ℕ, _+_, _-_, _*_, _/_, _%_, _^_, _≤_, _<_}
+-- Reading labels: a heard word as numbers, and what the reader asks and does.
+use Prim.Native.Nat.{ℕ, _+_, _-_, _*_, _/_, _^_, _≤_, _<_}
 use mathlib.Core.Bool.{Bool, true, false}
 use mathlib.Core.List.{List, [], _++_}
 use mathlib.Core.Path.{_≡_}
-use lib.ListN.{length, take, drop}
-use Rattle.frame.specs.declared.BitWriter.{BitWriter}
+use lib.ListN.{length, drop}
+use Rattle.frame.specs.Spelled.{spell, Within}
 use Rattle.frame.specs.Written.{emptyWriter, written, Waits, count, Put, Framed}
-use Rattle.g9932.proofs.Pairs.{sentTotal, takenTotal}
+use Rattle.g9932.proofs.Pairs.{takenTotal}
 use Rattle.g9932.specs.Answers.{breakIn, frameIn}
-use Rattle.g9932.specs.Bits.{_⊕_, weight, odd}
-use Rattle.g9932.specs.Order.{sum, inTwos, pairsOf, Pair}
-use Rattle.g9932.specs.Sizes.{unpack}
-use Rattle.g9932.specs.Trellis.{Word, Reading, taken, width, heardWord, keepsCode, takenBits, nextOf, zeroState, readPairs}
+use Rattle.g9932.specs.Bits.{_⊕_, weight, odd, bits}
+use Rattle.g9932.specs.Order.{inTwos, pairsOf, Pair}
+use Rattle.g9932.specs.Trellis.{Word, Reading, heardWord, keepsCode, takenBits, nextOf, zeroState, readPairs}
 use Rattle.g9932.specs.declared.Found.{Found}
 use Rattle.g9932.specs.declared.Found.the-variants.{At, Nothing}
 use Rattle.trellis.specs.Coding.{labelNumber, Wide}
@@ -20,15 +19,15 @@ use Rattle.trellis.specs.declared.read.HeardWord.{HeardWord}
 use Rattle.trellis.specs.declared.read.PairRead.{PairRead}
 use Rattle.trellis.specs.declared.read.PairsRead.{PairsRead}
 
--- u0 to u3, and u4 upward as a number, from the number of a pair's labels
-unfoldable pub heardOf : ℕ → ℕ → HeardWord
-heardOf d x =
+-- u0 to u3, and u4 upward as a number, from the labels of a pair, v having x bits
+unfoldable pub heardOf : ℕ → ℕ → ℕ → HeardWord
+heardOf v w x =
     record {
-      u0 = odd d ⊕ odd (d / 2) ⊕ odd (d / 2 ^ x) ⊕ odd (d / 2 ^ x / 2);
-      u1 = odd d ⊕ odd (d / 2);
-      u2 = odd d ⊕ odd (d / 2 ^ x);
-      u3 = odd d;
-      high = d % 2 ^ x / 4 + d / 2 ^ x / 4 * 2 ^ (x - 2);
+      u0 = odd v ⊕ odd (v / 2) ⊕ odd w ⊕ odd (w / 2);
+      u1 = odd v ⊕ odd (v / 2);
+      u2 = odd v ⊕ odd w;
+      u3 = odd v;
+      high = v / 4 + w / 4 * 2 ^ (x - 2);
     }
 
 -- its lowest bits, as a word
@@ -42,31 +41,30 @@ takenNumber false u = labelNumber (u .u1) (u .u2) (weight (u .u3) + 2 * u .high)
 
 -- ---- one pair
 
-abbrev pub heardIn : Reader → Pair → List ℕ → Word
-heardIn c p sent = heardWord (p .x) (take (width p) (drop (c .at) (unpack sent)))
+abbrev pub heardIn : Pair → ℕ → ℕ → Word
+heardIn p v w = heardWord (p .x) (bits (p .x) v ++ bits (p .y) w)
 
-pub record HearRoom (c : Reader) (p : Pair) (sent frame : List ℕ) : Type 0 where
-  pub bits : c .at + width p ≤ 8 * length sent
-  pub small : length sent ≤ 7688
+pub record HearRoom (c : Reader) (p : Pair) (v w : ℕ) (frame : List ℕ) : Type 0 where
+  pub vSmall : v < 2 ^ p .x
+  pub wSmall : w < 2 ^ p .y
   pub bytes : c .writer .next + 8 ≤ length frame
   pub waits : Waits (c .writer)
 
-pub record ReadsPair (c : Reader) (late : Bool) (p : Pair) (sent frame : List ℕ) (r : PairRead) (after : List ℕ) : Type 0 where
-  pub kept : r .kept ≡ keepsCode late (c .state) (heardIn c p sent)
-  pub state : r .reader .state ≡ nextOf (c .state) (heardIn c p sent)
-  pub at : r .reader .at ≡ c .at + width p
-  pub puts : Put (c .writer) frame (takenBits late (p .x) (heardIn c p sent)) (r .reader .writer) after
+pub record ReadsPair (c : Reader) (late : Bool) (p : Pair) (v w : ℕ) (frame : List ℕ) (r : PairRead) (after : List ℕ) : Type 0 where
+  pub kept : r .kept ≡ keepsCode late (c .state) (heardIn p v w)
+  pub state : r .reader .state ≡ nextOf (c .state) (heardIn p v w)
+  pub puts : Put (c .writer) frame (takenBits late (p .x) (heardIn p v w)) (r .reader .writer) after
 
 -- the reader at the start
 abbrev pub firstReader : Reader
-firstReader = record { state = zeroState; at = 0; writer = emptyWriter }
+firstReader = record { state = zeroState; writer = emptyWriter }
 
 -- ---- the pairs from an entry on
 
-pub record HearRoomFrom (c : Reader) (es : List ℕ) (i : ℕ) (sent frame : List ℕ) : Type 0 where
+pub record HearRoomFrom (c : Reader) (es : List ℕ) (i : ℕ) (labels frame : List ℕ) : Type 0 where
   pub inside : i ≤ length es
-  pub bits : c .at + sentTotal (inTwos (drop i es)) ≤ 8 * length sent
-  pub small : length sent ≤ 7688
+  pub places : length es ≤ length labels
+  pub within : Within es labels (length es)
   pub bytes : count (c .writer) + takenTotal (inTwos (drop i es)) + 64 ≤ 8 * length frame
   pub waits : Waits (c .writer)
 
@@ -76,33 +74,33 @@ onward k (At j) = At (k + j)
 onward k Nothing = Nothing
 
 abbrev pub readingFrom : Reader → List ℕ → ℕ → List ℕ → Reading
-readingFrom c es i sent = readPairs (c .state) (inTwos (drop i es)) (drop (c .at) (unpack sent))
+readingFrom c es i labels = readPairs (c .state) (inTwos (drop i es)) (spell (drop i es) (drop i labels))
 
-pub record ReadsFrom (c : Reader) (es : List ℕ) (i : ℕ) (sent frame : List ℕ) (r : PairsRead) (after : List ℕ) : Type 0 where
-  pub broken : r .broken ≡ onward ((i + 1) / 2) (breakIn (readingFrom c es i sent))
-  pub whole : r .broken ≡ Nothing → written (r .writer) after ≡ written (c .writer) frame ++ frameIn (readingFrom c es i sent)
+pub record ReadsFrom (c : Reader) (es : List ℕ) (i : ℕ) (labels frame : List ℕ) (r : PairsRead) (after : List ℕ) : Type 0 where
+  pub broken : r .broken ≡ onward ((i + 1) / 2) (breakIn (readingFrom c es i labels))
+  pub whole : r .broken ≡ Nothing → written (r .writer) after ≡ written (c .writer) frame ++ frameIn (readingFrom c es i labels)
   pub waits : Waits (r .writer)
   pub counted : r .broken ≡ Nothing → count (r .writer) ≡ count (c .writer) + takenTotal (inTwos (drop i es))
 
 -- ---- all pairs
 
 abbrev pub readingOfAll : List ℕ → List ℕ → Reading
-readingOfAll es sent = readPairs zeroState (pairsOf es) (unpack sent)
+readingOfAll es labels = readPairs zeroState (pairsOf es) (spell es labels)
 
-pub record ReadWhole (es sent : List ℕ) (r : PairsRead) (after : List ℕ) : Type 0 where
-  pub broken : r .broken ≡ breakIn (readingOfAll es sent)
-  pub whole : r .broken ≡ Nothing → written (r .writer) after ≡ frameIn (readingOfAll es sent)
+pub record ReadWhole (es labels : List ℕ) (r : PairsRead) (after : List ℕ) : Type 0 where
+  pub broken : r .broken ≡ breakIn (readingOfAll es labels)
+  pub whole : r .broken ≡ Nothing → written (r .writer) after ≡ frameIn (readingOfAll es labels)
   pub waits : Waits (r .writer)
   pub counted : r .broken ≡ Nothing → count (r .writer) ≡ takenTotal (pairsOf es)
 
-pub record HearReady (es sent frame : List ℕ) : Type 0 where
+pub record HearReady (es labels frame : List ℕ) : Type 0 where
   pub wide : Wide es
   pub few : 4 ≤ length es
   pub many : length es ≤ 4096
-  pub bits : sum es ≤ 8 * length sent
-  pub small : length sent ≤ 7688
+  pub places : length es ≤ length labels
+  pub within : Within es labels (length es)
   pub bytes : takenTotal (pairsOf es) + 64 ≤ 8 * length frame
 
-pub record ReadsAll (es sent : List ℕ) (r : Found) (after : List ℕ) : Type 0 where
-  pub broken : r ≡ breakIn (readingOfAll es sent)
-  pub framed : r ≡ Nothing → Framed (frameIn (readingOfAll es sent)) after
+pub record ReadsAll (es labels : List ℕ) (r : Found) (after : List ℕ) : Type 0 where
+  pub broken : r ≡ breakIn (readingOfAll es labels)
+  pub framed : r ≡ Nothing → Framed (frameIn (readingOfAll es labels)) after

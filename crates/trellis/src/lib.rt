@@ -162,9 +162,9 @@ fn code_first(frame: &[u8], y: usize) -> PairCode
     let f = frame::get(frame, 0, y - 1);
     let t = zero_state().step(false, f % 2 == 1, false);
     let low = t.low;
-    let next = t.next;
+    let after = t.next;
     let coder = Coder {
-        state: next,
+        state: after,
         at: y - 1,
     };
     PairCode {

@@ -1,15 +1,14 @@
-// Reading sent bits back: each pair is held against the code, and its frame bits are put together.
+// Reading labels back: each pair is held against the code, and its frame bits are put together.
 ghost use mathlib.Core.Path.{_≡_};
 ghost use mathlib.Core.Bool.{true, false};
 ghost use Prim.Native.Nat.{ℕ, _+_, _-_, _*_, _^_, _≤_, _<_};
-ghost use lib.ListN.{length};
+ghost use lib.ListN.{length, getD};
 ghost use Rattle.g9932.specs.Order.{pair};
 ghost use Rattle.g9932.specs.Trellis.{keepsCode};
 ghost use Rattle.trellis.specs.Coding.{Wide};
 ghost use Rattle.trellis.specs.Reading.{firstReader, heardOf, wordBy, takenNumber, HearRoom, ReadsPair, HearRoomFrom, ReadsFrom, ReadWhole, HearReady, ReadsAll};
 use super::entry;
 use super::label;
-use super::lowest;
 use super::power;
 use super::taken_bits;
 use super::weight;
@@ -27,14 +26,13 @@ pub struct HeardWord {
     pub high: u32,
 }
 
-// The word of the labels d of a pair, v of x bits below w.
-fn hear(d: u32, x: usize) -> HeardWord
-    requires { ⌜ (2 ≤ x) × (x ≤ 15) × (d < 2 ^ 30) ⌝ }
-    ensures { λ r. ⌜ r ≡ heardOf d x ⌝ }
+// The word of the labels of a pair, v having x bits.
+fn hear(v: u32, w: u32, x: usize) -> HeardWord
+    requires { ⌜ (2 ≤ x) × (x ≤ 15) × (v < 2 ^ 15) × (w < 2 ^ 15) ⌝ }
+    ensures { λ r. ⌜ r ≡ heardOf v w x ⌝ }
 {
-    let w = d >> x;
-    let v0 = d % 2 == 1;
-    let v1 = d / 2 % 2 == 1;
+    let v0 = v % 2 == 1;
+    let v1 = v / 2 % 2 == 1;
     let w0 = w % 2 == 1;
     let w1 = w / 2 % 2 == 1;
     HeardWord {
@@ -42,7 +40,7 @@ fn hear(d: u32, x: usize) -> HeardWord
         u1: v0 ^ v1,
         u2: v0 ^ w0,
         u3: v0,
-        high: lowest(d, x) / 4 + w / 4 * power(x - 2),
+        high: v / 4 + w / 4 * power(x - 2),
     }
 }
 
@@ -68,10 +66,9 @@ fn taken_of(late: bool, u: HeardWord) -> u32
     label(u.u1, u.u2, free)
 }
 
-// The reader between two pairs: the state, the next sent bit, and the writer of frame bits.
+// The reader between two pairs: the state, and the writer of frame bits.
 pub struct Reader {
     pub state: TrellisState,
-    pub at: usize,
     pub writer: BitWriter,
 }
 
@@ -81,19 +78,26 @@ pub struct PairRead {
     pub reader: Reader,
 }
 
-// Reads a pair with x at least 2.
-fn read_pair(c: Reader, sent: &[u8], late: bool, x: usize, y: usize, frame: &mut [u8]) -> PairRead
-    requires { ⌜ (2 ≤ x) × (x ≤ 15) × (2 ≤ y) × (y ≤ 15) × HearRoom c (pair x y) (now sent) (now frame) ⌝ }
-    ensures { λ r. ⌜ ReadsPair c late (pair x y) (now (sent .entry)) (now (frame .entry)) r (now (frame .exit)) ⌝ }
+// Reads a pair with x at least 2, by its labels.
+fn read_pair(
+    c: Reader,
+    late: bool,
+    x: usize,
+    y: usize,
+    v: u32,
+    w: u32,
+    frame: &mut [u8],
+) -> PairRead
+    requires { ⌜ (2 ≤ x) × (x ≤ 15) × (2 ≤ y) × (y ≤ 15) × HearRoom c (pair x y) v w (now frame) ⌝ }
+    ensures { λ r. ⌜ ReadsPair c late (pair x y) v w (now (frame .entry)) r (now (frame .exit)) ⌝ }
 {
     let s = c.state;
     let writer = c.writer;
-    let u = hear(frame::get(sent, c.at, x + y), x);
+    let u = hear(v, w, x);
     let t = s.step(u.u1, u.u2, u.u3);
     let next = t.next;
     let reader = Reader {
         state: next,
-        at: c.at + (x + y),
         writer: writer.put(frame, taken_bits(late, x, y), taken_of(late, u)),
     };
     PairRead {
@@ -103,24 +107,30 @@ fn read_pair(c: Reader, sent: &[u8], late: bool, x: usize, y: usize, frame: &mut
 }
 
 // Reads a first pair with x = 0: it has no label v.
-fn read_first(sent: &[u8], y: usize, frame: &mut [u8]) -> PairRead
-    requires { ⌜ (2 ≤ y) × (y ≤ 15) × (y ≤ 8 * length (now sent)) × (8 ≤ length (now frame)) ⌝ }
-    ensures { λ r. ⌜ ReadsPair firstReader false (pair 0 y) (now (sent .entry)) (now (frame .entry)) r (now (frame .exit)) ⌝ }
+fn read_first(y: usize, w: u32, frame: &mut [u8]) -> PairRead
+    requires { ⌜ (2 ≤ y) × (y ≤ 15) × (w < 2 ^ y) × (8 ≤ length (now frame)) ⌝ }
+    ensures { λ r. ⌜ ReadsPair firstReader false (pair 0 y) 0 w (now (frame .entry)) r (now (frame .exit)) ⌝ }
 {
-    let d = frame::get(sent, 0, y);
-    let w0 = d % 2 == 1;
-    let w1 = d / 2 % 2 == 1;
+    let w0 = w % 2 == 1;
+    let w1 = w / 2 % 2 == 1;
     let t = zero_state().step(false, w0, false);
     let next = t.next;
     let reader = Reader {
         state: next,
-        at: y,
-        writer: BitWriter::new().put(frame, y - 1, weight(w0) + 2 * (d / 4)),
+        writer: BitWriter::new().put(frame, y - 1, weight(w0) + 2 * (w / 4)),
     };
     PairRead {
         kept: !(w0 ^ w1),
         reader,
     }
+}
+
+// A label.
+fn label_at(labels: &[u16], i: usize) -> u32
+    requires { ⌜ i < length (now labels) ⌝ }
+    ensures { λ r. ⌜ r ≡ getD (now (labels .entry)) i 0 ⌝ }
+{
+    labels[i] as u32
 }
 
 // Pairs read: the first that breaks the code, and the writer after the last.
@@ -130,9 +140,9 @@ pub struct PairsRead {
 }
 
 // Reads the pairs of the entries from `from` on. Entry i is of pair (i + 1) / 2.
-fn read_from(c: Reader, sent: &[u8], entries: &[u8], from: usize, frame: &mut [u8]) -> PairsRead
-    requires { ⌜ Wide (now entries) × (length (now entries) ≤ 4096) × HearRoomFrom c (now entries) from (now sent) (now frame) ⌝ }
-    ensures { λ r. ⌜ ReadsFrom c (now (entries .entry)) from (now (sent .entry)) (now (frame .entry)) r (now (frame .exit)) ⌝ }
+fn read_from(c: Reader, labels: &[u16], entries: &[u8], from: usize, frame: &mut [u8]) -> PairsRead
+    requires { ⌜ Wide (now entries) × (length (now entries) ≤ 4096) × HearRoomFrom c (now entries) from (now labels) (now frame) ⌝ }
+    ensures { λ r. ⌜ ReadsFrom c (now (entries .entry)) from (now (labels .entry)) (now (frame .entry)) r (now (frame .exit)) ⌝ }
 {
     let mut k = c;
     let mut i = from;
@@ -140,10 +150,11 @@ fn read_from(c: Reader, sent: &[u8], entries: &[u8], from: usize, frame: &mut [u
         let late = entries.len() - i < 6;
         let p = read_pair(
             k,
-            sent,
             late,
             entry(entries, i),
             entry(entries, i + 1),
+            label_at(labels, i),
+            label_at(labels, i + 1),
             frame,
         );
         let kept = p.kept;
@@ -165,12 +176,12 @@ fn read_from(c: Reader, sent: &[u8], entries: &[u8], from: usize, frame: &mut [u
 }
 
 // Reads all pairs: a first one with x = 0 where the count of entries is odd.
-fn read_all(sent: &[u8], entries: &[u8], frame: &mut [u8]) -> PairsRead
-    requires { ⌜ HearReady (now entries) (now sent) (now frame) ⌝ }
-    ensures { λ r. ⌜ ReadWhole (now (entries .entry)) (now (sent .entry)) r (now (frame .exit)) ⌝ }
+fn read_all(labels: &[u16], entries: &[u8], frame: &mut [u8]) -> PairsRead
+    requires { ⌜ HearReady (now entries) (now labels) (now frame) ⌝ }
+    ensures { λ r. ⌜ ReadWhole (now (entries .entry)) (now (labels .entry)) r (now (frame .exit)) ⌝ }
 {
     if entries.len() % 2 == 1 {
-        let first = read_first(sent, entry(entries, 0), frame);
+        let first = read_first(entry(entries, 0), label_at(labels, 0), frame);
         let kept = first.kept;
         let reader = first.reader;
         if !kept {
@@ -180,22 +191,21 @@ fn read_all(sent: &[u8], entries: &[u8], frame: &mut [u8]) -> PairsRead
                 writer,
             };
         }
-        return read_from(reader, sent, entries, 1, frame);
+        return read_from(reader, labels, entries, 1, frame);
     }
     let start = Reader {
         state: zero_state(),
-        at: 0,
         writer: BitWriter::new(),
     };
-    read_from(start, sent, entries, 0, frame)
+    read_from(start, labels, entries, 0, frame)
 }
 
-// Reads sent bits back: the first pair that breaks the code, or else the frame, at the start of a buffer. Called by proved code only.
-pub fn read_pairs(sent: &[u8], entries: &[u8], frame: &mut [u8]) -> Found
-    requires { ⌜ HearReady (now entries) (now sent) (now frame) ⌝ }
-    ensures { λ r. ⌜ ReadsAll (now (entries .entry)) (now (sent .entry)) r (now (frame .exit)) ⌝ }
+// Reads labels back: the first pair that breaks the code, or else the frame, at the start of a buffer. Called by proved code only.
+pub fn read_labels(labels: &[u16], entries: &[u8], frame: &mut [u8]) -> Found
+    requires { ⌜ HearReady (now entries) (now labels) (now frame) ⌝ }
+    ensures { λ r. ⌜ ReadsAll (now (entries .entry)) (now (labels .entry)) r (now (frame .exit)) ⌝ }
 {
-    let all = read_all(sent, entries, frame);
+    let all = read_all(labels, entries, frame);
     let broken = all.broken;
     let writer = all.writer;
     if let Found::At(k) = broken {

@@ -1,18 +1,17 @@
 -- `trellis::read::read_first` meets its contract: the pair has no v, so u0 is w0 xor w1, and w0 is u2.
-use Rattle.trellis.proofs.HearPair.{heard-first}
-use Rattle.trellis.proofs.OnePair.{empty-waits}
-use Rattle.g9932.specs.declared.TrellisState.{TrellisState}
-use Rattle.g9932.specs.Trellis.{nextState}
-use Rattle.g9932.specs.Bits.{odd}
-use native.Mathlib.Omega.{arith}
-use mathlib.Core.Bool.{false}
 use mathlib.Core.Path.{_∙_, ap}
+use mathlib.Core.Bool.{false}
+use lib.Pow.{pow-mono}
+use native.Mathlib.Omega.{arith}
+use native.Mathlib.Nat.{lt-of-lt-of-le}
+use Rattle.g9932.specs.Bits.{odd}
+use Rattle.g9932.specs.Trellis.{nextState}
+use Rattle.g9932.specs.declared.TrellisState.{TrellisState}
+use Rattle.trellis.proofs.OnePair.{empty-waits}
+use Rattle.trellis.proofs.HearPair.{heard-first}
 use borrow.Author.Needs.{needs}
 use Rattle.trellis.proofs.read.read_first.Statement.{statement}
 use Rattle.trellis.proofs.read.read_first.Tie as tie
-
-get-requires : tie.Need-get-requires
-get-requires c κs = search needs
 
 zero-state-requires : tie.Need-zero-state-requires
 zero-state-requires c κs = search needs
@@ -30,18 +29,18 @@ weight-requires : tie.Need-weight-requires
 weight-requires c κs = search needs
 
 mul-put : tie.Need-mul-put
-mul-put c = search needs
+mul-put c = record { fits = omega (arith, lt-of-lt-of-le (c .before .before .before .before .before .before .before .pre .2) (pow-mono {j = 15} (c .before .before .before .before .before .before .before .pre .1))) }
 
 add-put : tie.Need-add-put
-add-put c = search needs
+add-put c = record { fits = omega (arith, c .weight .ensures .1, lt-of-lt-of-le (c .before .before .before .before .before .before .before .pre .2) (pow-mono {j = 15} (c .before .before .before .before .before .before .before .pre .1))) }
 
 put-requires : tie.Need-put-requires
 unfolding odd
 put-requires c κs =
-    let q = c .before .before .before .before .before .before .before .before .before .pre in
-    let p = heard-first (c .before .before .before .before .before .before .before .before .before .args .sent .now) (c .before .before .before .before .before .before .before .before .before .args .y) (c .before .before .before .before .before .before .get .result) (q .0) (q .2) (c .before .before .before .before .before .before .get .ensures) in
+    let t = c .before .before .before .before .before .before .before in
+    let p = heard-first (t .args .y) (t .args .w) (t .pre .0) (t .pre .2) in
     let n = c .before .before .new .ensures in
-    (omega arith, rw (c .weight .ensures .0) (p .small), rw n (omega (arith, q .3)), rw n empty-waits)
+    (omega arith, rw (c .weight .ensures .0) (p .small), rw n (omega (arith, t .pre .3)), rw n empty-waits)
 
 same-length : tie.Need-same-length
 same-length c = search needs
@@ -49,12 +48,11 @@ same-length c = search needs
 returns : tie.Need-returns
 unfolding odd
 returns c =
-    let q = c .before .before .before .before .before .before .before .before .before .before .before .before .pre in
-    let p = heard-first (c .before .before .before .before .before .before .before .before .before .before .before .before .args .sent .now) (c .before .before .before .before .before .before .before .before .before .before .before .before .args .y) (c .before .before .before .before .before .before .before .before .before .get .result) (q .0) (q .2) (c .before .before .before .before .before .before .before .before .before .get .ensures) in
+    let t = c .before .before .before .before .before .before .before .before .before .before in
+    let p = heard-first (t .args .y) (t .args .w) (t .pre .0) (t .pre .2) in
     record {
       kept = p .kept;
-      state = c .before .before .before .before .before .before .before .step .ensures .0 ∙ ap (λ (s : TrellisState). nextState s false (odd (c .before .before .before .before .before .before .before .before .before .get .result))) (c .before .before .before .before .before .before .before .before .zero-state .ensures) ∙ p .next;
-      at = omega arith;
+      state = c .before .before .before .before .before .before .before .step .ensures .0 ∙ ap (λ (s : TrellisState). nextState s false (odd (t .args .w))) (c .before .before .before .before .before .before .before .before .zero-state .ensures) ∙ p .next;
       puts = rw (c .before .before .before .before .before .new .ensures, c .before .before .before .weight .ensures .0, p .takes) at (c .before .before .put .ensures);
     }
 
@@ -62,7 +60,6 @@ pub read-first-spec : {M : Type 1} → statement M
 read-first-spec =
     tie.close
     (tie.spec
-    get-requires
     zero-state-requires
     step-requires
     new-requires

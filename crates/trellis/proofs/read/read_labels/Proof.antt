@@ -1,13 +1,12 @@
--- `trellis::read::read_pairs` meets its contract: the first pair that breaks the code, or the frame finished.
+-- `trellis::read::read_labels` meets its contract: the first pair that breaks the code, or the frame finished.
 use mathlib.Core.Path.{_∙_, sym}
-use Rattle.trellis.proofs.HearLoop.{found-not}
-use Rattle.trellis.proofs.HearAll.{read-room}
-use Rattle.frame.proofs.Stores.{finished}
 use native.Mathlib.Omega.{arith}
-use mathlib.Core.Path.{_∙_, sym}
+use Rattle.frame.proofs.Stores.{finished}
+use Rattle.trellis.proofs.HearAll.{read-room}
+use Rattle.trellis.proofs.HearLoop.{found-not}
 use borrow.Author.Needs.{needs}
-use Rattle.trellis.proofs.read.read_pairs.Statement.{statement}
-use Rattle.trellis.proofs.read.read_pairs.Tie as tie
+use Rattle.trellis.proofs.read.read_labels.Statement.{statement}
+use Rattle.trellis.proofs.read.read_labels.Tie as tie
 
 read-all-requires : tie.Need-read-all-requires
 read-all-requires c κs = search needs
@@ -42,8 +41,8 @@ returns-2 c =
       framed = λ _. rw (w .ensures .whole none) at (finished (w .result .writer) (w .last .1 .1 .0) (c .before .before .finish .last .1 .0) (omega arith) (omega (arith, c .before .before .finish .kept .1 .0)) (w .ensures .waits) (c .before .before .finish .ensures));
     }
 
-pub read-pairs-spec : {M : Type 1} → statement M
-read-pairs-spec =
+pub read-labels-spec : {M : Type 1} → statement M
+read-labels-spec =
     tie.close
     (tie.spec
     read-all-requires
