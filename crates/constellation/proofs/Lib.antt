@@ -6,3 +6,4 @@ pub mod Tops
 pub mod Signed
 pub mod Grid
 pub mod Reading
+pub mod Shapes

@@ -8,6 +8,7 @@ ghost use Rattle.g9932.specs.Points.{pointOf, labelOf};
 ghost use Rattle.g9932.specs.Answers.{mapLabel, readPoint, mappedOf, labelledOf};
 ghost use Rattle.constellation.specs.Widened.{pairs as pairsOf, oddLabel, topFour, widened as widenedOf, xBits, yBits, woven, half as halfOf, axis as axisOf};
 ghost use Rattle.constellation.specs.Reading.{SoughtIs, Steps, Narrowed, ownLabel, topSix, inGrid};
+ghost use Rattle.constellation.specs.Shapes.{shapeList};
 use g9932::Labelled;
 use g9932::Mapped;
 use g9932::Place;
@@ -31,6 +32,16 @@ const ONE_GRID: u64 = 0x0001_0000_0000_1000;
 const THREE_GRID: u64 = 0x0011_1010_0101_1100;
 
 const ODD_GRID: u64 = 0x035f_30fa_5f0c_fac0;
+
+// The shapes of the bit counts 0 to 15: see specs/Shapes. A caller makes the table once and lends it to its loop.
+pub fn shape_table() -> [u16; 16]
+    ensures { λ r. ⌜ r ≡ shapeList ⌝ }
+{
+    [
+        0, 0x8140, 0x0140, 0x01c0, 0x0220, 0x02a0, 0x0410, 0x0490, 0x0808, 0x0888, 0x1004, 0x1084,
+        0x2002, 0x2082, 0x4001, 0x4081,
+    ]
+}
 
 // The coordinates of a point.
 pub struct Coordinates {
