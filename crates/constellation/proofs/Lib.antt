@@ -7,3 +7,4 @@ pub mod Signed
 pub mod Grid
 pub mod Reading
 pub mod Shapes
+pub mod Shaped

@@ -1,4 +1,6 @@
 // Constellations of 1 to 15 bits: one label to a point, one point to a label, without a search.
+pub mod points;
+
 ghost use mathlib.Core.Path.{_≡_};
 ghost use Prim.Native.Nat.{_+_, _*_, _/_, _%_, _^_, _<_, _≤_};
 ghost use lib.Bits.{bitXor};
@@ -76,8 +78,8 @@ fn pairs(b: u32) -> u32
     if b < 2 { 0 } else { b / 2 - 1 }
 }
 
-// The label of an odd bit count that has the same point.
-fn odd_label(b: u32, label: u32) -> u32
+// The label of an odd bit count that has the same point. Called by proved code only.
+pub fn odd_label(b: u32, label: u32) -> u32
     requires { ⌜ label < 32768 ⌝ }
     ensures { λ r. ⌜ r ≡ oddLabel b label ⌝ }
 {
