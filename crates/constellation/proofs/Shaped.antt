@@ -1,6 +1,6 @@
 -- The steps of `points`: a label lifted to the top of sixteen bits, its word there, and the bits of X and Y scaled back.
 use Prim.Native.Nat.{ℕ, zero, suc, _+_, _-_, _*_, _/_, _%_, _^_, _≤_, _<_}
-use mathlib.Core.Bool.{Bool, cond}
+use mathlib.Core.Bool.{Bool}
 use mathlib.Core.List.{List, _++_, map}
 use mathlib.Core.Path.{_≡_, refl, sym, ap, ap₂, _∙_}
 use native.Mathlib.Nat.{mul-zero, mul-comm, mul-assoc, add-mul, add-comm, mul-le-mul-right, mod-lt, pow-suc}
@@ -12,13 +12,13 @@ use lib.Dec.{eqb}
 use lib.ListN.{length}
 use lib.Pow.{pow-pos, pow-mono, pow-add, shr-shr, shl-shr, shr-le, split, high, field}
 use Rattle.g9932.specs.Bits.{weight, num, odd, bits, first}
-use Rattle.g9932.specs.Points.{evens, odds, pointOf}
+use Rattle.g9932.specs.Points.{evens, pointOf}
 use Rattle.g9932.specs.Sizes.{point, origin}
-use Rattle.g9932.specs.declared.Found.the-variants.{At, Nothing}
+use Rattle.g9932.specs.declared.Found.the-variants.{At}
 use Rattle.g9932.proofs.Words.{half-weight}
 use Rattle.constellation.specs.Widened.{pairs, oddLabel, topFive, topFour, widened, xBits, yBits, half, axis}
 use Rattle.constellation.specs.Shapes.{shapeOf}
-use Rattle.constellation.specs.Shaped.{Shaped, tone, silent, lower, upper, pairsPoint, shapedPoint, liftedLabel, spreadWord, scaled}
+use Rattle.constellation.specs.Shaped.{Shaped, tone, silent, StandsFor, lower, upper, pairsPoint, shapedPoint, liftedLabel, spreadWord, scaled}
 use Rattle.constellation.proofs.Lanes.{Slot, full, worth, gaps, gaps-worth, full-worth, bits-held, masked, squeeze, squeezed, mask-held, squeeze-held, OfBits, of-bits, twice}
 use Rattle.constellation.proofs.Mapping.{rule, point-word}
 use Rattle.constellation.proofs.Sizes.{evens-long, evens-more, evens-lt, odds-evens, label-lt}
@@ -195,12 +195,15 @@ lower-shape : (j : ℕ) → j < 15 → lower (shapeOf (suc j)) ≡ 2 ^ (6 - pair
 unfolding first
 lower-shape = rule (λ j. lower (shapeOf (suc j))) (λ j. 2 ^ (6 - pairs (suc j))) 15 refl
 
-pub label-shaped : (b l : ℕ) → 1 ≤ b → b ≤ 15 → l < 2 ^ b
-    → Shaped (shapeOf b) (oddLabel b l) × (shapedPoint (shapeOf b) (oddLabel b l) ≡ pointOf b (bits b l))
-label-shaped zero l h k s = absurd (omega arith)
-label-shaped (suc j) l h k s =
+pub label-stands : (b l : ℕ) → 1 ≤ b → b ≤ 15 → l < 2 ^ b → StandsFor (shapeOf b) (oddLabel b l) (pointOf b (bits b l))
+label-stands zero l h k s = absurd (omega arith)
+label-stands (suc j) l h k s =
     let most : pairs (suc j) ≤ 6 = omega arith in
-    let m = upper-shape j (omega arith) in (
-      tone (pairs (suc j)) most (lower-shape j (omega arith)) m (label-lt (suc j) l h s),
-      pairs-point (shapeOf (suc j)) (oddLabel (suc j) l) (pairs (suc j)) most m ∙ sym (point-word (suc j) l h k s),
-    )
+    let m = upper-shape j (omega arith) in
+    record {
+      shaped = tone (pairs (suc j)) most (lower-shape j (omega arith)) m (label-lt (suc j) l h s);
+      pointIs = pairs-point (shapeOf (suc j)) (oddLabel (suc j) l) (pairs (suc j)) most m ∙ sym (point-word (suc j) l h k s);
+    }
+
+pub silent-stands : (l : ℕ) → StandsFor 0 l origin
+silent-stands l = record { shaped = silent refl refl; pointIs = silent-point 0 l refl }

@@ -34,6 +34,11 @@ foundPoint Nothing l = origin
 unfoldable pub shapedPoint : ℕ → ℕ → Point
 shapedPoint s l = foundPoint (first (λ k. eqb (2 ^ k) (upper s)) 7) l
 
+-- a shape and a label stand for a point
+pub record StandsFor (s l : ℕ) (p : Point) : Type 0 where
+  pub shaped : Shaped s l
+  pub pointIs : shapedPoint s l ≡ p
+
 -- ---- the steps of the code
 
 -- a label above the bits below it, m being 4 to the (6 less the pairs)

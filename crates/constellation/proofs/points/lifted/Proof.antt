@@ -1,6 +1,6 @@
 -- `constellation::points::lifted` meets its contract: no product is too large.
 use native.Mathlib.Omega.{arith}
-use Prim.Native.Nat.{_-_, _*_, _%_, _≤_}
+use Prim.Native.Nat.{_-_, _%_, _≤_}
 use native.Mathlib.Nat.{mul-le-mul}
 use borrow.Author.Needs.{needs}
 use Rattle.constellation.proofs.points.lifted.Statement.{statement}
@@ -20,7 +20,6 @@ sub-result c = search needs
 
 mul-result-3 : tie.Need-mul-result-3
 mul-result-3 c =
-    let n = c .args .c in
     let r : 3 - c .args .label % 4 ≤ 3 = omega arith in
     record { fits = omega (arith, mul-le-mul r (mul-le-mul (c .pre .0) (c .pre .0))) }
 

@@ -1,7 +1,7 @@
 -- `constellation::points::point_by` meets its contract: the word of the label at the top of sixteen bits, and each half of it scaled back.
 use native.Mathlib.Omega.{arith}
-use Prim.Native.Nat.{ℕ, _*_, _/_, _%_, _≤_, _<_}
-use mathlib.Core.Path.{_≡_, ap, ap₂, _∙_}
+use Prim.Native.Nat.{ℕ, _/_}
+use mathlib.Core.Path.{ap, ap₂, _∙_}
 use mir.Syntax.{w16}
 use mir.ValLaws.{toZ-ofZ}
 use Rattle.g9932.specs.Sizes.{point}
