@@ -26,9 +26,9 @@ fn lay_data(b: u8, shapes: &[u16; 16], source: &[u8], at: usize, register: u32) 
     ensures { λ r. ⌜ Lays (Class.Data b) register at (unpack (now (source .entry))) r ⌝ }
 {
     let n = b as usize;
-    let label = constellation::odd_label(b as u32, frame::get(source, at, n));
+    let label = constellation::odd_label(b as u32, frame::get(source, at, n)) as u16;
     Laid {
-        label: label as u16,
+        label,
         shape: shapes[n],
         at: at + n,
         register,
@@ -41,8 +41,9 @@ fn lay_filler(shapes: &[u16; 16], at: usize, register: u32) -> Laid
     ensures { λ r. ⌜ LaysFiller register at r ⌝ }
 {
     let f = prbs::filler_label(register);
+    let label = f.label as u16;
     Laid {
-        label: f.label as u16,
+        label,
         shape: shapes[2],
         at,
         register: f.register,

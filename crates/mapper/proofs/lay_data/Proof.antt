@@ -14,8 +14,8 @@ odd-label-requires c κs =
     let s = c .before .before in
     got-small (s .args .source .now) (s .args .shapes .now) (s .args .at) (s .args .b) (c .get .result) (s .pre .0) (s .pre .1) (s .pre .2) (c .get .ensures)
 
-cast-t10 : tie.Need-cast-t10
-cast-t10 c =
+cast-label : tie.Need-cast-label
+cast-label c =
     let s = c .before .before .before in
     let g = c .before .get in
     let l = odd-small (s .args .source .now) (s .args .shapes .now) (s .args .at) (s .args .b) (g .result) (s .pre .0) (s .pre .1) (s .pre .2) (g .ensures) in
@@ -47,7 +47,7 @@ lay-data-spec =
     (tie.spec
     get-requires
     odd-label-requires
-    cast-t10
+    cast-label
     mul-t11
     element-copy-out-t14
     add-t15

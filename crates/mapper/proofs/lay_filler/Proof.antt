@@ -9,8 +9,8 @@ use Rattle.mapper.proofs.lay_filler.Tie as tie
 filler-label-requires : tie.Need-filler-label-requires
 filler-label-requires c κs = search needs
 
-cast-t5 : tie.Need-cast-t5
-cast-t5 c =
+cast-label : tie.Need-cast-label
+cast-label c =
     let f = c .before .filler-label in
     record { fits = omega (arith, filler-at (c .before .before .args .register) (f .result .label) (f .ensures .label) .1) }
 
@@ -28,4 +28,4 @@ returns c =
     }
 
 pub lay-filler-spec : {M : Type 1} → statement M
-lay-filler-spec = tie.close (tie.spec filler-label-requires cast-t5 element-copy-out-t8 returns)
+lay-filler-spec = tie.close (tie.spec filler-label-requires cast-label element-copy-out-t8 returns)
