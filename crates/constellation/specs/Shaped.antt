@@ -1,4 +1,4 @@
--- A tone as the functions that take many tones at a time have it: the shape of its bit count and its odd label; 0 and 0 where it is silent.
+-- A tone as the functions that take many tones at a time have it: the shape of its bit count, 0 where it is silent, and its odd label.
 use Prim.Native.Nat.{ℕ, _+_, _-_, _*_, _/_, _%_, _^_, _≤_, _<_}
 use mathlib.Core.Bool.{cond}
 use mathlib.Core.Path.{_≡_}
@@ -17,7 +17,7 @@ lower s = s % 128
 abbrev pub upper : ℕ → ℕ
 upper s = s / 256 % 128
 
--- the label goes with the shape
+-- the label goes with the shape: it has the three bits above k pairs, or the tone is silent
 pub data Shaped (s l : ℕ) : Type 0 where
   tone : (k : ℕ) → k ≤ 6 → lower s ≡ 2 ^ (6 - k) → upper s ≡ 2 ^ k → l < 2 ^ (2 * k + 3) → Shaped s l
   silent : lower s ≡ 0 → upper s ≡ 0 → Shaped s l

@@ -1,12 +1,12 @@
-// Points of many labels: plain arithmetic on sixteen bits, the same steps for every bit count, so that a loop takes several tones at a time.
+// Points of many labels. Plain arithmetic on sixteen bits, the same steps for every bit count: a loop over it takes eight tones at a time.
 ghost use mathlib.Core.Path.{_≡_};
-ghost use Prim.Native.Nat.{_+_, _-_, _*_, _/_, _%_, _<_, _≤_};
+ghost use Prim.Native.Nat.{_*_, _<_, _≤_};
 ghost use Rattle.g9932.specs.Sizes.{point};
 ghost use Rattle.constellation.specs.Widened.{topFour, yBits};
 ghost use Rattle.constellation.specs.Shaped.{Shaped, shapedPoint, liftedLabel, spreadWord, scaled};
 use super::Coordinates;
 
-// A label with its top bit in bit 15, and below it what the top five bits of a three-bit label ask; c is 2 to the (6 less the pairs).
+// A label with its top bit in bit 15; below it stands what a three-bit label's top five bits have. c is 2 to the (6 less the pairs).
 fn lifted(c: u16, label: u16) -> u16
     requires { ⌜ (c ≤ 64) × (liftedLabel (c * c) label < 65536) ⌝ }
     ensures { λ r. ⌜ r ≡ liftedLabel (c * c) label ⌝ }
@@ -15,7 +15,8 @@ fn lifted(c: u16, label: u16) -> u16
     2 * (label * m) + (3 - label % 4) * m / 2
 }
 
-// Table 10-3 by the top five bits, in turn: Xc Yc Xd Yd, Xc and Yc complemented.
+// Table 10-3 by the top five bits, in turn: Xc Yc Xd Yd, Xc and Yc complemented. A label whose top bit is 1 lies further out in X where
+// the next two bits are equal, else in Y.
 fn top_four(q: u16) -> u16
     requires { ⌜ q < 32 ⌝ }
     ensures { λ r. ⌜ r ≡ topFour q ⌝ }
@@ -34,14 +35,14 @@ fn top_four(q: u16) -> u16
     ((xc << 3) | (yc << 2)) | ((xd << 1) | yd)
 }
 
-// The word of a lifted label, with its top bit in bit 15.
+// The word of a lifted label: its bits of X and Y in turn, with the top one in bit 15.
 fn spread(a: u16) -> u16
     ensures { λ r. ⌜ r ≡ spreadWord a ⌝ }
 {
     4096 * top_four(a / 2048) + a / 2 % 4096
 }
 
-// The bits of Y in a word; those of X in half the word.
+// The bits of Y in a word; half a word gives those of X.
 fn evens(word: u16) -> u16
     ensures { λ r. ⌜ r ≡ yBits word ⌝ }
 {
