@@ -5,20 +5,20 @@ use mathlib.Core.List.{List, [], _∷_, _++_, append-assoc, append-nil}
 use Prim.Native.Nat.{ℕ, zero, suc, _+_, _-_, _*_, _≤_, _<_}
 use native.Mathlib.Omega.{arith}
 use lib.Dec.{ltb}
-use lib.ListN.{length, take, drop, getD, length-drop}
-use lib.Seq.{drop-drop}
-use Rattle.frame.specs.Written.{written, Waits, count, Put}
-use Rattle.g9932.proofs.Formed.{fit-both}
-use Rattle.g9932.proofs.OnePair.{word-valid, length-sent}
-use Rattle.g9932.proofs.Pairs.{sentTotal, takenTotal}
+use lib.ListN.{length, take, drop, getD, set, length-drop, length-set}
+use lib.Seq.{drop-drop, take-all}
+use Rattle.frame.proofs.Spelled.{spell-take, spell-set, within-set}
+use Rattle.frame.specs.Spelled.{spell}
+use Rattle.g9932.proofs.Pairs.{takenTotal}
+use Rattle.g9932.specs.Bits.{bits}
 use Rattle.g9932.specs.Order.{Pair, pair, inTwos}
 use Rattle.g9932.specs.Sizes.{unpack}
 use Rattle.g9932.specs.Trellis.{Word, lastTwo, taken, wordOf, sentBits, nextOf, encodePairs}
 use Rattle.g9932.specs.declared.TrellisState.{TrellisState}
 use Rattle.trellis.specs.Coding.{codedWord, PairRoom, CodesPair, Wide, RoomFrom, CodesFrom}
 use Rattle.trellis.specs.declared.Coder.{Coder}
-use Rattle.trellis.proofs.Entries.{cut-pair, pair-wide, inTwos-short, late-is}
-use Rattle.trellis.proofs.OnePair.{length-part}
+use Rattle.trellis.specs.declared.PairCode.{PairCode}
+use Rattle.trellis.proofs.Entries.{cut-pair, inTwos-short, late-is}
 
 -- one pair of a list of pairs
 pub encode-step : (late : Bool) (s : TrellisState) (p : Pair) (ps : List Pair) (f : List Bool) → late ≡ lastTwo ps
@@ -27,31 +27,36 @@ pub encode-step : (late : Bool) (s : TrellisState) (p : Pair) (ps : List Pair) (
 unfolding encodePairs
 encode-step late s p ps f h = rw h
 
-pub record Going (c k : Coder) (es frame sent₀ sent : List ℕ) (from i : ℕ) : Type 0 where
-  pub kept : length sent ≡ length sent₀
-  pub room : RoomFrom k es i frame sent
+pub record Going (c k : Coder) (es frame labels₀ labels : List ℕ) (from i : ℕ) : Type 0 where
+  pub kept : length labels ≡ length labels₀
+  pub room : RoomFrom k es i frame labels
   pub whole :
-      written (k .writer) sent ++ encodePairs (k .state) (inTwos (drop i es)) (drop (k .at) (unpack frame))
-      ≡ written (c .writer) sent₀ ++ encodePairs (c .state) (inTwos (drop from es)) (drop (c .at) (unpack frame))
-  pub counted : count (k .writer) + sentTotal (inTwos (drop i es)) ≡ count (c .writer) + sentTotal (inTwos (drop from es))
+      spell (take i es) (take i labels) ++ encodePairs (k .state) (inTwos (drop i es)) (drop (k .at) (unpack frame))
+      ≡ spell (take from es) (take from labels₀) ++ encodePairs (c .state) (inTwos (drop from es)) (drop (c .at) (unpack frame))
 
-pub going-start : {c : Coder} {es frame sent : List ℕ} {from : ℕ} → RoomFrom c es from frame sent → Going c c es frame sent sent from from
-going-start r = record { kept = refl; room = r; whole = refl; counted = refl }
+pub going-start : {c : Coder} {es frame labels : List ℕ} {from : ℕ} → RoomFrom c es from frame labels → Going c c es frame labels labels from from
+going-start r = record { kept = refl; room = r; whole = refl }
 
-pub going-end : {c k : Coder} {es frame sent₀ sent : List ℕ} {from i : ℕ} → Going c k es frame sent₀ sent from i → length es ≤ i + 1
-    → CodesFrom c es from frame sent₀ k sent
+pub going-end : {c k : Coder} {es frame labels₀ labels : List ℕ} {from i : ℕ} → Going c k es frame labels₀ labels from i → length es ≤ i + 1
+    → CodesFrom c es from frame labels₀ labels
 unfolding encodePairs
-going-end {k = k} {es = es} {frame = frame} {sent = sent} {i = i} g h =
+going-end {es = es} {labels = labels} {i = i} g h =
+    let r = g .room in
     let e : inTwos (drop i es) ≡ [] = inTwos-short (drop i es) (simp length-drop (omega arith)) in
+    let n : i ≡ length es = omega (arith, r .inside, r .even) in
     record {
-      whole = sym (append-nil (written (k .writer) sent)) ∙ rw e at (g .whole);
-      waits = g .room .waits;
-      counted = omega (arith, rw e at (g .counted));
+      whole =
+          sym (spell-take es labels)
+          ∙ ap (λ (l : List ℕ). spell l (take (length es) labels)) (sym (take-all i es (omega arith)))
+          ∙ ap (λ (m : ℕ). spell (take i es) (take m labels)) (sym n)
+          ∙ sym (append-nil (spell (take i es) (take i labels)))
+          ∙ rw e at (g .whole);
+      within = rw (← n) (r .within);
     }
 
 -- one pair more
-module _ (c k : Coder) (es frame sent₀ sent : List ℕ) (from i x y : ℕ) (late : Bool) (wide : Wide es)
-    (g : Going c k es frame sent₀ sent from i) (more : i + 1 < length es) (hx : x ≡ getD es i 0) (hy : y ≡ getD es (i + 1) 0)
+module _ (c k : Coder) (es frame labels₀ labels : List ℕ) (from i x y : ℕ) (late : Bool) (wide : Wide es)
+    (g : Going c k es frame labels₀ labels from i) (more : i + 1 < length es) (hx : x ≡ getD es i 0) (hy : y ≡ getD es (i + 1) 0)
     (hl : late ≡ ltb (length es - i) 6) where
   cut : inTwos (drop i es) ≡ pair x y ∷ inTwos (drop (i + 2) es)
   cut = cut-pair es i x y more hx hy
@@ -59,46 +64,43 @@ module _ (c k : Coder) (es frame sent₀ sent : List ℕ) (from i x y : ℕ) (la
   is-late : late ≡ lastTwo (inTwos (drop (i + 2) es))
   is-late = hl ∙ late-is es i (omega arith)
 
-  pair-range : (2 ≤ x) × (x ≤ 15) × (2 ≤ y) × (y ≤ 15)
-  pair-range = pair-wide es i x y wide more hx hy
-
-  pub pair-room : PairRoom k late (pair x y) frame sent
+  pub pair-room : PairRoom k late (pair x y) frame
   pair-room =
       let r = g .room in
       let b = rw cut at (r .bits) in
-      let s = rw cut at (r .bytes) in
-      record {
-        bits = rw is-late (omega (arith, b));
-        small = r .small;
-        bytes = omega (arith, s, pair-range);
-        waits = r .waits;
-      }
+      record { bits = rw is-late (omega (arith, b)); small = r .small }
 
-  pub going-step : (d : Coder) (after : List ℕ) → CodesPair k late (pair x y) frame sent d after → length after ≡ length sent → Going c d es frame sent₀ after from (i + 2)
-  going-step d after p same =
+  pub going-step : (p : PairCode) → CodesPair k late (pair x y) frame p → Going c (p .coder) es frame labels₀ (set (set labels i (p .v)) (i + 1) (p .w)) from (i + 2)
+  going-step p q =
       let r = g .room in
       let f : List Bool = drop (k .at) (unpack frame) in
-      let u : Word = codedWord k late (pair x y) frame in
-      let q = pair-range in
-      let n : length (sentBits x u) ≡ x + y =
-      let fit = fit-both late x y (q .0) (q .2) in
-      length-sent fit (word-valid (k .state) (take (taken late (pair x y)) f) fit (length-part frame (k .at) (taken late (pair x y)) (pair-room .bits))) in
       let e = rw (cut, encode-step late (k .state) (pair x y) (inTwos (drop (i + 2) es)) f is-late) at (g .whole) in
       let j : taken late (pair x y) ≡ taken (lastTwo (inTwos (drop (i + 2) es))) (pair x y) = ap (λ (b : Bool). taken b (pair x y)) is-late in
       let b = rw cut at (r .bits) in
-      let s = rw cut at (r .bytes) in
-      let t = rw cut at (g .counted) in
-      let m = p .puts .counted in
+      let l : length (set labels i (p .v)) ≡ length labels = length-set labels i (p .v) in
+      let m : length (set (set labels i (p .v)) (i + 1) (p .w)) ≡ length labels = length-set (set labels i (p .v)) (i + 1) (p .w) ∙ l in
+      let s = spell-set es labels i (p .v) (omega arith) (omega (arith, r .places)) in
+      let t = spell-set es (set labels i (p .v)) (i + 1) (p .w) more (omega (arith, r .places)) in
+      let a = within-set es labels i (p .v) (omega (arith, r .places)) (r .within) (rw (← hx) (q .vSmall)) in
+      let d = within-set es (set labels i (p .v)) (i + 1) (p .w) (omega (arith, r .places)) a (rw (← hy) (q .wSmall)) in
+      let z : i + 1 + 1 ≡ i + 2 = omega arith in
+      let w : List ℕ = set (set labels i (p .v)) (i + 1) (p .w) in
+      let n : spell (take (i + 2) es) (take (i + 2) w) ≡ spell (take i es) (take i labels) ++ sentBits x (codedWord k late (pair x y) frame) =
+      ap (λ (n : ℕ). spell (take n es) (take n w)) (sym z)
+      ∙ t
+      ∙ ap (λ (l : List Bool). l ++ bits (getD es (i + 1) 0) (p .w)) s
+      ∙ append-assoc (spell (take i es) (take i labels)) (bits (getD es i 0) (p .v)) (bits (getD es (i + 1) 0) (p .w))
+      ∙ ap (λ (l : List Bool). spell (take i es) (take i labels) ++ l) (rw (← hx, ← hy) (q .sends)) in
       record {
-        kept = same ∙ g .kept;
+        kept = m ∙ g .kept;
         room =
             record {
               inside = omega arith;
-              bits = rw (p .at) (omega arith);
+              even = omega (arith, r .even);
+              bits = rw (q .at) (omega arith);
               small = r .small;
-              bytes = rw same (omega arith);
-              waits = p .puts .waits;
+              places = omega (arith, r .places);
+              within = rw z at d;
             };
-        whole = rw (p .puts .holds, p .state, p .at, ← (drop-drop (taken late (pair x y)) (k .at) (unpack frame)), append-assoc) e;
-        counted = omega arith;
+        whole = rw (n, q .state, q .at, ← (drop-drop (taken late (pair x y)) (k .at) (unpack frame)), append-assoc) e;
       }

@@ -16,9 +16,9 @@ use Rattle.g9932.specs.Sizes.{unpack}
 use Rattle.g9932.specs.Trellis.{Word, Reading, frame, breaks, after as after', lastTwo, taken, width, heardWord, keepsCode, takenBits, nextOf, zeroState, readPairs}
 use Rattle.g9932.specs.declared.Found.{Found}
 use Rattle.g9932.specs.declared.Found.the-variants.{At, Nothing}
-use Rattle.trellis.specs.Coding.{firstCoder}
+use Rattle.trellis.specs.Reading.{firstReader}
 use Rattle.trellis.specs.Reading.{heardIn, ReadsPair, HearRoomFrom, onward, readingFrom, ReadsFrom, readingOfAll, ReadWhole, HearReady}
-use Rattle.trellis.specs.declared.Coder.{Coder}
+use Rattle.trellis.specs.declared.read.Reader.{Reader}
 use Rattle.trellis.specs.declared.read.PairRead.{PairRead}
 use Rattle.trellis.specs.declared.read.PairsRead.{PairsRead}
 use Rattle.trellis.proofs.Entries.{whole-pairs, padded-pairs, not-late}
@@ -32,7 +32,7 @@ onward-zero Nothing = refl
 
 -- an even count
 module _ (es sent out : List ℕ) (ready : HearReady es sent out) (even : length es % 2 ≡ 1 → ⊥) where
-  pub even-hearing : HearRoomFrom firstCoder es 0 sent out
+  pub even-hearing : HearRoomFrom firstReader es 0 sent out
   even-hearing =
       record {
         inside = omega arith;
@@ -42,10 +42,10 @@ module _ (es sent out : List ℕ) (ready : HearReady es sent out) (even : length
         waits = empty-waits;
       }
 
-  pub even-read : (r : PairsRead) (after : List ℕ) → ReadsFrom firstCoder es 0 sent out r after → ReadWhole es sent r after
+  pub even-read : (r : PairsRead) (after : List ℕ) → ReadsFrom firstReader es 0 sent out r after → ReadWhole es sent r after
   even-read r after g =
       record {
-        broken = g .broken ∙ rw (onward-zero (breakIn (readingFrom firstCoder es 0 sent)), whole-pairs es even);
+        broken = g .broken ∙ rw (onward-zero (breakIn (readingFrom firstReader es 0 sent)), whole-pairs es even);
         whole = λ z. g .whole z ∙ rw (written-empty out, whole-pairs es even);
         waits = g .waits;
         counted = λ z. g .counted z ∙ rw (← (whole-pairs es even)) (omega arith);
@@ -81,12 +81,12 @@ module _ (es sent out : List ℕ) (y : ℕ) (ready : HearReady es sent out) (odd
       let c = ready .bytes in
       (rw hy (a .0), rw hy (a .1), omega arith, omega arith)
 
-  module _ (p : PairRead) (mid : List ℕ) (first : ReadsPair firstCoder false (pair 0 y) sent out p mid) where
-    kept-is : p .kept ≡ keepsCode (lastTwo (inTwos (drop 1 es))) zeroState (heardIn firstCoder (pair 0 y) sent)
-    kept-is = first .kept ∙ ap (λ (b : Bool). keepsCode b zeroState (heardIn firstCoder (pair 0 y) sent)) late-not
+  module _ (p : PairRead) (mid : List ℕ) (first : ReadsPair firstReader false (pair 0 y) sent out p mid) where
+    kept-is : p .kept ≡ keepsCode (lastTwo (inTwos (drop 1 es))) zeroState (heardIn firstReader (pair 0 y) sent)
+    kept-is = first .kept ∙ ap (λ (b : Bool). keepsCode b zeroState (heardIn firstReader (pair 0 y) sent)) late-not
 
     -- it breaks the code
-    pub first-broken : p .kept ≡ false → ReadWhole es sent (record { broken = At 0; writer = p .coder .writer }) mid
+    pub first-broken : p .kept ≡ false → ReadWhole es sent (record { broken = At 0; writer = p .reader .writer }) mid
     first-broken e =
         let r : readingOfAll es sent ≡ breaks 0 =
         rw padded (read-stop (pair 0 y) (inTwos (drop 1 es)) zeroState (unpack sent) (sym kept-is ∙ e)) in
@@ -97,12 +97,12 @@ module _ (es sent out : List ℕ) (y : ℕ) (ready : HearReady es sent out) (odd
           counted = λ z. absurd (found-not z);
         }
 
-    first-count : count (p .coder .writer) ≡ taken false (pair 0 y)
+    first-count : count (p .reader .writer) ≡ taken false (pair 0 y)
     first-count =
         let q = first-hearing in
         first .puts .counted ∙ omega (arith, first-takes sent y (q .0) (q .2))
 
-    pub odd-hearing : length mid ≡ length out → HearRoomFrom (p .coder) es 1 sent mid
+    pub odd-hearing : length mid ≡ length out → HearRoomFrom (p .reader) es 1 sent mid
     odd-hearing same =
         let t = taken-first in
         let s = sent-first in
@@ -115,13 +115,13 @@ module _ (es sent out : List ℕ) (y : ℕ) (ready : HearReady es sent out) (odd
         }
 
     -- it keeps it
-    pub odd-read : p .kept ≡ true → (r : PairsRead) (after : List ℕ) → ReadsFrom (p .coder) es 1 sent mid r after → ReadWhole es sent r after
+    pub odd-read : p .kept ≡ true → (r : PairsRead) (after : List ℕ) → ReadsFrom (p .reader) es 1 sent mid r after → ReadWhole es sent r after
     odd-read e r after g =
-        let b : List Bool = takenBits false 0 (heardIn firstCoder (pair 0 y) sent) in
-        let f : Reading = readingFrom (p .coder) es 1 sent in
+        let b : List Bool = takenBits false 0 (heardIn firstReader (pair 0 y) sent) in
+        let f : Reading = readingFrom (p .reader) es 1 sent in
         let o : readingOfAll es sent ≡ after' b f =
         rw padded
-        (read-on (pair 0 y) (inTwos (drop 1 es)) zeroState (unpack sent) (heardIn firstCoder (pair 0 y) sent) (drop (width (pair 0 y)) (unpack sent)) refl refl (sym kept-is ∙ e)
+        (read-on (pair 0 y) (inTwos (drop 1 es)) zeroState (unpack sent) (heardIn firstReader (pair 0 y) sent) (drop (width (pair 0 y)) (unpack sent)) refl refl (sym kept-is ∙ e)
         ∙ rw (← late-not, first .state, first .at, zero-add (width (pair 0 y)))) in
         let t = taken-first in
         record {

@@ -18,7 +18,7 @@ use Rattle.g9932.specs.declared.Found.{Found}
 use Rattle.g9932.specs.declared.Found.the-variants.{At, Nothing}
 use Rattle.trellis.specs.Coding.{Wide}
 use Rattle.trellis.specs.Reading.{heardIn, HearRoom, ReadsPair, HearRoomFrom, onward, readingFrom, ReadsFrom}
-use Rattle.trellis.specs.declared.Coder.{Coder}
+use Rattle.trellis.specs.declared.read.Reader.{Reader}
 use Rattle.trellis.specs.declared.read.PairRead.{PairRead}
 use Rattle.trellis.proofs.Entries.{cut-pair, pair-wide, inTwos-short, late-is}
 use Rattle.trellis.proofs.HearPair.{length-takes}
@@ -39,7 +39,7 @@ after-one n b x (breaks k) = ap breaks (let e : n + suc k ≡ n + 1 + k = omega 
 pub found-not : {n : ℕ} → _≡_ {A = Found} (At n) Nothing → ⊥
 found-not z = let q : _≡_ {A = ℕ} 0 1 = cc in omega arith
 
-pub record Hearing (c k : Coder) (es sent out₀ out : List ℕ) (from i : ℕ) : Type 0 where
+pub record Hearing (c k : Reader) (es sent out₀ out : List ℕ) (from i : ℕ) : Type 0 where
   pub kept : length out ≡ length out₀
   pub room : HearRoomFrom k es i sent out
   pub pairs : ℕ
@@ -49,7 +49,7 @@ pub record Hearing (c k : Coder) (es sent out₀ out : List ℕ) (from i : ℕ) 
   pub rest : readingFrom c es from sent ≡ afterPairs pairs done (readingFrom k es i sent)
   pub counted : count (k .writer) + takenTotal (inTwos (drop i es)) ≡ count (c .writer) + takenTotal (inTwos (drop from es))
 
-pub hearing-start : {c : Coder} {es sent out : List ℕ} {from : ℕ} → HearRoomFrom c es from sent out → Hearing c c es sent out out from from
+pub hearing-start : {c : Reader} {es sent out : List ℕ} {from : ℕ} → HearRoomFrom c es from sent out → Hearing c c es sent out out from from
 hearing-start {c = c} {es = es} {sent = sent} {out = out} {from = from} r =
     record {
       kept = refl;
@@ -62,7 +62,7 @@ hearing-start {c = c} {es = es} {sent = sent} {out = out} {from = from} r =
       counted = refl;
     }
 
-pub hearing-end : {c k : Coder} {es sent out₀ out : List ℕ} {from i : ℕ} → Hearing c k es sent out₀ out from i → length es ≤ i + 1
+pub hearing-end : {c k : Reader} {es sent out₀ out : List ℕ} {from i : ℕ} → Hearing c k es sent out₀ out from i → length es ≤ i + 1
     → ReadsFrom c es from sent out₀ (record { broken = Nothing; writer = k .writer }) out
 unfolding readPairs
 hearing-end {c = c} {k = k} {es = es} {sent = sent} {from = from} {i = i} g h =
@@ -76,7 +76,7 @@ hearing-end {c = c} {k = k} {es = es} {sent = sent} {from = from} {i = i} g h =
     }
 
 -- one pair more
-module _ (c k : Coder) (es sent out₀ out : List ℕ) (from i x y : ℕ) (late : Bool) (wide : Wide es)
+module _ (c k : Reader) (es sent out₀ out : List ℕ) (from i x y : ℕ) (late : Bool) (wide : Wide es)
     (g : Hearing c k es sent out₀ out from i) (more : i + 1 < length es) (hx : x ≡ getD es i 0) (hy : y ≡ getD es (i + 1) 0)
     (hl : late ≡ ltb (length es - i) 6) where
   is-late : late ≡ lastTwo (inTwos (drop (i + 2) es))
@@ -107,7 +107,7 @@ module _ (c k : Coder) (es sent out₀ out : List ℕ) (from i x y : ℕ) (late 
         }
 
     -- a pair that keeps it
-    pub hearing-step : p .kept ≡ true → length after ≡ length out → Hearing c (p .coder) es sent out₀ after from (i + 2)
+    pub hearing-step : p .kept ≡ true → length after ≡ length out → Hearing c (p .reader) es sent out₀ after from (i + 2)
     hearing-step e same =
         let u : Word = heardIn k (pair x y) sent in
         let ps : List Pair = inTwos (drop (i + 2) es) in

@@ -1,8 +1,8 @@
 -- One pair: what the code works out in numbers is the pair's word and its sent bits.
 use mathlib.Core.Path.{_≡_, refl, sym, ap, _∙_}
 use mathlib.Core.Bool.{Bool, true, false}
-use mathlib.Core.List.{List, []}
-use Prim.Native.Nat.{ℕ, zero, suc, _+_, _-_, _*_, _/_, _^_, _≤_, _<_}
+use mathlib.Core.List.{List, [], _∷_, _++_}
+use Prim.Native.Nat.{ℕ, zero, suc, _+_, _-_, _*_, _/_, _%_, _^_, _≤_, _<_}
 use native.Mathlib.Nat.{lt-of-lt-of-le, lt-of-le-of-lt, div-one, div-le-self}
 use native.Mathlib.Omega.{arith}
 use lib.ListN.{length, take, drop, length-drop}
@@ -19,9 +19,9 @@ use Rattle.g9932.proofs.Formed.{fit-both}
 use Rattle.g9932.proofs.OnePair.{Fit, highs, Valid, word-valid, length-sent}
 use Rattle.g9932.proofs.Packed.{length-unpack}
 use Rattle.g9932.proofs.Words.{num-lt, num-drop, num-take-lt, bits-num}
-use Rattle.trellis.specs.Coding.{inputsOf, labelNumber, sentNumber}
+use Rattle.trellis.specs.Coding.{inputsOf, labelNumber}
 use Rattle.trellis.specs.declared.Inputs.{Inputs}
-use Rattle.trellis.proofs.Numbers.{bit-num, IsInputs, inputs-word, sent-number}
+use Rattle.trellis.proofs.Numbers.{bit-num, IsInputs, inputs-word, v-number, w-number}
 
 word-u0 : (late : Bool) (s : TrellisState) (x : ℕ) (f : List Bool) → wordOf late s x f .u0 ≡ s .s0
 unfolding wordOf
@@ -37,10 +37,21 @@ high-count : (x y : ℕ) → 2 ≤ x → highs x y ≡ x + y - 4
 high-count zero y h = absurd (omega arith)
 high-count (suc x) y h = refl
 
-pub record PairCoded (late : Bool) (s : TrellisState) (x y : ℕ) (f : List Bool) (i : Inputs) (sent : ℕ) : Type 0 where
+pub record PairCoded (late : Bool) (s : TrellisState) (x y : ℕ) (f : List Bool) (i : Inputs) (v w : ℕ) : Type 0 where
   pub next : nextState s (i .u1) (i .u2) ≡ nextOf s (wordOf late s x f)
-  pub sends : bits (x + y) sent ≡ sentBits x (wordOf late s x f)
-  pub small : sent < 2 ^ (x + y)
+  pub sends : bits x v ++ bits y w ≡ sentBits x (wordOf late s x f)
+  pub vSmall : v < 2 ^ x
+  pub wSmall : w < 2 ^ y
+
+sent-parts : (u : Word) (x : ℕ) → 2 ≤ x
+    → (lowBitsOf u .v0 ∷ lowBitsOf u .v1 ∷ take (x - 2) (u .high)) ++ (lowBitsOf u .w0 ∷ lowBitsOf u .w1 ∷ drop (x - 2) (u .high)) ≡ sentBits x u
+unfolding sentBits
+sent-parts u zero h = absurd (omega arith)
+sent-parts u (suc a) h = refl
+
+-- a number that is that of a list is spelled by it
+spelled : (n v : ℕ) (l : List Bool) → v ≡ num l → length l ≡ n → (bits n v ≡ l) × (v < 2 ^ n)
+spelled n v l e m = (rw (e, ← m) (bits-num l), rw (e, ← m) (num-lt l))
 
 module _ (late : Bool) (s : TrellisState) (x y : ℕ) (f : List Bool) (hx : 2 ≤ x) (hy : 2 ≤ y) (hf : length f ≡ taken late (pair x y)) where
   valid : Valid late s x y (wordOf late s x f)
@@ -52,19 +63,22 @@ module _ (late : Bool) (s : TrellisState) (x y : ℕ) (f : List Bool) (hx : 2 �
       let e : length (wordOf late s x f .high) ≡ x + y - 4 = valid .sized ∙ high-count x y hx in
       rw (j .high) (lt-of-lt-of-le (num-lt (wordOf late s x f .high)) (pow-mono {j = 26} (omega arith)))
 
-  pair-coded : (i : Inputs) (low : LowBits) (sent : ℕ) → i ≡ inputsOf late s (num f) → low ≡ lowBits (s .s0) (i .u1) (i .u2) (i .u3)
-      → sent ≡ sentNumber low (i .high) x → PairCoded late s x y f i sent
-  pair-coded i low sent hi hl hs =
+  pair-coded : (i : Inputs) (low : LowBits) (v w : ℕ) → i ≡ inputsOf late s (num f) → low ≡ lowBits (s .s0) (i .u1) (i .u2) (i .u3)
+      → v ≡ labelNumber (low .v0) (low .v1) (i .high % 2 ^ (x - 2)) → w ≡ labelNumber (low .w0) (low .w1) (i .high / 2 ^ (x - 2)) → PairCoded late s x y f i v w
+  pair-coded i low v w hi hl hv hw =
       let u : Word = wordOf late s x f in
       let j : IsInputs u i = rw hi (inputs-at late s x f hx) in
       let l : low ≡ lowBitsOf u = hl ∙ rw (j .u1, j .u2, j .u3, word-u0 late s x f) in
-      let k : x - 2 ≤ length (u .high) = let e = valid .sized ∙ high-count x y hx in omega arith in
-      let n : sent ≡ num (sentBits x u) = hs ∙ rw (l, j .high) (sym (sent-number u x hx k)) in
-      let m : length (sentBits x u) ≡ x + y = length-sent (fit-both late x y hx hy) valid in
+      let k : length (u .high) ≡ x + y - 4 = valid .sized ∙ high-count x y hx in
+      let n = length-take-le (x - 2) (u .high) (omega arith) in
+      let m = length-drop (x - 2) (u .high) in
+      let a = spelled x v (lowBitsOf u .v0 ∷ lowBitsOf u .v1 ∷ take (x - 2) (u .high)) (hv ∙ rw (l, j .high) (sym (v-number u x))) (omega arith) in
+      let b = spelled y w (lowBitsOf u .w0 ∷ lowBitsOf u .w1 ∷ drop (x - 2) (u .high)) (hw ∙ rw (l, j .high) (sym (w-number u x))) (omega arith) in
       record {
         next = rw (j .u1, j .u2);
-        sends = rw (n, ← m) (bits-num (sentBits x u));
-        small = rw (n, ← m) (num-lt (sentBits x u));
+        sends = rw (a .0, b .0) (sent-parts u x hx);
+        vSmall = a .1;
+        wSmall = b .1;
       }
 
 -- a part of a packed buffer that is there has its length
@@ -83,9 +97,9 @@ module _ (late : Bool) (s : TrellisState) (x y : ℕ) (l : List ℕ) (at n g : �
   pub got-high : x ≤ 15 → y ≤ 15 → i .high < 67108864
   got-high kx ky = high-small late s x y _ hx hy (length-part l at (taken late (pair x y)) room) kx ky i is-input
 
-  pub got-pair : (low : LowBits) (sent : ℕ) → low ≡ lowBits (s .s0) (i .u1) (i .u2) (i .u3) → sent ≡ sentNumber low (i .high) x
-      → PairCoded late s x y (take (taken late (pair x y)) (drop at (unpack l))) i sent
-  got-pair low sent hl hs = pair-coded late s x y _ hx hy (length-part l at (taken late (pair x y)) room) i low sent is-input hl hs
+  pub got-pair : (low : LowBits) (v w : ℕ) → low ≡ lowBits (s .s0) (i .u1) (i .u2) (i .u3) → v ≡ labelNumber (low .v0) (low .v1) (i .high % 2 ^ (x - 2))
+      → w ≡ labelNumber (low .w0) (low .w1) (i .high / 2 ^ (x - 2)) → PairCoded late s x y (take (taken late (pair x y)) (drop at (unpack l))) i v w
+  got-pair low v w hl hv hw = pair-coded late s x y _ hx hy (length-part l at (taken late (pair x y)) room) i low v w is-input hl hv hw
 
 -- ---- a first pair with x = 0
 

@@ -5,7 +5,7 @@ use mathlib.Core.List.{List, [], _++_}
 use mathlib.Core.Path.{_≡_}
 use lib.ListN.{length, take, drop}
 use Rattle.frame.specs.declared.BitWriter.{BitWriter}
-use Rattle.frame.specs.Written.{written, Waits, count, Put, Framed}
+use Rattle.frame.specs.Written.{emptyWriter, written, Waits, count, Put, Framed}
 use Rattle.g9932.proofs.Pairs.{sentTotal, takenTotal}
 use Rattle.g9932.specs.Answers.{breakIn, frameIn}
 use Rattle.g9932.specs.Bits.{_⊕_, weight, odd}
@@ -15,7 +15,7 @@ use Rattle.g9932.specs.Trellis.{Word, Reading, taken, width, heardWord, keepsCo
 use Rattle.g9932.specs.declared.Found.{Found}
 use Rattle.g9932.specs.declared.Found.the-variants.{At, Nothing}
 use Rattle.trellis.specs.Coding.{labelNumber, Wide}
-use Rattle.trellis.specs.declared.Coder.{Coder}
+use Rattle.trellis.specs.declared.read.Reader.{Reader}
 use Rattle.trellis.specs.declared.read.HeardWord.{HeardWord}
 use Rattle.trellis.specs.declared.read.PairRead.{PairRead}
 use Rattle.trellis.specs.declared.read.PairsRead.{PairsRead}
@@ -42,24 +42,28 @@ takenNumber false u = labelNumber (u .u1) (u .u2) (weight (u .u3) + 2 * u .high)
 
 -- ---- one pair
 
-abbrev pub heardIn : Coder → Pair → List ℕ → Word
+abbrev pub heardIn : Reader → Pair → List ℕ → Word
 heardIn c p sent = heardWord (p .x) (take (width p) (drop (c .at) (unpack sent)))
 
-pub record HearRoom (c : Coder) (p : Pair) (sent frame : List ℕ) : Type 0 where
+pub record HearRoom (c : Reader) (p : Pair) (sent frame : List ℕ) : Type 0 where
   pub bits : c .at + width p ≤ 8 * length sent
   pub small : length sent ≤ 7688
   pub bytes : c .writer .next + 8 ≤ length frame
   pub waits : Waits (c .writer)
 
-pub record ReadsPair (c : Coder) (late : Bool) (p : Pair) (sent frame : List ℕ) (r : PairRead) (after : List ℕ) : Type 0 where
+pub record ReadsPair (c : Reader) (late : Bool) (p : Pair) (sent frame : List ℕ) (r : PairRead) (after : List ℕ) : Type 0 where
   pub kept : r .kept ≡ keepsCode late (c .state) (heardIn c p sent)
-  pub state : r .coder .state ≡ nextOf (c .state) (heardIn c p sent)
-  pub at : r .coder .at ≡ c .at + width p
-  pub puts : Put (c .writer) frame (takenBits late (p .x) (heardIn c p sent)) (r .coder .writer) after
+  pub state : r .reader .state ≡ nextOf (c .state) (heardIn c p sent)
+  pub at : r .reader .at ≡ c .at + width p
+  pub puts : Put (c .writer) frame (takenBits late (p .x) (heardIn c p sent)) (r .reader .writer) after
+
+-- the reader at the start
+abbrev pub firstReader : Reader
+firstReader = record { state = zeroState; at = 0; writer = emptyWriter }
 
 -- ---- the pairs from an entry on
 
-pub record HearRoomFrom (c : Coder) (es : List ℕ) (i : ℕ) (sent frame : List ℕ) : Type 0 where
+pub record HearRoomFrom (c : Reader) (es : List ℕ) (i : ℕ) (sent frame : List ℕ) : Type 0 where
   pub inside : i ≤ length es
   pub bits : c .at + sentTotal (inTwos (drop i es)) ≤ 8 * length sent
   pub small : length sent ≤ 7688
@@ -71,10 +75,10 @@ abbrev pub onward : ℕ → Found → Found
 onward k (At j) = At (k + j)
 onward k Nothing = Nothing
 
-abbrev pub readingFrom : Coder → List ℕ → ℕ → List ℕ → Reading
+abbrev pub readingFrom : Reader → List ℕ → ℕ → List ℕ → Reading
 readingFrom c es i sent = readPairs (c .state) (inTwos (drop i es)) (drop (c .at) (unpack sent))
 
-pub record ReadsFrom (c : Coder) (es : List ℕ) (i : ℕ) (sent frame : List ℕ) (r : PairsRead) (after : List ℕ) : Type 0 where
+pub record ReadsFrom (c : Reader) (es : List ℕ) (i : ℕ) (sent frame : List ℕ) (r : PairsRead) (after : List ℕ) : Type 0 where
   pub broken : r .broken ≡ onward ((i + 1) / 2) (breakIn (readingFrom c es i sent))
   pub whole : r .broken ≡ Nothing → written (r .writer) after ≡ written (c .writer) frame ++ frameIn (readingFrom c es i sent)
   pub waits : Waits (r .writer)

@@ -1,4 +1,4 @@
-// The trellis code between two packed buffers: a frame's bits to sent bits, pair by pair.
+// The trellis code: a frame's bits to the labels of the entries of b', pair by pair.
 pub mod read;
 
 ghost use mathlib.Core.Path.{_≡_};
@@ -6,13 +6,10 @@ ghost use mathlib.Core.Bool.{Bool, true, false};
 ghost use Prim.Native.Nat.{ℕ, _+_, _-_, _*_, _/_, _%_, _^_, _≤_, _<_};
 ghost use lib.ListN.{length, take, drop, getD};
 ghost use Rattle.g9932.specs.Bits.{weight as weightOf, bits};
-ghost use Rattle.frame.specs.Written.{Framed};
 ghost use Rattle.g9932.specs.Order.{pair, pairsOf};
 ghost use Rattle.g9932.specs.Sizes.{unpack};
 ghost use Rattle.g9932.specs.Trellis.{taken, zeroState, encodePairs};
-ghost use Rattle.trellis.specs.Coding.{inputsOf, labelNumber, sentNumber, PairRoom, CodesPair, RoomFrom, CodesFrom, Wide, Ready, CodedWhole, firstCoder};
-use frame::BitWriter;
-use g9932::LowBits;
+ghost use Rattle.trellis.specs.Coding.{inputsOf, labelNumber, PairRoom, CodesPair, RoomFrom, CodesFrom, Wide, Ready, CodedWhole, firstCoder};
 use g9932::TrellisState;
 
 // The bits u1 to u3 of a pair's word and, as a number, u4 upward.
@@ -74,16 +71,6 @@ fn label(b0: bool, b1: bool, high: u32) -> u32
     weight(b0) + 2 * weight(b1) + 4 * high
 }
 
-// The labels of a pair, v below w, from their two lowest bits and u4 upward.
-fn labels(low: LowBits, high: u32, x: usize) -> u32
-    requires { ⌜ (2 ≤ x) × (x ≤ 15) × (high < 2 ^ 26) ⌝ }
-    ensures { λ r. ⌜ r ≡ sentNumber low high x ⌝ }
-{
-    let v = label(low.v0, low.v1, lowest(high, x - 2));
-    let w = label(low.w0, low.w1, high >> (x - 2));
-    v + w * power(x)
-}
-
 // How many bits a pair takes from the frame.
 fn taken_bits(late: bool, x: usize, y: usize) -> usize
     requires { ⌜ (2 ≤ x) × (x ≤ 15) × (2 ≤ y) × (y ≤ 15) ⌝ }
@@ -95,11 +82,17 @@ fn taken_bits(late: bool, x: usize, y: usize) -> usize
     x + y - 1
 }
 
-// The coder between two pairs: its state, the next frame bit, and the writer of sent bits.
+// The coder between two pairs: its state and the next frame bit.
 pub struct Coder {
     pub state: TrellisState,
     pub at: usize,
-    pub writer: BitWriter,
+}
+
+// A pair coded: its labels, and the coder after it.
+pub struct PairCode {
+    pub v: u32,
+    pub w: u32,
+    pub coder: Coder,
 }
 
 // The state at the start.
@@ -115,21 +108,24 @@ fn zero_state() -> TrellisState
 }
 
 // Codes a pair with x at least 2.
-fn code_pair(c: Coder, frame: &[u8], late: bool, x: usize, y: usize, sent: &mut [u8]) -> Coder
-    requires { ⌜ (2 ≤ x) × (x ≤ 15) × (2 ≤ y) × (y ≤ 15) × PairRoom c late (pair x y) (now frame) (now sent) ⌝ }
-    ensures { λ r. ⌜ CodesPair c late (pair x y) (now (frame .entry)) (now (sent .entry)) r (now (sent .exit)) ⌝ }
+fn code_pair(c: Coder, frame: &[u8], late: bool, x: usize, y: usize) -> PairCode
+    requires { ⌜ (2 ≤ x) × (x ≤ 15) × (2 ≤ y) × (y ≤ 15) × PairRoom c late (pair x y) (now frame) ⌝ }
+    ensures { λ r. ⌜ CodesPair c late (pair x y) (now (frame .entry)) r ⌝ }
 {
     let s = c.state;
-    let writer = c.writer;
     let n = taken_bits(late, x, y);
     let u = inputs_of(s, late, frame::get(frame, c.at, n));
     let t = s.step(u.u1, u.u2, u.u3);
     let low = t.low;
     let next = t.next;
-    Coder {
+    let coder = Coder {
         state: next,
         at: c.at + n,
-        writer: writer.put(sent, x + y, labels(low, u.high, x)),
+    };
+    PairCode {
+        v: label(low.v0, low.v1, lowest(u.high, x - 2)),
+        w: label(low.w0, low.w1, u.high >> (x - 2)),
+        coder,
     }
 }
 
@@ -142,62 +138,57 @@ fn entry(entries: &[u8], i: usize) -> usize
 }
 
 // Codes the pairs of the entries from `from` on.
-fn code_from(c: Coder, frame: &[u8], entries: &[u8], from: usize, sent: &mut [u8]) -> Coder
-    requires { ⌜ Wide (now entries) × (length (now entries) ≤ 4096) × RoomFrom c (now entries) from (now frame) (now sent) ⌝ }
-    ensures { λ r. ⌜ CodesFrom c (now (entries .entry)) from (now (frame .entry)) (now (sent .entry)) r (now (sent .exit)) ⌝ }
+fn code_from(c: Coder, frame: &[u8], entries: &[u8], from: usize, labels: &mut [u16])
+    requires { ⌜ Wide (now entries) × (length (now entries) ≤ 4096) × RoomFrom c (now entries) from (now frame) (now labels) ⌝ }
+    ensures { λ _. ⌜ CodesFrom c (now (entries .entry)) from (now (frame .entry)) (now (labels .entry)) (now (labels .exit)) ⌝ }
 {
     let mut k = c;
     let mut i = from;
     while i + 1 < entries.len() {
-        let x = entry(entries, i);
-        let y = entry(entries, i + 1);
         let late = entries.len() - i < 6;
-        k = code_pair(k, frame, late, x, y, sent);
+        let p = code_pair(k, frame, late, entry(entries, i), entry(entries, i + 1));
+        labels[i] = p.v as u16;
+        labels[i + 1] = p.w as u16;
+        k = p.coder;
         i += 2;
     }
-    k
 }
 
 // Codes a first pair with x = 0: its bits are u2 and u4 upward, and v isn't sent.
-fn code_first(frame: &[u8], y: usize, sent: &mut [u8]) -> Coder
-    requires { ⌜ (2 ≤ y) × (y ≤ 15) × (y ≤ 8 * length (now frame) + 1) × (8 ≤ length (now sent)) ⌝ }
-    ensures { λ r. ⌜ CodesPair firstCoder false (pair 0 y) (now (frame .entry)) (now (sent .entry)) r (now (sent .exit)) ⌝ }
+fn code_first(frame: &[u8], y: usize) -> PairCode
+    requires { ⌜ (2 ≤ y) × (y ≤ 15) × (y ≤ 8 * length (now frame) + 1) ⌝ }
+    ensures { λ r. ⌜ CodesPair firstCoder false (pair 0 y) (now (frame .entry)) r ⌝ }
 {
     let f = frame::get(frame, 0, y - 1);
     let t = zero_state().step(false, f % 2 == 1, false);
     let low = t.low;
     let next = t.next;
-    Coder {
+    let coder = Coder {
         state: next,
         at: y - 1,
-        writer: BitWriter::new().put(sent, y, label(low.w0, low.w1, f / 2)),
+    };
+    PairCode {
+        v: 0,
+        w: label(low.w0, low.w1, f / 2),
+        coder,
     }
 }
 
-// Codes all pairs: a first one with x = 0 where the count of entries is odd.
-fn code_all(frame: &[u8], entries: &[u8], sent: &mut [u8]) -> BitWriter
-    requires { ⌜ Ready (now entries) (now frame) (now sent) ⌝ }
-    ensures { λ r. ⌜ CodedWhole (now (entries .entry)) (now (frame .entry)) r (now (sent .exit)) ⌝ }
+// Codes a frame: the labels of the entries of b', a first pair having x = 0 where their count is odd. Called by proved code only.
+pub fn encode_labels(frame: &[u8], entries: &[u8], labels: &mut [u16])
+    requires { ⌜ Ready (now entries) (now frame) (now labels) ⌝ }
+    ensures { λ _. ⌜ CodedWhole (now (entries .entry)) (now (frame .entry)) (now (labels .exit)) ⌝ }
 {
     if entries.len() % 2 == 1 {
-        let first = code_first(frame, entry(entries, 0), sent);
-        let odd = code_from(first, frame, entries, 1, sent);
-        return odd.writer;
+        let first = code_first(frame, entry(entries, 0));
+        let coder = first.coder;
+        labels[0] = first.w as u16;
+        code_from(coder, frame, entries, 1, labels);
+        return;
     }
     let start = Coder {
         state: zero_state(),
         at: 0,
-        writer: BitWriter::new(),
     };
-    let even = code_from(start, frame, entries, 0, sent);
-    even.writer
-}
-
-// Codes a frame: the sent bits of its pairs, which the entries of b' are cut into. Called by proved code only.
-pub fn encode_pairs(frame: &[u8], entries: &[u8], sent: &mut [u8])
-    requires { ⌜ Ready (now entries) (now frame) (now sent) ⌝ }
-    ensures { λ _. ⌜ Framed (encodePairs zeroState (pairsOf (now (entries .entry))) (unpack (now (frame .entry)))) (now (sent .exit)) ⌝ }
-{
-    let writer = code_all(frame, entries, sent);
-    writer.finish(sent);
+    code_from(start, frame, entries, 0, labels);
 }

@@ -5,9 +5,8 @@ ghost use Prim.Native.Nat.{ℕ, _+_, _-_, _*_, _^_, _≤_, _<_};
 ghost use lib.ListN.{length};
 ghost use Rattle.g9932.specs.Order.{pair};
 ghost use Rattle.g9932.specs.Trellis.{keepsCode};
-ghost use Rattle.trellis.specs.Coding.{firstCoder, Wide};
-ghost use Rattle.trellis.specs.Reading.{heardOf, wordBy, takenNumber, HearRoom, ReadsPair, HearRoomFrom, ReadsFrom, ReadWhole, HearReady, ReadsAll};
-use super::Coder;
+ghost use Rattle.trellis.specs.Coding.{Wide};
+ghost use Rattle.trellis.specs.Reading.{firstReader, heardOf, wordBy, takenNumber, HearRoom, ReadsPair, HearRoomFrom, ReadsFrom, ReadWhole, HearReady, ReadsAll};
 use super::entry;
 use super::label;
 use super::lowest;
@@ -69,14 +68,21 @@ fn taken_of(late: bool, u: HeardWord) -> u32
     label(u.u1, u.u2, free)
 }
 
-// A pair read: whether it keeps the code, and the coder after it.
+// The reader between two pairs: the state, the next sent bit, and the writer of frame bits.
+pub struct Reader {
+    pub state: TrellisState,
+    pub at: usize,
+    pub writer: BitWriter,
+}
+
+// A pair read: whether it keeps the code, and the reader after it.
 pub struct PairRead {
     pub kept: bool,
-    pub coder: Coder,
+    pub reader: Reader,
 }
 
 // Reads a pair with x at least 2.
-fn read_pair(c: Coder, sent: &[u8], late: bool, x: usize, y: usize, frame: &mut [u8]) -> PairRead
+fn read_pair(c: Reader, sent: &[u8], late: bool, x: usize, y: usize, frame: &mut [u8]) -> PairRead
     requires { ⌜ (2 ≤ x) × (x ≤ 15) × (2 ≤ y) × (y ≤ 15) × HearRoom c (pair x y) (now sent) (now frame) ⌝ }
     ensures { λ r. ⌜ ReadsPair c late (pair x y) (now (sent .entry)) (now (frame .entry)) r (now (frame .exit)) ⌝ }
 {
@@ -85,35 +91,35 @@ fn read_pair(c: Coder, sent: &[u8], late: bool, x: usize, y: usize, frame: &mut 
     let u = hear(frame::get(sent, c.at, x + y), x);
     let t = s.step(u.u1, u.u2, u.u3);
     let next = t.next;
-    let coder = Coder {
+    let reader = Reader {
         state: next,
         at: c.at + (x + y),
         writer: writer.put(frame, taken_bits(late, x, y), taken_of(late, u)),
     };
     PairRead {
         kept: keeps(s, late, u),
-        coder,
+        reader,
     }
 }
 
 // Reads a first pair with x = 0: it has no label v.
 fn read_first(sent: &[u8], y: usize, frame: &mut [u8]) -> PairRead
     requires { ⌜ (2 ≤ y) × (y ≤ 15) × (y ≤ 8 * length (now sent)) × (8 ≤ length (now frame)) ⌝ }
-    ensures { λ r. ⌜ ReadsPair firstCoder false (pair 0 y) (now (sent .entry)) (now (frame .entry)) r (now (frame .exit)) ⌝ }
+    ensures { λ r. ⌜ ReadsPair firstReader false (pair 0 y) (now (sent .entry)) (now (frame .entry)) r (now (frame .exit)) ⌝ }
 {
     let d = frame::get(sent, 0, y);
     let w0 = d % 2 == 1;
     let w1 = d / 2 % 2 == 1;
     let t = zero_state().step(false, w0, false);
     let next = t.next;
-    let coder = Coder {
+    let reader = Reader {
         state: next,
         at: y,
         writer: BitWriter::new().put(frame, y - 1, weight(w0) + 2 * (d / 4)),
     };
     PairRead {
         kept: !(w0 ^ w1),
-        coder,
+        reader,
     }
 }
 
@@ -124,7 +130,7 @@ pub struct PairsRead {
 }
 
 // Reads the pairs of the entries from `from` on. Entry i is of pair (i + 1) / 2.
-fn read_from(c: Coder, sent: &[u8], entries: &[u8], from: usize, frame: &mut [u8]) -> PairsRead
+fn read_from(c: Reader, sent: &[u8], entries: &[u8], from: usize, frame: &mut [u8]) -> PairsRead
     requires { ⌜ Wide (now entries) × (length (now entries) ≤ 4096) × HearRoomFrom c (now entries) from (now sent) (now frame) ⌝ }
     ensures { λ r. ⌜ ReadsFrom c (now (entries .entry)) from (now (sent .entry)) (now (frame .entry)) r (now (frame .exit)) ⌝ }
 {
@@ -148,7 +154,7 @@ fn read_from(c: Coder, sent: &[u8], entries: &[u8], from: usize, frame: &mut [u8
                 writer: old,
             };
         }
-        k = p.coder;
+        k = p.reader;
         i += 2;
     }
     let writer = k.writer;
@@ -166,17 +172,17 @@ fn read_all(sent: &[u8], entries: &[u8], frame: &mut [u8]) -> PairsRead
     if entries.len() % 2 == 1 {
         let first = read_first(sent, entry(entries, 0), frame);
         let kept = first.kept;
-        let coder = first.coder;
+        let reader = first.reader;
         if !kept {
-            let writer = coder.writer;
+            let writer = reader.writer;
             return PairsRead {
                 broken: Found::At(0),
                 writer,
             };
         }
-        return read_from(coder, sent, entries, 1, frame);
+        return read_from(reader, sent, entries, 1, frame);
     }
-    let start = Coder {
+    let start = Reader {
         state: zero_state(),
         at: 0,
         writer: BitWriter::new(),

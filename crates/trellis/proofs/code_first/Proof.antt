@@ -1,14 +1,11 @@
--- `trellis::code_first` meets its contract: the bits got are u2 and u4 upward, u1 and u3 are 0, and w alone is put.
-use Rattle.trellis.proofs.OnePair.{got-first, got-next, got-low, empty-waits}
+-- `trellis::code_first` meets its contract: the bits got are u2 and u4 upward, u1 and u3 are 0, and w alone is sent.
 use mathlib.Core.Bool.{false}
-use Rattle.trellis.proofs.OnePair.{got-first, got-low, empty-waits}
-use Rattle.g9932.specs.declared.TrellisState.{TrellisState}
 use mathlib.Core.Path.{_∙_, ap}
-use Rattle.trellis.proofs.OnePair.{got-first, got-low, empty-waits}
-use Rattle.g9932.specs.Trellis.{zeroState, lowBits, nextState}
-use Rattle.g9932.specs.Bits.{odd}
 use native.Mathlib.Omega.{arith}
-use mathlib.Core.Path.{_∙_, ap}
+use Rattle.g9932.specs.Bits.{odd, bits}
+use Rattle.g9932.specs.Trellis.{zeroState, lowBits, nextState}
+use Rattle.g9932.specs.declared.TrellisState.{TrellisState}
+use Rattle.trellis.proofs.OnePair.{got-first, got-next, got-low}
 use borrow.Author.Needs.{needs}
 use Rattle.trellis.proofs.code_first.Statement.{statement}
 use Rattle.trellis.proofs.code_first.Tie as tie
@@ -28,46 +25,31 @@ step-requires c κs = search needs
 sub-t8 : tie.Need-sub-t8
 sub-t8 c = search needs
 
-new-requires : tie.Need-new-requires
-new-requires c κs = search needs
-
 label-requires : tie.Need-label-requires
-label-requires c κs = got-low (c .before .before .before .before .before .before .before .before .before .args .frame .now) (c .before .before .before .before .before .before .before .before .before .args .y) (c .before .before .before .before .before .before .get .result) (search needs) (search needs) (c .before .before .before .before .before .before .get .ensures) (search needs)
-
-put-requires : tie.Need-put-requires
-unfolding odd
-put-requires c κs =
-    let q = c .before .before .before .before .before .before .before .before .before .before .pre in
-    let n = c .before .before .new .ensures in
-    let z = c .before .before .before .before .before .before .zero-state .ensures in
-    let l = c .before .before .before .before .before .step .ensures .1 ∙ ap (λ (s : TrellisState). lowBits (s .s0) false (odd (c .before .before .before .before .before .before .before .get .result)) false) z in
-    let p = got-first (c .before .before .before .before .before .before .before .before .before .before .args .frame .now) (c .before .before .before .before .before .before .before .before .before .before .args .y) (c .before .before .before .before .before .before .before .get .result) (q .0) (q .2) (c .before .before .before .before .before .before .before .get .ensures) zeroState (c .before .before .before .before .before .step .result .low) (c .label .result) l (c .label .ensures) in
-    (omega arith, p .small, rw n (omega (arith, q .3)), rw n empty-waits)
-
-same-length : tie.Need-same-length
-same-length c = search needs
+label-requires c κs =
+    let g = c .before .before .before .before in
+    let t = g .before .before in
+    got-low (t .args .frame .now) (t .args .y) (g .get .result) (t .pre .0) (t .pre .2) (g .get .ensures) (t .pre .1)
 
 returns : tie.Need-returns
-unfolding odd
+unfolding odd bits
 returns c =
-    let q = c .before .before .before .before .before .before .before .before .before .before .before .before .before .pre in
-    let z = c .before .before .before .before .before .before .before .before .before .zero-state .ensures in
-    let l = c .before .before .before .before .before .before .before .before .step .ensures .1 ∙ ap (λ (s : TrellisState). lowBits (s .s0) false (odd (c .before .before .before .before .before .before .before .before .before .before .get .result)) false) z in
-    let p = got-first (c .before .before .before .before .before .before .before .before .before .before .before .before .before .args .frame .now) (c .before .before .before .before .before .before .before .before .before .before .before .before .before .args .y) (c .before .before .before .before .before .before .before .before .before .before .get .result) (q .0) (q .2) (c .before .before .before .before .before .before .before .before .before .before .get .ensures) zeroState (c .before .before .before .before .before .before .before .before .step .result .low) (c .before .before .before .label .result) l (c .before .before .before .label .ensures) in
-    let s = c .before .before .before .before .before .before .before .before .step .ensures .0 ∙ ap (λ (s : TrellisState). nextState s false (odd (c .before .before .before .before .before .before .before .before .before .before .get .result))) z in
-    record { state = s ∙ got-next (c .before .before .before .before .before .before .before .before .before .before .before .before .before .args .frame .now) (c .before .before .before .before .before .before .before .before .before .before .before .before .before .args .y) (c .before .before .before .before .before .before .before .before .before .before .get .result) (q .0) (q .2) (c .before .before .before .before .before .before .before .before .before .before .get .ensures) zeroState; at = omega arith; puts = rw (c .before .before .before .before .before .new .ensures, p .sends) at (c .before .before .put .ensures) }
+    let p = c .before .before .before in
+    let g = p .before .before in
+    let t = g .before .before in
+    let z = p .before .zero-state .ensures in
+    let l = p .step .ensures .1 ∙ ap (λ (s : TrellisState). lowBits (s .s0) false (odd (g .get .result)) false) z in
+    let f = got-first (t .args .frame .now) (t .args .y) (g .get .result) (t .pre .0) (t .pre .2) (g .get .ensures) zeroState (p .step .result .low) (c .label .result) l (c .label .ensures) in
+    let n = p .step .ensures .0 ∙ ap (λ (s : TrellisState). nextState s false (odd (g .get .result))) z in
+    record {
+      state = n ∙ got-next (t .args .frame .now) (t .args .y) (g .get .result) (t .pre .0) (t .pre .2) (g .get .ensures) zeroState;
+      at = omega arith;
+      sends = f .sends;
+      vSmall = omega arith;
+      wSmall = f .small;
+    }
 
 pub code-first-spec : {M : Type 1} → statement M
 code-first-spec =
     tie.close
-    (tie.spec
-    sub-get
-    get-requires
-    zero-state-requires
-    step-requires
-    sub-t8
-    new-requires
-    label-requires
-    put-requires
-    same-length
-    returns)
+    (tie.spec sub-get get-requires zero-state-requires step-requires sub-t8 label-requires returns)

@@ -1,0 +1,45 @@
+-- Labels spelled: one more, and one written.
+use mathlib.Core.Path.{_≡_, refl, sym, ap, _∙_}
+use mathlib.Core.Bool.{Bool, true, false}
+use mathlib.Core.List.{List, [], _∷_, _++_, append-assoc, append-nil}
+use Prim.Native.Nat.{ℕ, zero, suc, _+_, _^_, _≤_, _<_}
+use native.Mathlib.Numerals.{add-one}
+use native.Mathlib.Omega.{arith}
+use lib.Dec.{eqb}
+use borrow.Author.Tests.{eqb-true, eqb-false}
+use lib.ListN.{length, take, drop, getD, set}
+use lib.Seq.{drop-cons, take-suc, take-suc-set, length-take-le, getD-set-same, getD-set-other}
+use Rattle.g9932.specs.Bits.{bits}
+use Rattle.frame.specs.Spelled.{spell, Within}
+
+-- a label after the others
+pub spell-more : (es ls : List ℕ) (e l : ℕ) → length es ≡ length ls → spell (es ++ (e ∷ [])) (ls ++ (l ∷ [])) ≡ spell es ls ++ bits e l
+spell-more [] [] e l h = append-nil (bits e l)
+spell-more [] (a ∷ ls) e l h = absurd (omega arith)
+spell-more (d ∷ es) [] e l h = absurd (omega arith)
+spell-more (d ∷ es) (a ∷ ls) e l h = ap (λ t. bits d a ++ t) (spell-more es ls e l (omega arith)) ∙ sym (append-assoc (bits d a) (spell es ls) (bits e l))
+
+-- labels past the last count spell nothing
+pub spell-take : (es ls : List ℕ) → spell es (take (length es) ls) ≡ spell es ls
+spell-take [] ls = refl
+spell-take (e ∷ es) [] = refl
+spell-take (e ∷ es) (l ∷ ls) = ap (λ t. bits e l ++ t) (spell-take es ls)
+
+-- the label at i, and those after it
+pub spell-drop : (es ls : List ℕ) (i : ℕ) → i < length es → i < length ls
+    → spell (drop i es) (drop i ls) ≡ bits (getD es i 0) (getD ls i 0) ++ spell (drop (i + 1) es) (drop (i + 1) ls)
+spell-drop es ls i h k = rw (add-one, drop-cons es i 0 h, drop-cons ls i 0 k)
+
+-- the label at i written
+pub spell-set : (es ls : List ℕ) (i l : ℕ) → i < length es → i < length ls
+    → spell (take (i + 1) es) (take (i + 1) (set ls i l)) ≡ spell (take i es) (take i ls) ++ bits (getD es i 0) l
+spell-set es ls i l h k =
+    rw (add-one, take-suc es i 0 h, take-suc-set ls i l k)
+    (spell-more (take i es) (take i ls) (getD es i 0) l (length-take-le i es (omega arith) ∙ sym (length-take-le i ls (omega arith))))
+
+pub within-set : (es ls : List ℕ) (i l : ℕ) → i < length ls → Within es ls i → l < 2 ^ getD es i 0 → Within es (set ls i l) (i + 1)
+within-set es ls i l k w s j h = at (eqb j i) refl
+  where
+    at : (e : Bool) → eqb j i ≡ e → getD (set ls i l) j 0 < 2 ^ getD es j 0
+    at true q = rw (eqb-true j i q, getD-set-same ls i l 0 k) s
+    at false q = rw (getD-set-other ls i j l 0 (eqb-false j i q)) (w j (let n = eqb-false j i q in omega arith))
