@@ -26,7 +26,7 @@ worth l = num (map value l)
 
 -- ---- masks
 
-abbrev masked : List Bool → List Slot → List Slot
+abbrev pub masked : List Bool → List Slot → List Slot
 masked [] l = []
 masked (m ∷ ms) [] = []
 masked (true ∷ ms) (s ∷ l) = s ∷ masked ms l
@@ -143,6 +143,9 @@ and-mask m l h = ap (bitAnd (worth l)) (sym (num-bits 32 m ∙ mod-eq-of-lt h)) 
 -- a number and the list of its places
 pub record Held (n : ℕ) (l : List Slot) : Type 0 where
   pub is : n ≡ worth l
+
+pub mask-held : (m : ℕ) {n : ℕ} {l : List Slot} → m < 2 ^ 32 → Held n l → Held (bitAnd n m) (masked (bits 32 m) l)
+mask-held m {n} {l} h e = record { is = rw (e .is) (and-mask m l h) }
 
 pub squeeze-held : (k m : ℕ) {n : ℕ} {l : List Slot} → m < 2 ^ 32 → Held n l → Held (squeeze k m n) (squeezed k m l)
 squeeze-held k m {n} {l} h e =

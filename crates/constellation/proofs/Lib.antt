@@ -6,3 +6,5 @@ pub mod Tops
 pub mod Signed
 pub mod Grid
 pub mod Reading
+pub mod Shapes
+pub mod Shaped

@@ -2,9 +2,9 @@
 use Prim.Native.Nat.{ℕ, zero, suc, _+_, _-_, _*_, _/_, _%_, _^_, _≤_, _<_}
 use mathlib.Core.Bool.{Bool, true, false, cond}
 use mathlib.Core.Path.{_≡_, refl, sym, ap, _∙_}
-use native.Mathlib.Nat.{pow-suc}
+use native.Mathlib.Nat.{pow-suc, mul-zero, mul-le-mul}
 use native.Mathlib.Omega.{arith}
-use borrow.Author.Tests.{le-ltb, ltb-true, ltb-false}
+use borrow.Author.Tests.{le-ltb, ltb-true, ltb-false, ne-eqb}
 use lib.Arith.{digits-mod}
 use lib.Bits.{bitAnd, and-mask}
 use lib.Dec.{T, ltb}
@@ -16,6 +16,7 @@ use mir.Val.{Fits, SFits, toZ, ofZ}
 use mir.ValLaws.{toZ-pos, toZ-ofZ}
 use Rattle.constellation.specs.Widened.{half, axis}
 use Rattle.constellation.specs.Reading.{Steps}
+use Rattle.constellation.specs.Shaped.{scaled}
 
 -- ---- a coordinate of its bits
 
@@ -33,6 +34,33 @@ axis-mag h e p q = go (ltb (2 * e + 1) h)
 pub axis-law : (h e : ℕ) → 1 ≤ h → h ≤ 256 → e < 256 → (toZ w16 (2 * e + 1) -ℤ toZ w16 h ≡ axis h e) × SFits w16 (axis h e)
 axis-law h e o p q =
     (rw (toZ-pos w16 (2 * e + 1) (omega arith), toZ-pos w16 h (omega arith)) (sub-pos (2 * e + 1) h o), record { sfits = axis-mag h e p q })
+
+-- ---- a coordinate of scaled bits; the one below them is 0 where the tone is silent
+
+scaled-lt : (m e : ℕ) → e < 256 → m ≤ 64 → e * m ≤ 16320
+scaled-lt m e p q = mul-le-mul {n₁ = e} {m₁ = m} {n₂ = 255} {m₂ = 64} (omega arith) q
+
+pub record ScaledIs (m e one : ℕ) : Type 0 where
+  pub product : e * m ≤ 16320
+  pub small : one ≤ 1
+  pub is : toZ w16 (2 * (e * m / 64) + one) -ℤ toZ w16 (4 * m) ≡ scaled m e
+  pub fits : SFits w16 (scaled m e)
+
+pub scaled-silent : (m e one : ℕ) → m ≡ 0 → one ≡ 0 → ScaledIs m e one
+scaled-silent m e one z o =
+    record {
+      product = rw (z, mul-zero e) (omega arith);
+      small = omega arith;
+      is = rw (z, o, mul-zero e) refl;
+      fits = rw z (record { sfits = omega arith });
+    }
+
+pub scaled-tone : (m e one : ℕ) → (m ≡ 0 → ⊥) → m ≤ 64 → e < 256 → one ≡ 1 → ScaledIs m e one
+scaled-tone m e one h p q o =
+    let n = scaled-lt m e q p in
+    let r = axis-law (4 * m) (e * m / 64) (omega arith) (omega arith) (omega arith) in
+    let z = ne-eqb m 0 h in
+    record { product = n; small = omega arith; is = rw (o, z) (r .0); fits = rw z (r .1) }
 
 -- ---- the bits of a coordinate
 

@@ -46,7 +46,7 @@ label-lt b l h k = go (ltb b 2) refl
 -- ---- the bits of X and Y
 
 -- a word's bits beyond its own do not count
-evens-more : (n w : ℕ) → w < 2 ^ n → num (evens (bits (suc n) w)) ≡ num (evens (bits n w))
+pub evens-more : (n w : ℕ) → w < 2 ^ n → num (evens (bits (suc n) w)) ≡ num (evens (bits n w))
 unfolding bits num
 evens-more zero w h = omega (arith, weight-odd w)
 evens-more (suc zero) w h = refl
@@ -54,13 +54,13 @@ evens-more (suc (suc n)) w h =
     let e = evens-more n (w / 2 / 2) (omega (arith, pow-suc 2 (suc n), pow-suc 2 n)) in
     omega arith
 
-evens-long : (j n w : ℕ) → w < 2 ^ n → num (evens (bits (j + n) w)) ≡ num (evens (bits n w))
+pub evens-long : (j n w : ℕ) → w < 2 ^ n → num (evens (bits (j + n) w)) ≡ num (evens (bits n w))
 evens-long zero n w h = rw zero-add
 evens-long (suc j) n w h =
     let k : w < 2 ^ (j + n) = lt-of-lt-of-le h (pow-mono {i = n} {j = j + n} (omega arith)) in
     rw (suc-add j n, evens-more (j + n) w k) (evens-long j n w h)
 
-evens-lt : (m n w : ℕ) → n ≤ 2 * m → num (evens (bits n w)) < 2 ^ m
+pub evens-lt : (m n w : ℕ) → n ≤ 2 * m → num (evens (bits n w)) < 2 ^ m
 unfolding bits num
 evens-lt m zero w h = pow-pos m
 evens-lt zero (suc n) w h = absurd (omega arith)
@@ -69,7 +69,7 @@ evens-lt (suc m) (suc (suc n)) w h =
     let e = evens-lt m n (w / 2 / 2) (omega arith) in
     omega (arith, weight-le (odd w), pow-suc 2 m)
 
-odds-evens : (n w : ℕ) → odds (bits (suc n) w) ≡ evens (bits n (w / 2))
+pub odds-evens : (n w : ℕ) → odds (bits (suc n) w) ≡ evens (bits n (w / 2))
 unfolding bits
 odds-evens n w = refl
 

@@ -1,2 +1,4 @@
 pub mod Widened
 pub mod Reading
+pub mod Shapes
+pub mod Shaped

@@ -1,4 +1,6 @@
 // Constellations of 1 to 15 bits: one label to a point, one point to a label, without a search.
+pub mod points;
+
 ghost use mathlib.Core.Path.{_≡_};
 ghost use Prim.Native.Nat.{_+_, _*_, _/_, _%_, _^_, _<_, _≤_};
 ghost use lib.Bits.{bitXor};
@@ -8,6 +10,7 @@ ghost use Rattle.g9932.specs.Points.{pointOf, labelOf};
 ghost use Rattle.g9932.specs.Answers.{mapLabel, readPoint, mappedOf, labelledOf};
 ghost use Rattle.constellation.specs.Widened.{pairs as pairsOf, oddLabel, topFour, widened as widenedOf, xBits, yBits, woven, half as halfOf, axis as axisOf};
 ghost use Rattle.constellation.specs.Reading.{SoughtIs, Steps, Narrowed, ownLabel, topSix, inGrid};
+ghost use Rattle.constellation.specs.Shapes.{shapeList};
 use g9932::Labelled;
 use g9932::Mapped;
 use g9932::Place;
@@ -32,6 +35,30 @@ const THREE_GRID: u64 = 0x0011_1010_0101_1100;
 
 const ODD_GRID: u64 = 0x035f_30fa_5f0c_fac0;
 
+// The shapes of the bit counts 0 to 15: see specs/Shapes. A caller makes the table once and lends it to its loop.
+pub fn shape_table() -> [u16; 16]
+    ensures { λ r. ⌜ r ≡ shapeList ⌝ }
+{
+    [
+        0,
+        0x8140,
+        0x0140,
+        0x01c0,
+        0x0220,
+        0x02a0,
+        0x0410,
+        0x0490,
+        0x0808,
+        0x0888,
+        0x1004,
+        0x1084,
+        0x2002,
+        0x2082,
+        0x4001,
+        0x4081,
+    ]
+}
+
 // The coordinates of a point.
 pub struct Coordinates {
     pub x: i16,
@@ -51,8 +78,8 @@ fn pairs(b: u32) -> u32
     if b < 2 { 0 } else { b / 2 - 1 }
 }
 
-// The label of an odd bit count that has the same point.
-fn odd_label(b: u32, label: u32) -> u32
+// The label of an odd bit count that has the same point. Called by proved code only.
+pub fn odd_label(b: u32, label: u32) -> u32
     requires { ⌜ label < 32768 ⌝ }
     ensures { λ r. ⌜ r ≡ oddLabel b label ⌝ }
 {

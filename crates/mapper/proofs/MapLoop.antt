@@ -1,95 +1,107 @@
--- The mapper's loop: the points written and those still to write make the symbol.
+-- The mapper's two loops: the tones laid out and those still to lay make the symbol, and each point is that of its place.
 use mathlib.Core.Path.{_≡_, refl, sym, ap, _∙_}
 use mathlib.Core.Bool.{Bool}
-use mathlib.Core.List.{List, [], _∷_, _++_, map, append-assoc, append-nil}
-use Prim.Native.Nat.{ℕ, zero, suc, _+_, _*_, _≤_, _<_}
-use native.Mathlib.Numerals.{add-one}
+use mathlib.Core.List.{List, _∷_, map}
+use mathlib.Core.Logic.{⊎-elim}
+use Prim.Native.Nat.{ℕ, _+_, _*_, _≤_, _<_}
+use native.Mathlib.Nat.{add-zero, eq-or-lt-of-le}
 use native.Mathlib.Omega.{arith}
-use lib.IntN.{ℤ}
-use lib.ListN.{length, take, drop, getD, set, length-set, drop-of-length-le}
-use lib.Seq.{drop-drop, take-suc-set, take-all, append-snoc}
+use lib.IntN.{ℤ, pos}
+use lib.ListN.{length, drop, getD, set, length-set, length-map, drop-of-length-le, List·getD-map}
+use lib.Seq.{drop-drop, getD-drop, getD-set-same, getD-set-other, ext-getD}
+use Rattle.constellation.specs.Shaped.{StandsFor, shapedPoint}
 use Rattle.g9932.proofs.Packed.{length-unpack}
-use Rattle.g9932.proofs.Symbols.{loads}
-use Rattle.g9932.specs.Filler.{afterDraws, draws, registerAfter}
-use Rattle.g9932.specs.Sizes.{Point, point, entry, toneOf, unpack}
+use Rattle.g9932.proofs.Symbols.{loads, length-write}
+use Rattle.g9932.specs.Filler.{registerAfter}
+use Rattle.g9932.specs.Sizes.{Point, point, origin, entry, toneOf, unpack}
 use Rattle.g9932.specs.Symbol.{load, tonePoint, writePoints}
 use Rattle.g9932.specs.declared.Class.{Class}
 use Rattle.g9932.specs.declared.Class.the-variants.{Silent}
 use Rattle.g9932.specs.declared.Tone.{Tone}
-use Rattle.mapper.specs.Mapping.{classesBy, Carries, Maps, MapRoom, MapsAll}
-use Rattle.mapper.specs.declared.Mark.{Mark}
+use Rattle.mapper.specs.Mapping.{classesBy, Carries, Lays, LayRoom, LaysAll, PutRoom, PutsAll, MapRoom, MapsAll}
+use Rattle.mapper.specs.declared.Laid.{Laid}
 use Rattle.mapper.proofs.Tones.{length-classes, class-at, carries-at, drop-class, loads-drop}
 
--- one coordinate list: what is written up to i, and what the rest of the tones give
-abbrev ListSoFar : (Point → ℤ) → List Class → ℕ → List Bool → List ℤ → ℕ → ℕ → ℕ → Type 0
-ListSoFar f cs r d l at register i = take i l ++ map f (writePoints register (drop i cs) (drop at d)) ≡ map f (writePoints r cs d)
+-- ---- laying out
 
-pub record Going (cs : List Class) (r : ℕ) (d : List Bool) (xs ys : List ℤ) (at register i : ℕ) : Type 0 where
+pub record Laying (cs : List Class) (r : ℕ) (d : List Bool) (labels shapes : List ℕ) (at register i : ℕ) : Type 0 where
   pub inside : i ≤ length cs
-  pub xsLength : length xs ≡ length cs
-  pub ysLength : length ys ≡ length cs
+  pub labelsLength : length labels ≡ 4096
+  pub shapesLength : length shapes ≡ 4096
   pub room : at + loads (drop i cs) ≤ length d
-  pub xsSoFar : ListSoFar (λ p. p .px) cs r d xs at register i
-  pub ysSoFar : ListSoFar (λ p. p .py) cs r d ys at register i
+  pub soFar : (j : ℕ) → j < i → StandsFor (entry shapes j) (entry labels j) (getD (writePoints r cs d) j origin)
+  pub rest : drop i (writePoints r cs d) ≡ writePoints register (drop i cs) (drop at d)
   pub registerSoFar : registerAfter register (drop i cs) ≡ registerAfter r cs
 
-going-start : (cs : List Class) (r : ℕ) (d : List Bool) (xs ys : List ℤ) → length xs ≡ length cs → length ys ≡ length cs → loads cs ≤ length d
-    → Going cs r d xs ys 0 r 0
-going-start cs r d xs ys hx hy h =
-    record { inside = omega arith; xsLength = hx; ysLength = hy; room = omega arith; xsSoFar = refl; ysSoFar = refl; registerSoFar = refl }
-
-list-end : (f : Point → ℤ) (cs : List Class) (r : ℕ) (d : List Bool) (l : List ℤ) (at register i : ℕ) → length cs ≤ i → length l ≤ i
-    → ListSoFar f cs r d l at register i → l ≡ map f (writePoints r cs d)
-unfolding writePoints
-list-end f cs r d l at register i h k e =
-    sym (append-nil l) ∙ rw (take-all i l k, drop-of-length-le cs h) at e
-
-pub going-end : {cs : List Class} {r : ℕ} {d : List Bool} {xs ys : List ℤ} {at register i : ℕ} → Going cs r d xs ys at register i → length cs ≤ i
-    → MapsAll cs r d register xs ys
-unfolding registerAfter
-going-end {cs = cs} {r = r} {d = d} {xs = xs} {ys = ys} {at = at} {register = register} {i = i} g h =
+laying-start : (cs : List Class) (r : ℕ) (d : List Bool) (labels shapes : List ℕ) → length labels ≡ 4096 → length shapes ≡ 4096 → loads cs ≤ length d
+    → Laying cs r d labels shapes 0 r 0
+laying-start cs r d labels shapes hl hs h =
     record {
-      xsHold = list-end (λ p. p .px) cs r d xs at register i h (omega (arith, g .xsLength)) (g .xsSoFar);
-      ysHold = list-end (λ p. p .py) cs r d ys at register i h (omega (arith, g .ysLength)) (g .ysSoFar);
-      registerIs = rw (drop-of-length-le cs h) at (g .registerSoFar);
+      inside = omega arith;
+      labelsLength = hl;
+      shapesLength = hs;
+      room = omega arith;
+      soFar = λ j l. absurd (omega arith);
+      rest = refl;
+      registerSoFar = refl;
     }
 
--- one tone more
-module _ (cs : List Class) (r : ℕ) (d : List Bool) (at register i : ℕ) (m : Mark) (h : i < length cs) (maps : Maps (getD cs i Silent) register at d m) where
-  list-step : (f : Point → ℤ) (l : List ℤ) (v : ℤ) → length l ≡ length cs → f (point (m .x) (m .y)) ≡ v → ListSoFar f cs r d l at register i
-      → ListSoFar f cs r d (set l i v) (m .at) (m .register) (i + 1)
-  unfolding writePoints
-  list-step f l v n e so =
-      let c : Class = getD cs i Silent in
-      let k : i < length l = omega arith in
-      let w : v ≡ f (tonePoint register c (drop at d)) = sym e ∙ ap f (maps .pointIs) in
-      let s = rw (drop-class cs i h) at so in
-      rw (add-one, take-suc-set l i v k, append-assoc, maps .atIs, maps .registerIs, ← (drop-drop (load c) at d), w, ← (add-one i)) s
+pub laying-end : {cs : List Class} {r : ℕ} {d : List Bool} {labels shapes : List ℕ} {at register i : ℕ} → Laying cs r d labels shapes at register i
+    → length cs ≤ i → LaysAll cs r d register labels shapes
+unfolding registerAfter
+laying-end {cs = cs} {i = i} g h =
+    record { stand = λ j l. g .soFar j (omega arith); registerIs = rw (drop-of-length-le cs h) at (g .registerSoFar) }
 
-  going-step : (xs ys : List ℤ) → Going cs r d xs ys at register i → Going cs r d (set xs i (m .x)) (set ys i (m .y)) (m .at) (m .register) (i + 1)
+-- one tone more
+module _ (cs : List Class) (r : ℕ) (d : List Bool) (at register i : ℕ) (m : Laid) (h : i < length cs) (lays : Lays (getD cs i Silent) register at d m)
+    (labels shapes : List ℕ) (g : Laying cs r d labels shapes at register i) (small : i < 4096) where
+  abbrev c : Class
+  c = getD cs i Silent
+
+  -- the points from here on: that of this tone, and those of the tones after it
+  points-here : drop i (writePoints r cs d) ≡ tonePoint register c (drop at d) ∷ writePoints (m .register) (drop (i + 1) cs) (drop (m .at) d)
+  unfolding writePoints
+  points-here = rw (lays .atIs, lays .registerIs, ← (drop-drop (load c) at d)) (rw (drop-class cs i h) at (g .rest))
+
+  point-here : getD (writePoints r cs d) i origin ≡ tonePoint register c (drop at d)
+  point-here = rw (add-zero i, points-here) at (sym (getD-drop i (writePoints r cs d) 0 origin))
+
+  so-far : (j : ℕ) → j < i + 1 → StandsFor (entry (set shapes i (m .shape)) j) (entry (set labels i (m .label)) j) (getD (writePoints r cs d) j origin)
+  so-far j l = ⊎-elim here before (eq-or-lt-of-le (omega arith))
+    where
+      here : j ≡ i → StandsFor (entry (set shapes i (m .shape)) j) (entry (set labels i (m .label)) j) (getD (writePoints r cs d) j origin)
+      here e =
+          let a = getD-set-same shapes i (m .shape) 0 (omega (arith, g .shapesLength)) in
+          let b = getD-set-same labels i (m .label) 0 (omega (arith, g .labelsLength)) in
+          rw (e, a, b, point-here) (lays .stands)
+
+      before : j < i → StandsFor (entry (set shapes i (m .shape)) j) (entry (set labels i (m .label)) j) (getD (writePoints r cs d) j origin)
+      before k =
+          let n : (j ≡ i → ⊥) = λ e. absurd (omega arith) in
+          rw (getD-set-other shapes i j (m .shape) 0 n, getD-set-other labels i j (m .label) 0 n) (g .soFar j k)
+
+  laying-step : Laying cs r d (set labels i (m .label)) (set shapes i (m .shape)) (m .at) (m .register) (i + 1)
   unfolding registerAfter
-  going-step xs ys g =
+  laying-step =
       record {
         inside = omega arith;
-        xsLength = length-set xs i (m .x) ∙ g .xsLength;
-        ysLength = length-set ys i (m .y) ∙ g .ysLength;
-        room = rw (maps .atIs) (omega (arith, g .room, loads-drop cs i h));
-        xsSoFar = list-step (λ p. p .px) xs (m .x) (g .xsLength) refl (g .xsSoFar);
-        ysSoFar = list-step (λ p. p .py) ys (m .y) (g .ysLength) refl (g .ysSoFar);
-        registerSoFar = rw (maps .registerIs) (rw (drop-class cs i h) at (g .registerSoFar));
+        labelsLength = length-set labels i (m .label) ∙ g .labelsLength;
+        shapesLength = length-set shapes i (m .shape) ∙ g .shapesLength;
+        room = rw (lays .atIs) (omega (arith, g .room, loads-drop cs i h));
+        soFar = so-far;
+        rest = sym (drop-drop 1 i (writePoints r cs d)) ∙ ap (λ (l : List Point). drop 1 l) points-here;
+        registerSoFar = rw (lays .registerIs) (rw (drop-class cs i h) at (g .registerSoFar));
       }
 
 -- ---- as the code has it: the classes of t', the bits of a packed source, and the tone t at place i
-module _ (b g order source : List ℕ) (xs ys : List ℤ) (room : MapRoom b g order source xs ys) where
+module _ (b g order source labels₀ shapes₀ : List ℕ) (room : LayRoom b g order source labels₀ shapes₀) where
   bits-there : length (unpack source) ≡ 8 * length source
   bits-there = length-unpack source
 
-  pub map-start : (r : ℕ) → Going (classesBy b g order) r (unpack source) xs ys 0 r 0
-  map-start r =
-      let n = length-classes b g order in
-      going-start (classesBy b g order) r (unpack source) xs ys (room .xsLength ∙ sym n) (room .ysLength ∙ sym n) (omega (arith, room .bits, bits-there))
+  pub lay-start : (r : ℕ) → Laying (classesBy b g order) r (unpack source) labels₀ shapes₀ 0 r 0
+  lay-start r = laying-start (classesBy b g order) r (unpack source) labels₀ shapes₀ (room .labelsLength) (room .shapesLength) (omega (arith, room .bits, bits-there))
 
-  module _ (r : ℕ) (xsNow ysNow : List ℤ) (at register i : ℕ) (going : Going (classesBy b g order) r (unpack source) xsNow ysNow at register i) (t : Tone)
+  module _ (r : ℕ) (labels shapes : List ℕ) (at register i : ℕ) (going : Laying (classesBy b g order) r (unpack source) labels shapes at register i) (t : Tone)
       (h : i < length order) (is : t ≡ toneOf (entry b (entry order i)) (entry g (entry order i))) where
     class-is : t .class ≡ getD (classesBy b g order) i Silent
     class-is = ap (λ (t : Tone). t .class) is ∙ sym (class-at b g order i h)
@@ -102,10 +114,71 @@ module _ (b g order source : List ℕ) (xs ys : List ℤ) (room : MapRoom b g or
           room .sourceMost,
         )
 
-    pub map-step : (m : Mark) → Maps (t .class) register at (unpack source) m
-        → Going (classesBy b g order) r (unpack source) (set xsNow i (m .x)) (set ysNow i (m .y)) (m .at) (m .register) (i + 1)
-    map-step m maps =
-        going-step (classesBy b g order) r (unpack source) at register i m (rw (length-classes b g order) h) (rw class-is at maps) xsNow ysNow going
+    pub lay-step : (m : Laid) → Lays (t .class) register at (unpack source) m
+        → Laying (classesBy b g order) r (unpack source) (set labels i (m .label)) (set shapes i (m .shape)) (m .at) (m .register) (i + 1)
+    lay-step m lays =
+        laying-step (classesBy b g order) r (unpack source) at register i m (rw (length-classes b g order) h) (rw class-is at lays) labels shapes going
+        (omega (arith, room .orderMost))
 
-    pub map-length : (length xsNow ≡ length order) × (length ysNow ≡ length order)
-    map-length = let n = length-classes b g order in (going .xsLength ∙ n, going .ysLength ∙ n)
+-- ---- the points of what is laid out
+
+pub record Putting (labels shapes : List ℕ) (n : ℕ) (xs ys : List ℤ) (i : ℕ) : Type 0 where
+  pub xsLength : length xs ≡ n
+  pub ysLength : length ys ≡ n
+  pub soFar : (j : ℕ) → j < i → point (getD xs j (pos 0)) (getD ys j (pos 0)) ≡ shapedPoint (entry shapes j) (entry labels j)
+
+pub put-start : (labels shapes : List ℕ) (xs ys : List ℤ) → length ys ≡ length xs → Putting labels shapes (length xs) xs ys 0
+put-start labels shapes xs ys h = record { xsLength = refl; ysLength = h; soFar = λ j l. absurd (omega arith) }
+
+pub put-end : {labels shapes : List ℕ} {n i : ℕ} {xs ys : List ℤ} → Putting labels shapes n xs ys i → n ≤ i → PutsAll labels shapes xs ys
+put-end g h = record { points = λ j l. g .soFar j (omega (arith, g .xsLength)) }
+
+module _ (labels shapes : List ℕ) (n : ℕ) (xs ys : List ℤ) (i : ℕ) (g : Putting labels shapes n xs ys i) (h : i < n) (x y : ℤ)
+    (is : point x y ≡ shapedPoint (entry shapes i) (entry labels i)) where
+  put-so-far : (j : ℕ) → j < i + 1 → point (getD (set xs i x) j (pos 0)) (getD (set ys i y) j (pos 0)) ≡ shapedPoint (entry shapes j) (entry labels j)
+  put-so-far j l = ⊎-elim here before (eq-or-lt-of-le (omega arith))
+    where
+      here : j ≡ i → point (getD (set xs i x) j (pos 0)) (getD (set ys i y) j (pos 0)) ≡ shapedPoint (entry shapes j) (entry labels j)
+      here e =
+          let a = getD-set-same xs i x (pos 0) (omega (arith, g .xsLength)) in
+          let b = getD-set-same ys i y (pos 0) (omega (arith, g .ysLength)) in
+          rw (e, a, b) is
+
+      before : j < i → point (getD (set xs i x) j (pos 0)) (getD (set ys i y) j (pos 0)) ≡ shapedPoint (entry shapes j) (entry labels j)
+      before k =
+          let n : (j ≡ i → ⊥) = λ e. absurd (omega arith) in
+          rw (getD-set-other xs i j x (pos 0) n, getD-set-other ys i j y (pos 0) n) (g .soFar j k)
+
+  pub put-step : Putting labels shapes n (set xs i x) (set ys i y) (i + 1)
+  put-step = record { xsLength = length-set xs i x ∙ g .xsLength; ysLength = length-set ys i y ∙ g .ysLength; soFar = put-so-far }
+
+-- ---- one after the other
+
+pub put-room : (b g order source : List ℕ) (xs ys : List ℤ) (r : ℕ) (d : List Bool) (after : ℕ) (labels shapes : List ℕ) → MapRoom b g order source xs ys
+    → LaysAll (classesBy b g order) r d after labels shapes → PutRoom labels shapes xs ys
+put-room b g order source xs ys r d after labels shapes room laid =
+    let n = length-classes b g order in
+    record {
+      most = omega (arith, room .xsLength, room .orderMost);
+      same = room .ysLength ∙ sym (room .xsLength);
+      shaped = λ i l. laid .stand i (omega (arith, room .xsLength)) .shaped;
+    }
+
+module _ (cs : List Class) (r : ℕ) (d : List Bool) (after : ℕ) (labels shapes : List ℕ) (laid : LaysAll cs r d after labels shapes)
+    (xs ys : List ℤ) (put : PutsAll labels shapes xs ys) (xsLength : length xs ≡ length cs) (ysLength : length ys ≡ length cs) where
+  list-is : (f : Point → ℤ) (l : List ℤ) → f origin ≡ pos 0 → length l ≡ length cs
+      → ((i : ℕ) → getD l i (pos 0) ≡ f (point (getD xs i (pos 0)) (getD ys i (pos 0)))) → l ≡ map f (writePoints r cs d)
+  list-is f l z n e =
+      ext-getD (pos 0) l (map f (writePoints r cs d)) (n ∙ sym (length-map (writePoints r cs d) f ∙ length-write r cs d)) at-place
+    where
+      at-place : (i : ℕ) → i < length l → getD l i (pos 0) ≡ getD (map f (writePoints r cs d)) i (pos 0)
+      at-place i h =
+          e i ∙ ap f (put .points i (omega arith) ∙ laid .stand i (omega arith) .pointIs) ∙ sym (rw z at (List·getD-map f (writePoints r cs d) i origin))
+
+  pub maps-all : MapsAll cs r d after xs ys
+  maps-all =
+      record {
+        xsHold = list-is (λ p. p .px) xs refl xsLength (λ i. refl);
+        ysHold = list-is (λ p. p .py) ys refl ysLength (λ i. refl);
+        registerIs = laid .registerIs;
+      }

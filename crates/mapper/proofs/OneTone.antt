@@ -4,13 +4,21 @@ use mathlib.Core.Bool.{Bool, true, false, _&&_, true≢false, false≢true}
 use mathlib.Core.List.{List}
 use mathlib.Core.Option.{Option, some}
 use mathlib.Core.Path.{_≡_, refl, sym, ap, _∙_}
+use native.Mathlib.Nat.{lt-of-lt-of-le}
 use native.Mathlib.Omega.{arith}
 use borrow.Author.Tests.{eq-eqb, ne-eqb, eqb-true, eqb-false}
 use lib.Dec.{eqb}
-use lib.ListN.{length, take, drop, length-drop}
+use lib.ListN.{length, take, drop, getD, length-drop}
+use lib.Pow.{pow-mono}
 use lib.Seq.{length-take-le}
 use Rattle.constellation.specs.Reading.{SoughtIs}
+use Rattle.constellation.specs.Shaped.{StandsFor}
+use Rattle.constellation.specs.Shapes.{shapeList}
+use Rattle.constellation.specs.Widened.{pairs, oddLabel}
 use Rattle.constellation.specs.declared.Sought.{Sought}
+use Rattle.constellation.proofs.Shaped.{label-stands}
+use Rattle.constellation.proofs.Shapes.{shape-at}
+use Rattle.constellation.proofs.Sizes.{label-lt, label-16}
 use Rattle.g9932.proofs.Constellations.{samePoint-self, point-inj}
 use Rattle.g9932.proofs.Labels.{label-point, label-back}
 use Rattle.g9932.proofs.Packed.{length-unpack}
@@ -33,6 +41,24 @@ label-at source at b label h e =
 
 pub filler-at : (r label : ℕ) → label ≡ num (drawn 2 r) → (bits 2 label ≡ drawn 2 r) × (label < 2 ^ 2)
 filler-at r label e = (rw e (bits-num (drawn 2 r)), rw e (num-lt (drawn 2 r)))
+
+-- a table of shapes, a bit count, and the label got for it stand for the tone's point
+module _ (source table : List ℕ) (at b got : ℕ) (h : 1 ≤ b) (k : b ≤ 15) (room : at + b ≤ 8 * length source) (is : got ≡ num (take b (drop at (unpack source)))) where
+  pub got-small : got < 32768
+  got-small = lt-of-lt-of-le (label-at source at b got room is .1) (pow-mono {i = b} {j = 15} k)
+
+  pub odd-small : oddLabel b got < 32768
+  odd-small = label-16 (pairs b) (oddLabel b got) (omega arith) (label-lt b got h (label-at source at b got room is .1))
+
+  pub data-stands : (label : ℕ) → table ≡ shapeList → label ≡ oddLabel b got → StandsFor (getD table b 0) label (pointOf b (take b (drop at (unpack source))))
+  data-stands label t e =
+      let a = label-at source at b got room is in
+      rw (t, shape-at b h k, e, ← (a .0)) (label-stands b got h k (a .1))
+
+pub filler-stands : (table : List ℕ) (r label : ℕ) → table ≡ shapeList → label ≡ num (drawn 2 r) → StandsFor (getD table 2 0) label (pointOf 2 (drawn 2 r))
+filler-stands table r label t e =
+    let a = filler-at r label e in
+    rw (t, ← (a .0)) (label-stands 2 label (omega arith) (omega arith) (a .1))
 
 -- ---- reading
 

@@ -3,16 +3,17 @@ use Prim.Native.Nat.{ℕ, _+_, _*_, _≤_, _<_}
 use mathlib.Core.Bool.{Bool}
 use mathlib.Core.List.{List, map}
 use mathlib.Core.Path.{_≡_}
-use lib.IntN.{ℤ}
-use lib.ListN.{length, drop}
+use lib.IntN.{ℤ, pos}
+use lib.ListN.{length, drop, getD}
+use Rattle.constellation.specs.Shaped.{Shaped, StandsFor, shapedPoint}
 use Rattle.g9932.proofs.Symbols.{loads}
-use Rattle.g9932.specs.Sizes.{entry, toneOf, Point, point, unpack}
+use Rattle.g9932.specs.Sizes.{entry, toneOf, point, origin}
 use Rattle.g9932.specs.Filler.{drawn, afterDraws, draws, registerAfter}
 use Rattle.g9932.specs.Points.{pointOf}
 use Rattle.g9932.specs.Symbol.{load, tonePoint, writePoints}
 use Rattle.g9932.specs.declared.Class.{Class}
 use Rattle.g9932.specs.declared.Class.the-variants.{Data, Monitored, Silent}
-use Rattle.mapper.specs.declared.Mark.{Mark}
+use Rattle.mapper.specs.declared.Laid.{Laid}
 
 -- the classes of a list of tones
 abbrev pub classesBy : List ℕ → List ℕ → List ℕ → List Class
@@ -24,18 +25,42 @@ Carries (Data n) = (1 ≤ n) × (n ≤ 15)
 Carries Monitored = Unit {0}
 Carries Silent = Unit {0}
 
--- ---- one tone
+-- ---- one tone laid out
 
-pub record Maps (c : Class) (r at : ℕ) (d : List Bool) (m : Mark) : Type 0 where
-  pub pointIs : point (m .x) (m .y) ≡ tonePoint r c (drop at d)
+pub record Lays (c : Class) (r at : ℕ) (d : List Bool) (m : Laid) : Type 0 where
+  pub stands : StandsFor (m .shape) (m .label) (tonePoint r c (drop at d))
   pub atIs : m .at ≡ at + load c
   pub registerIs : m .register ≡ afterDraws (draws c) r
 
 -- a monitored tone, whatever bits are left
-pub record MapsFiller (r at : ℕ) (m : Mark) : Type 0 where
-  pub pointIs : point (m .x) (m .y) ≡ pointOf 2 (drawn 2 r)
+pub record LaysFiller (r at : ℕ) (m : Laid) : Type 0 where
+  pub stands : StandsFor (m .shape) (m .label) (pointOf 2 (drawn 2 r))
   pub atIs : m .at ≡ at
   pub registerIs : m .register ≡ afterDraws 2 r
+
+-- ---- all tones laid out
+
+pub record LayRoom (b g order source labels shapes : List ℕ) : Type 0 where
+  pub bitsMost : (k : ℕ) → entry b k ≤ 15
+  pub orderMost : length order ≤ 4096
+  pub sourceMost : length source ≤ 7688
+  pub bits : loads (classesBy b g order) ≤ 8 * length source
+  pub labelsLength : length labels ≡ 4096
+  pub shapesLength : length shapes ≡ 4096
+
+pub record LaysAll (cs : List Class) (r : ℕ) (d : List Bool) (after : ℕ) (labels shapes : List ℕ) : Type 0 where
+  pub stand : (i : ℕ) → i < length cs → StandsFor (entry shapes i) (entry labels i) (getD (writePoints r cs d) i origin)
+  pub registerIs : after ≡ registerAfter r cs
+
+-- ---- the points of tones laid out
+
+pub record PutRoom (labels shapes : List ℕ) (xs ys : List ℤ) : Type 0 where
+  pub most : length xs ≤ 4096
+  pub same : length ys ≡ length xs
+  pub shaped : (i : ℕ) → i < length xs → Shaped (entry shapes i) (entry labels i)
+
+pub record PutsAll (labels shapes : List ℕ) (xs ys : List ℤ) : Type 0 where
+  pub points : (i : ℕ) → i < length xs → point (getD xs i (pos 0)) (getD ys i (pos 0)) ≡ shapedPoint (entry shapes i) (entry labels i)
 
 -- ---- all tones
 

@@ -2,67 +2,121 @@
 pub mod read;
 
 ghost use mathlib.Core.Path.{_≡_};
-ghost use Prim.Native.Nat.{ℕ, _+_, _*_, _≤_};
+ghost use Prim.Native.Nat.{_+_, _*_, _≤_};
 ghost use lib.ListN.{length};
+ghost use Rattle.constellation.specs.Shapes.{shapeList};
 ghost use Rattle.g9932.specs.Sizes.{unpack};
 ghost use Rattle.g9932.specs.Symbol.{load};
-ghost use Rattle.mapper.specs.Mapping.{classesBy, Carries, Maps, MapsFiller, MapRoom, MapsAll};
+ghost use Rattle.mapper.specs.Mapping.{classesBy, Carries, Lays, LaysFiller, LayRoom, LaysAll, PutRoom, PutsAll, MapRoom, MapsAll};
 use g9932::Class;
 use g9932::Place;
 use g9932::Tone;
 
-// A tone mapped: its point, the next sent bit and the register after it.
-pub struct Mark {
-    pub x: i16,
-    pub y: i16,
+// A tone laid out: its odd label and the shape of its bit count, the next sent bit and the register after it.
+pub struct Laid {
+    pub label: u16,
+    pub shape: u16,
     pub at: usize,
     pub register: u32,
 }
 
-// Maps a data tone: the bits from bit `at` of the source are its label.
-fn map_data(b: u8, source: &[u8], at: usize, register: u32) -> Mark
-    requires { ⌜ (1 ≤ b) × (b ≤ 15) × (at + b ≤ 8 * length (now source)) × (length (now source) ≤ 7688) ⌝ }
-    ensures { λ r. ⌜ Maps (Class.Data b) register at (unpack (now (source .entry))) r ⌝ }
+// Lays out a data tone: the bits from bit `at` of the source are its label.
+fn lay_data(b: u8, shapes: &[u16; 16], source: &[u8], at: usize, register: u32) -> Laid
+    requires { ⌜ (1 ≤ b) × (b ≤ 15) × (at + b ≤ 8 * length (now source)) × (length (now source) ≤ 7688) × (now shapes ≡ shapeList) ⌝ }
+    ensures { λ r. ⌜ Lays (Class.Data b) register at (unpack (now (source .entry))) r ⌝ }
 {
     let n = b as usize;
-    let p = constellation::point_of(b as u32, frame::get(source, at, n));
-    Mark {
-        x: p.x,
-        y: p.y,
+    let label = constellation::odd_label(b as u32, frame::get(source, at, n)) as u16;
+    Laid {
+        label,
+        shape: shapes[n],
         at: at + n,
         register,
     }
 }
 
-// Maps a monitored tone: its label is the next two filler bits.
-fn map_filler(at: usize, register: u32) -> Mark
-    ensures { λ r. ⌜ MapsFiller register at r ⌝ }
+// Lays out a monitored tone: its label is the next two filler bits.
+fn lay_filler(shapes: &[u16; 16], at: usize, register: u32) -> Laid
+    requires { ⌜ now shapes ≡ shapeList ⌝ }
+    ensures { λ r. ⌜ LaysFiller register at r ⌝ }
 {
     let f = prbs::filler_label(register);
-    let p = constellation::point_of(2, f.label);
-    Mark {
-        x: p.x,
-        y: p.y,
+    let label = f.label as u16;
+    Laid {
+        label,
+        shape: shapes[2],
         at,
         register: f.register,
     }
 }
 
-// Maps a tone.
-fn map_tone(tone: Tone, source: &[u8], at: usize, register: u32) -> Mark
-    requires { ⌜ Carries (tone .class) × (at + load (tone .class) ≤ 8 * length (now source)) × (length (now source) ≤ 7688) ⌝ }
-    ensures { λ r. ⌜ Maps (tone .class) register at (unpack (now (source .entry))) r ⌝ }
+// Lays out a tone.
+fn lay(tone: Tone, shapes: &[u16; 16], source: &[u8], at: usize, register: u32) -> Laid
+    requires { ⌜ Carries (tone .class) × (at + load (tone .class) ≤ 8 * length (now source)) × (length (now source) ≤ 7688) × (now shapes ≡ shapeList) ⌝ }
+    ensures { λ r. ⌜ Lays (tone .class) register at (unpack (now (source .entry))) r ⌝ }
 {
     let class = tone.class;
     match class {
-        Class::Data(b) => map_data(b, source, at, register),
-        Class::Monitored => map_filler(at, register),
-        Class::Silent => Mark {
-            x: 0,
-            y: 0,
+        Class::Data(b) => lay_data(b, shapes, source, at, register),
+        Class::Monitored => lay_filler(shapes, at, register),
+        Class::Silent => Laid {
+            label: 0,
+            shape: 0,
             at,
             register,
         },
+    }
+}
+
+// Lays out all tones of t', from the bits of a packed source, and answers the register after the draws.
+fn lay_all(
+    bits: &[u8],
+    gains: &[u16],
+    order: &[u16],
+    source: &[u8],
+    register: u32,
+    labels: &mut [u16; 4096],
+    shapes: &mut [u16; 4096],
+) -> u32
+    requires { ⌜ LayRoom (now bits) (now gains) (now order) (now source) (now labels) (now shapes) ⌝ }
+    ensures { λ r. ⌜ LaysAll (classesBy (now (bits .entry)) (now (gains .entry)) (now (order .entry))) register (unpack (now (source .entry))) r (now (labels .exit)) (now (shapes .exit)) ⌝ }
+{
+    let table = constellation::shape_table();
+    let mut at: usize = 0;
+    let mut next = register;
+    let mut i = 0;
+    while i < order.len() {
+        let m = lay(
+            tables::tone_of_place(bits, gains, order, Place(i)),
+            &table,
+            source,
+            at,
+            next,
+        );
+        let label = m.label;
+        let shape = m.shape;
+        labels[i] = label;
+        shapes[i] = shape;
+        at = m.at;
+        next = m.register;
+        i += 1;
+    }
+    next
+}
+
+// The points of tones laid out. The steps are the same at every place: the compiler takes several places at a time.
+fn put_points(labels: &[u16; 4096], shapes: &[u16; 4096], xs: &mut [i16], ys: &mut [i16])
+    requires { ⌜ PutRoom (now labels) (now shapes) (now xs) (now ys) ⌝ }
+    ensures { λ r. ⌜ PutsAll (now (labels .entry)) (now (shapes .entry)) (now (xs .exit)) (now (ys .exit)) ⌝ }
+{
+    let mut i = 0;
+    while i < xs.len() {
+        let p = constellation::points::point_by(shapes[i], labels[i]);
+        let x = p.x;
+        let y = p.y;
+        xs[i] = x;
+        ys[i] = y;
+        i += 1;
     }
 }
 
@@ -79,23 +133,17 @@ pub fn map_tones(
     requires { ⌜ MapRoom (now bits) (now gains) (now order) (now source) (now xs) (now ys) ⌝ }
     ensures { λ r. ⌜ MapsAll (classesBy (now (bits .entry)) (now (gains .entry)) (now (order .entry))) register (unpack (now (source .entry))) r (now (xs .exit)) (now (ys .exit)) ⌝ }
 {
-    let mut at: usize = 0;
-    let mut next = register;
-    let mut i = 0;
-    while i < order.len() {
-        let m = map_tone(
-            tables::tone_of_place(bits, gains, order, Place(i)),
-            source,
-            at,
-            next,
-        );
-        let x = m.x;
-        let y = m.y;
-        xs[i] = x;
-        ys[i] = y;
-        at = m.at;
-        next = m.register;
-        i += 1;
-    }
-    next
+    let mut labels = [0u16; 4096];
+    let mut shapes = [0u16; 4096];
+    let after = lay_all(
+        bits,
+        gains,
+        order,
+        source,
+        register,
+        &mut labels,
+        &mut shapes,
+    );
+    put_points(&labels, &shapes, xs, ys);
+    after
 }
