@@ -7,3 +7,7 @@ pub mod Signed
 pub mod Grid
 pub mod Reading
 pub mod Shapes
+pub mod Origin
+pub mod Spread
+pub mod TopBits
+pub mod ByShape

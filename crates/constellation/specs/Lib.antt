@@ -1,3 +1,4 @@
 pub mod Widened
 pub mod Reading
 pub mod Shapes
+pub mod Labels

@@ -1,5 +1,4 @@
 pub mod Tones
-pub mod Origin
 pub mod OneTone
 pub mod MapLoop
 pub mod ReadLoop

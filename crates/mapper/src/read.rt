@@ -1,10 +1,9 @@
 // Points back to sent bits.
 ghost use mathlib.Core.Path.{_≡_};
 ghost use mathlib.Core.Bool.{not};
-ghost use Prim.Native.Nat.{ℕ, _≤_};
+ghost use Prim.Native.Nat.{_≤_};
 ghost use Rattle.g9932.specs.Bits.{orAt};
-ghost use Rattle.g9932.specs.Points.{samePoint};
-ghost use Rattle.g9932.specs.Sizes.{point, origin, points};
+ghost use Rattle.g9932.specs.Sizes.{point, points};
 ghost use Rattle.mapper.specs.Mapping.{classesBy, Carries};
 ghost use Rattle.mapper.specs.Reading.{ReadsTone, ReadRoom, ReadsAll};
 use frame::BitWriter;
@@ -52,19 +51,6 @@ fn read_filler(x: i16, y: i16, register: u32) -> ToneRead
     }
 }
 
-// Whether a point is (0, 0).
-fn is_origin(x: i16, y: i16) -> bool
-    ensures { λ r. ⌜ r ≡ samePoint (point x y) origin ⌝ }
-{
-    if x != 0 {
-        return false;
-    }
-    if y != 0 {
-        return false;
-    }
-    true
-}
-
 // Reads a tone.
 fn read_tone(tone: Tone, x: i16, y: i16, register: u32) -> ToneRead
     requires { ⌜ Carries (tone .class) ⌝ }
@@ -75,7 +61,7 @@ fn read_tone(tone: Tone, x: i16, y: i16, register: u32) -> ToneRead
         Class::Data(b) => read_data(b, x, y, register),
         Class::Monitored => read_filler(x, y, register),
         Class::Silent => ToneRead {
-            on: is_origin(x, y),
+            on: constellation::labels::is_origin(x, y),
             filler: true,
             bits: 0,
             label: 0,
