@@ -242,14 +242,14 @@ fn gather(
     let mut next = register;
     let mut i = 0;
     while i < order.len() {
-        let t = tell_tone(
+        let told = tell_tone(
             tables::tone_of_place(bits, gains, order, Place(i)),
             labels[i],
             next,
         );
-        writer = writer.put(sent, t.bits, t.label);
-        monitor = or_here(monitor, t.filler, i);
-        next = t.register;
+        writer = writer.put(sent, told.bits, told.label);
+        monitor = or_here(monitor, told.filler, i);
+        next = told.register;
         i += 1;
     }
     TonesRead {
