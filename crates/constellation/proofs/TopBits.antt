@@ -47,11 +47,11 @@ low s = bitXor (yNext s) (bitAnd (yOuter s) (bitXor (bitXor (xNext s) (yNext s))
 abbrev three : ℕ → ℕ
 three s = bitOr (outer s * 4 % 65536) (bitOr (high s * 2 % 65536) (low s))
 
-abbrev xBelow : ℕ → ℕ → ℕ
-xBelow shape s = cond (eqb (shape / 256 % 128) 1) (yNext s) (bitXor (s / 2 % 2) 1)
+abbrev xNear : ℕ → ℕ → ℕ
+xNear shape s = cond (eqb (shape / 256 % 128) 1) (yNext s) (bitXor (s / 2 % 2) 1)
 
-abbrev yBelow : ℕ → ℕ → ℕ
-yBelow shape s = cond (eqb (shape / 256 % 128) 1) (bitXor (xNext s) 1) (bitXor (s % 2) 1)
+abbrev yNear : ℕ → ℕ → ℕ
+yNear shape s = cond (eqb (shape / 256 % 128) 1) (bitXor (xNext s) 1) (bitXor (s % 2) 1)
 
 -- 0 where the constellation has such a word
 abbrev off : ℕ → ℕ → ℕ → ℕ → ℕ
@@ -77,7 +77,7 @@ three-back = rule (λ q. three (4 * topFour q)) (λ q. q / 4) 32 refl
 -- ---- the grid: every bit count from 1, and every top six that a word can have
 
 abbrev grid : ℕ → ℕ → Bool
-grid b s = eqb (off (shapeOf b) s (xBelow (shapeOf b) s) (yBelow (shapeOf b) s)) 0
+grid b s = eqb (off (shapeOf b) s (xNear (shapeOf b) s) (yNear (shapeOf b) s)) 0
 
 -- words of up to three bits have two zeros there
 abbrev sixAt : ℕ → ℕ → ℕ
@@ -104,7 +104,7 @@ grid-is (suc j) s l m h z =
     at true e = let k = z (ltb-true (suc j) 4 e) in rw e (omega arith)
     at false e = rw e
 
-pub tops-law : (shape s x y : ℕ) → s < 64 → x ≡ xBelow shape s → y ≡ yBelow shape s → TopsBy shape s (eqb (off shape s x y) 0) (three s)
+pub tops-law : (shape s x y : ℕ) → s < 64 → x ≡ xNear shape s → y ≡ yNear shape s → TopsBy shape s (eqb (off shape s x y) 0) (three s)
 tops-law shape s x y h ex ey =
     record {
       few = three-few s h;

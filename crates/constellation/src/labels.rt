@@ -1,4 +1,5 @@
-// Labels of points, in numbers of sixteen bits and with no branch: a loop over many points takes eight at a time.
+// Labels of points by a tone's shape (specs/Shapes), in numbers of sixteen bits and with no branch: a loop over many points takes eight at a
+// time.
 ghost use mathlib.Core.Path.{_≡_};
 ghost use mathlib.Core.Bool.{cond};
 ghost use Prim.Native.Nat.{_*_, _<_};
@@ -52,7 +53,7 @@ fn raised(z: i16) -> u16
     (z as i32 + 32768) as u16
 }
 
-// The bits of a coordinate whose sign bit has the weight 4 · m.
+// The bits of a coordinate whose sign bit has the weight 4 · m. On the axis only 16,384 stands above them, and the coordinate is odd.
 fn axis_bits(m: u16, z: i16) -> AxisBits
     requires { ⌜ Power m ⌝ }
     ensures { λ r. ⌜ OnAxis (4 * m) z (r .bits) (r .on) ⌝ }
@@ -76,7 +77,7 @@ fn apart8(e: u16) -> u16
     (twos | (twos << 1)) & 0x5555
 }
 
-// The word of the bits of X and Y, moved up to sixteen bits.
+// The word of the bits of X and Y, moved up to sixteen bits: c has the weight that moves each half.
 fn word_of(c: u16, x: u16, y: u16) -> u16
     requires { ⌜ (x * c < 256) × (y * c < 256) ⌝ }
     ensures { λ r. ⌜ WordUp c x y r ⌝ }
@@ -84,33 +85,36 @@ fn word_of(c: u16, x: u16, y: u16) -> u16
     2 * apart8(x * c) + apart8(y * c)
 }
 
-// The top bits by Table 10-3 read back: X and Y have each two top bits, and a coordinate whose two are alike is an outer one.
+// The top three bits of a label, and the grid, by the top six bits of its word: the sign bits of X and Y, complemented, and two more bits of
+// each in turn. A coordinate whose first two are alike is an outer one. An odd b from 3 has the inner half of the outer columns and rows,
+// without corners; with no pairs, a bit of the other coordinate tells the half.
 fn top_of(shape: u16, six: u16) -> TopBits
     requires { ⌜ six < 64 ⌝ }
     ensures { λ r. ⌜ TopsBy shape six (r .on) (r .three) ⌝ }
 {
-    let xs = six / 32;
-    let ys = six / 16 % 2;
+    let x_sign = six / 32;
+    let y_sign = six / 16 % 2;
     let xd = six / 8 % 2;
     let yd = six / 4 % 2;
-    let small = shape / 256 % 128 == 1;
-    let x_below = pick(small, yd, (six / 2 % 2) ^ 1);
-    let y_below = pick(small, xd ^ 1, (six % 2) ^ 1);
-    let x_outer = (xs ^ xd) ^ 1;
-    let y_outer = (ys ^ yd) ^ 1;
+    let no_pairs = shape / 256 % 128 == 1;
+    let x_near = pick(no_pairs, yd, (six / 2 % 2) ^ 1);
+    let y_near = pick(no_pairs, xd ^ 1, (six % 2) ^ 1);
+    let x_outer = (x_sign ^ xd) ^ 1;
+    let y_outer = (y_sign ^ yd) ^ 1;
     let outer = x_outer | y_outer;
     let high = xd ^ (x_outer & (xd ^ yd));
     let low = yd ^ (y_outer & ((xd ^ yd) ^ 1));
-    let no_outer = outer & ((shape / 128 % 2) ^ 1);
-    let not_alike = (shape / 32768) & (high ^ low);
-    let misplaced = (x_outer & (x_below ^ xs)) | (y_outer & (y_below ^ ys));
+    let far = (x_outer & (x_near ^ x_sign)) | (y_outer & (y_near ^ y_sign));
+    let corner = x_outer & y_outer;
+    let not_odd = outer & ((shape / 128 % 2) ^ 1);
+    let not_one = (shape / 32768) & (high ^ low);
     TopBits {
-        on: (misplaced | (x_outer & y_outer)) | (no_outer | not_alike) == 0,
+        on: (far | corner) | (not_odd | not_one) == 0,
         three: (outer << 2) | ((high << 1) | low),
     }
 }
 
-// The label of these top bits and of the plain bits of a word: m · m is the weight of the top bits.
+// The label of these top bits and of the plain bits of a word moved up: m · m is the weight of the top bits.
 fn label_below(m: u16, three: u16, word: u16) -> u16
     requires { ⌜ Power m × (three < 8) ⌝ }
     ensures { λ r. ⌜ LabelDown m three word r ⌝ }
@@ -119,7 +123,7 @@ fn label_below(m: u16, three: u16, word: u16) -> u16
     ((lifted as u32 * (8 * (m * m)) as u32) >> 16) as u16
 }
 
-// Whether a tone of a shape can have a point, and its label. Called by proved code only.
+// Whether a tone of a shape can have a point, and the point's label. A silent tone's has both of the bits 7 and 15. Called by proved code only.
 pub fn label_by(shape: u16, x: i16, y: i16) -> SeenLabel
     requires { ⌜ Shaped shape ⌝ }
     ensures { λ r. ⌜ SeenBy shape (point x y) r ⌝ }

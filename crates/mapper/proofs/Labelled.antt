@@ -1,6 +1,6 @@
 -- Reading many tones at a time: what is stored at each place, and a tone by the label of its point.
 use mathlib.Core.Path.{_≡_, refl, ap, _∙_}
-use mathlib.Core.Bool.{Bool, true, false, _&&_, and-eq-true-iff}
+use mathlib.Core.Bool.{Bool, true, false, _&&_, and-eq-true-iff, true≢false}
 use mathlib.Core.List.{List}
 use Prim.Native.Nat.{ℕ, _+_, _≤_, _<_}
 use native.Mathlib.Omega.{arith}
@@ -60,25 +60,39 @@ all-shaped b g order kinds most are i h =
 
 -- ---- the labels
 
-told-by : (s : ℕ) (p : Point) (r : SeenLabel) → SeenBy s p r → r .on ≡ true → Told s p (r .label)
-told-by s p r seen e =
+answer : (s : ℕ) (p : Point) (r : SeenLabel) (o : Bool) → SeenBy s p r → r .on ≡ o → SeenBy s p (record { on = o; label = r .label })
+answer s p r o seen e =
     record {
       sought = λ b low high f. rw e at (seen .sought b low high f);
       silent = λ f. rw e at (seen .silent f);
     }
 
+pub see-start : (kinds labels : List ℕ) (xs ys : List ℤ) → SeesAll kinds xs ys labels 0 true
+see-start kinds labels xs ys = record { every = λ e j h. absurd (omega arith); some = λ e. absurd (true≢false e) }
+
 pub see-step : (kinds labels : List ℕ) (xs ys : List ℤ) (all : Bool) (i : ℕ) (r : SeenLabel) → i < length labels
-    → SeenBy (getD kinds i 0) (pointAt xs ys i) r
-    → (all ≡ true → (j : ℕ) → j < i → Told (getD kinds j 0) (pointAt xs ys j) (getD labels j 0))
-    → all && r .on ≡ true → (j : ℕ) → j < i + 1 → Told (getD kinds j 0) (pointAt xs ys j) (getD (set labels i (r .label)) j 0)
-see-step kinds labels xs ys all i r h seen before e =
-    let both = and-eq-true-iff all (r .on) .0 e in
-    stored (λ j l. Told (getD kinds j 0) (pointAt xs ys j) l) labels i (r .label) h (before (both .0))
-    (told-by (getD kinds i 0) (pointAt xs ys i) r seen (both .1))
+    → SeenBy (getD kinds i 0) (pointAt xs ys i) r → SeesAll kinds xs ys labels i all
+    → SeesAll kinds xs ys (set labels i (r .label)) (i + 1) (all && r .on)
+see-step kinds labels xs ys all i r h seen so = record { every = every; some = some all (r .on) refl refl }
+  where
+    s : ℕ
+    s = getD kinds i 0
+
+    every : all && r .on ≡ true → (j : ℕ) → j < i + 1 → Told (getD kinds j 0) (pointAt xs ys j) (getD (set labels i (r .label)) j 0)
+    every e =
+        let both = and-eq-true-iff all (r .on) .0 e in
+        stored (λ j l. Told (getD kinds j 0) (pointAt xs ys j) l) labels i (r .label) h (so .every (both .0))
+        (answer s (pointAt xs ys i) r true seen (both .1))
+
+    some : (a o : Bool) → all ≡ a → r .on ≡ o → a && o ≡ false
+        → (j : ℕ) × (j < i + 1) × (l : ℕ) × SeenBy (getD kinds j 0) (pointAt xs ys j) (record { on = false; label = l })
+    some false o p q e = let w = so .some p in (w .0, omega (arith, w .1), w .2, w .3)
+    some true false p q e = (i, omega arith, r .label, answer s (pointAt xs ys i) r false seen q)
+    some true true p q e = absurd (true≢false e)
 
 pub labelled : (b g order kinds labels : List ℕ) (xs ys : List ℤ) → length xs ≡ length order → Kinds (classesBy b g order) kinds
-    → SeesAll kinds xs ys labels true → Labelled (classesBy b g order) xs ys labels
-labelled b g order kinds labels xs ys n are sees i h = rw (are i h) at (sees refl i (rw (n, ← length-classes b g order) h))
+    → SeesAll kinds xs ys labels (length xs) true → Labelled (classesBy b g order) xs ys labels
+labelled b g order kinds labels xs ys n are sees i h = rw (are i h) at (sees .every refl i (rw (n, ← length-classes b g order) h))
 
 pub told-at : (b g order labels : List ℕ) (xs ys : List ℤ) → Labelled (classesBy b g order) xs ys labels → (i : ℕ) → i < length order → (t : Tone)
     → t ≡ toneOf (entry b (entry order i)) (entry g (entry order i)) → Told (classShape (t .class)) (pointAt xs ys i) (getD labels i 0)

@@ -1,6 +1,6 @@
 -- What reading many tones at a time asks and does: their shapes, the labels of all points, and the bits of all labels.
 use Prim.Native.Nat.{ℕ, _≤_, _<_}
-use mathlib.Core.Bool.{Bool, true}
+use mathlib.Core.Bool.{Bool, true, false}
 use mathlib.Core.List.{List}
 use mathlib.Core.Path.{_≡_}
 use lib.IntN.{ℤ, pos}
@@ -48,9 +48,10 @@ pub record SeeRoom (kinds : List ℕ) (xs ys : List ℤ) (labels : List ℕ) : T
   pub labelsLength : length labels ≡ 4096
   pub shaped : (i : ℕ) → i < length xs → Shaped (getD kinds i 0)
 
--- where all points are in their constellations, the labels are theirs
-abbrev pub SeesAll : List ℕ → List ℤ → List ℤ → List ℕ → Bool → Type 0
-SeesAll kinds xs ys labels all = all ≡ true → (i : ℕ) → i < length xs → Told (getD kinds i 0) (pointAt xs ys i) (getD labels i 0)
+-- of the first n points: the labels are theirs where all are in their constellations, and else one is not
+pub record SeesAll (kinds : List ℕ) (xs ys : List ℤ) (labels : List ℕ) (n : ℕ) (all : Bool) : Type 0 where
+  pub every : all ≡ true → (i : ℕ) → i < n → Told (getD kinds i 0) (pointAt xs ys i) (getD labels i 0)
+  pub some : all ≡ false → (i : ℕ) × (i < n) × (l : ℕ) × SeenBy (getD kinds i 0) (pointAt xs ys i) (record { on = false; label = l })
 
 abbrev pub Labelled : List Class → List ℤ → List ℤ → List ℕ → Type 0
 Labelled cs xs ys labels = (i : ℕ) → i < length cs → Told (classShape (getD cs i Silent)) (pointAt xs ys i) (getD labels i 0)

@@ -2,6 +2,7 @@
 ghost use mathlib.Core.Path.{_≡_};
 ghost use mathlib.Core.Bool.{not};
 ghost use Prim.Native.Nat.{_≤_};
+ghost use lib.ListN.{length};
 ghost use Rattle.g9932.specs.Bits.{orAt};
 ghost use Rattle.g9932.specs.Sizes.{point, points};
 ghost use Rattle.constellation.specs.Shapes.{shapeList};
@@ -173,7 +174,7 @@ fn shape_all(bits: &[u8], gains: &[u16], order: &[u16], kinds: &mut [u16; 4096])
 // The labels of all points by their shapes, and whether every point has one. There is no early exit: it takes eight at a time.
 fn see_all(kinds: &[u16; 4096], xs: &[i16], ys: &[i16], labels: &mut [u16; 4096]) -> bool
     requires { ⌜ SeeRoom (now kinds) (now xs) (now ys) (now labels) ⌝ }
-    ensures { λ r. ⌜ SeesAll (now (kinds .entry)) (now (xs .entry)) (now (ys .entry)) (now (labels .exit)) r ⌝ }
+    ensures { λ r. ⌜ SeesAll (now (kinds .entry)) (now (xs .entry)) (now (ys .entry)) (now (labels .exit)) (length (now (xs .entry))) r ⌝ }
 {
     let mut all = true;
     let mut i = 0;

@@ -13,7 +13,7 @@ told : (c : tie.Then1) → Labelled (classesBy (c .before .before .before .befor
 told c =
     let a = c .before .before .before .before .before .before .before .before .before .before .args in
     labelled (a .bits .now) (a .gains .now) (a .order .now) (c .before .before .before .before .shape-all .last .1 .1 .1 .0) (c .before .see-all .last .1 .1 .1 .0) (a .xs .now) (a .ys .now)
-    (c .before .before .before .before .before .before .before .before .before .before .pre .xsLength) (c .before .before .before .before .shape-all .ensures) (λ e. c .before .see-all .ensures (c .if1 .taken))
+    (c .before .before .before .before .before .before .before .before .before .before .pre .xsLength) (c .before .before .before .before .shape-all .ensures) (rw (c .if1 .taken) at (c .before .see-all .ensures))
 
 shape-all-requires : tie.Need-shape-all-requires
 shape-all-requires c κs = search needs

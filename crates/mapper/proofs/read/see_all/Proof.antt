@@ -1,12 +1,11 @@
--- `mapper::read::see_all` meets its contract. The invariant: where every point so far is in its constellation, each place before i has
--- its point's label. The measure is the points left.
-use Rattle.mapper.proofs.Labelled.{see-step}
-use Rattle.mapper.specs.Labelled.{Told, pointAt}
+-- `mapper::read::see_all` meets its contract. The invariant: each place before i has its point's label where all these points are in
+-- their constellations, and else one is not. The measure is the points left.
+use Rattle.mapper.proofs.Labelled.{see-start, see-step}
+use Rattle.mapper.specs.Labelled.{SeesAll}
 use lib.ListN.{length, getD, length-set}
 use lib.IntN.{pos}
 use mathlib.Core.Path.{_≡_, _∙_}
-use mathlib.Core.Bool.{true}
-use Prim.Native.Nat.{ℕ, _-_, _≤_, _<_}
+use Prim.Native.Nat.{_-_, _≤_}
 use mir.ValLaws.{toZ-ofZ}
 use mir.Syntax.{w16}
 use native.Mathlib.Omega.{arith}
@@ -14,13 +13,13 @@ use Rattle.mapper.proofs.read.see_all.Statement.{statement}
 use Rattle.mapper.proofs.read.see_all.Tie as tie
 
 abbrev Inv-loop : tie.InvT-loop
-Inv-loop kinds xs ys labels₀ all₀ i₀ labels all i = (i ≤ length xs) × (length labels ≡ 4096) × (all ≡ true → (j : ℕ) → j < i → Told (getD kinds j 0) (pointAt xs ys j) (getD labels j 0))
+Inv-loop kinds xs ys labels₀ all₀ i₀ labels all i = (i ≤ length xs) × (length labels ≡ 4096) × SeesAll kinds xs ys labels i all
 
 abbrev μ-loop : tie.MeasureT-loop
 μ-loop kinds xs ys labels₀ all₀ i₀ labels all i = length xs - i
 
 loop-holds : tie.Need-loop-holds Inv-loop μ-loop
-loop-holds c = (omega arith, c .pre .labelsLength, λ e j h. absurd (omega arith))
+loop-holds c = (omega arith, c .pre .labelsLength, see-start (c .args .kinds .now) (c .args .labels .now) (c .args .xs .now) (c .args .ys .now))
 
 mul-label-by : tie.Need-mul-label-by Inv-loop μ-loop
 mul-label-by c = record { fits = omega (arith, c .before .before .pre .xsMost) }
@@ -66,7 +65,9 @@ loop-again c =
     (omega arith, length-set (l .labels) (l .i) (r .label) ∙ k, see-step (a .kinds .now) (l .labels) (a .xs .now) (a .ys .now) (l .all) (l .i) r (omega arith) seen (l .inv .2))
 
 returns : tie.Need-returns Inv-loop μ-loop
-returns c = λ e i h. c .before .loop .inv .2 e i (omega arith)
+returns c =
+    let n : c .before .loop .i ≡ length (c .before .before .args .xs .now) = omega arith in
+    rw n at (c .before .loop .inv .2)
 
 pub see-all-spec : {M : Type 1} → statement M
 see-all-spec =
