@@ -132,7 +132,7 @@ six-lt k w h = shr-lt 6 (2 * k) (rw (pow-add 2 6 (2 * k)) (omega (arith, pow-add
 abbrev held : ℕ → ℕ → Bool
 held table s = eqb (table / 2 ^ s % 2) 1
 
-bit-rule : (f g : ℕ → Bool) (n : ℕ) → first (λ k. not (same (f k) (g k))) n ≡ Nothing → (k : ℕ) → k < n → f k ≡ g k
+pub bit-rule : (f g : ℕ → Bool) (n : ℕ) → first (λ k. not (same (f k) (g k))) n ≡ Nothing → (k : ℕ) → k < n → f k ≡ g k
 bit-rule f g n e k h = same→eq (f k) (g k) (not-false (same (f k) (g k)) (first-no (λ k. not (same (f k) (g k))) n e k h))
 
 -- b from 4, by the number of top fives

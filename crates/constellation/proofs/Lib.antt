@@ -8,3 +8,7 @@ pub mod Grid
 pub mod Reading
 pub mod Shapes
 pub mod Shaped
+pub mod Origin
+pub mod Spread
+pub mod TopBits
+pub mod ByShape

@@ -2,21 +2,23 @@
 use Prim.Native.Nat.{ℕ, zero, suc, _+_, _-_, _*_, _/_, _%_, _^_, _≤_, _<_}
 use mathlib.Core.Bool.{Bool, true, false, cond}
 use mathlib.Core.Path.{_≡_, refl, sym, ap, _∙_}
-use native.Mathlib.Nat.{pow-suc, mul-zero, mul-le-mul}
+use native.Mathlib.Nat.{pow-suc, mul-zero, mul-le-mul, mul-assoc, div-add-mod, add-mul-mod-self-right}
 use native.Mathlib.Omega.{arith}
-use borrow.Author.Tests.{le-ltb, ltb-true, ltb-false, ne-eqb}
+use borrow.Author.Tests.{le-ltb, ltb-true, ltb-false, ne-eqb, eqb-true, eqb-false, eq-eqb}
 use lib.Arith.{digits-mod}
 use lib.Bits.{bitAnd, and-mask}
-use lib.Dec.{T, ltb}
-use lib.IntN.{ℤ, pos, negsuc, natAbs, subℕ, _+ℤ_, _-ℤ_, +ℤ-negℤ-cancel}
+use lib.Dec.{T, eqb, ltb}
+use lib.IntN.{ℤ, pos, negsuc, natAbs, subℕ, _+ℤ_, _-ℤ_, +ℤ-assoc, +ℤ-negℤ-cancel}
 use lib.Pow.{pow-add}
 use lib.Signed.{mag, nonNeg}
 use mir.Syntax.{w16, w32}
-use mir.Val.{Fits, SFits, toZ, ofZ}
+use mir.Val.{SFits, toZ, ofZ}
 use mir.ValLaws.{toZ-pos, toZ-ofZ}
 use Rattle.constellation.specs.Widened.{half, axis}
 use Rattle.constellation.specs.Reading.{Steps}
 use Rattle.constellation.specs.Shaped.{scaled}
+use Rattle.constellation.specs.Labels.{Power, OnAxis}
+use Rattle.constellation.proofs.Sizes.{half-le}
 
 -- ---- a coordinate of its bits
 
@@ -64,49 +66,50 @@ scaled-tone m e one h p q o =
 
 -- ---- the bits of a coordinate
 
--- above 65,535 steps no number of sixteen bits is below 0
-raised-pos : (z : ℤ) → mag z < 32768 → (pos (natAbs (z +ℤ pos 65535)) ≡ z +ℤ pos 65535) × (natAbs (z +ℤ pos 65535) < 98304)
-raised-pos (pos n) h = (refl, omega arith)
-raised-pos (negsuc n) h = rw (le-ltb 65535 (suc n) (omega arith)) (refl, omega arith)
+-- above 32,768 no number of sixteen bits is below 0
+module _ (n : ℕ) (low : 32768 ≤ n) (high : n ≤ 65535) where
+  raised-pos : (z : ℤ) → mag z < 32768 → (pos (natAbs (z +ℤ pos n)) ≡ z +ℤ pos n) × (natAbs (z +ℤ pos n) < 32768 + n)
+  raised-pos (pos a) h = (refl, omega arith)
+  raised-pos (negsuc a) h = rw (le-ltb n (suc a) (omega arith)) (refl, omega arith)
 
--- what the code's widths leave of it
-abbrev wide : ℤ → ℤ
-wide z = toZ w32 (ofZ w32 (toZ w16 (ofZ w16 z)))
+  -- what the code's widths leave of it
+  abbrev wide : ℤ → ℤ
+  wide z = toZ w32 (ofZ w32 (toZ w16 (ofZ w16 z)))
 
-abbrev raised : ℤ → ℤ
-raised z = toZ w32 (ofZ w32 (wide z +ℤ pos 65535))
+  abbrev raised : ℤ → ℤ
+  raised z = toZ w32 (ofZ w32 (wide z +ℤ pos n))
 
-pub record RaisedIs (z : ℤ) : Type 0 where
-  pub narrow : SFits w32 (toZ w16 (ofZ w16 z))
-  pub sum : SFits w32 (wide z +ℤ pos 65535)
-  pub cast : T (nonNeg (raised z)) × Fits w32 (natAbs (raised z))
-  pub small : natAbs (raised z) < 98304
-  pub is : pos (natAbs (raised z)) ≡ z +ℤ pos 65535
+  pub record RaisedIs (z : ℤ) : Type 0 where
+    pub narrow : SFits w32 (toZ w16 (ofZ w16 z))
+    pub sum : SFits w32 (wide z +ℤ pos n)
+    pub cast : T (nonNeg (raised z))
+    pub small : natAbs (raised z) < 32768 + n
+    pub is : pos (natAbs (raised z)) ≡ z +ℤ pos n
 
-pub raised-law : (z : ℤ) → SFits w16 z → RaisedIs z
-raised-law z f =
-    record {
-      narrow = rw n (record { sfits = omega arith });
-      sum = rw w s;
-      cast = rw (w, r) (rw (← p .0) tt, record { fits = omega (arith, p .1) });
-      small = rw (w, r) (p .1);
-      is = rw (w, r) (p .0);
-    }
-  where
-    p : (pos (natAbs (z +ℤ pos 65535)) ≡ z +ℤ pos 65535) × (natAbs (z +ℤ pos 65535) < 98304)
-    p = raised-pos z (omega arith)
+  pub raised-law : (z : ℤ) → SFits w16 z → RaisedIs z
+  raised-law z f =
+      record {
+        narrow = rw w16-is (record { sfits = omega arith });
+        sum = rw w s;
+        cast = rw (w, r) (rw (← p .0) tt);
+        small = rw (w, r) (p .1);
+        is = rw (w, r) (p .0);
+      }
+    where
+      p : (pos (natAbs (z +ℤ pos n)) ≡ z +ℤ pos n) × (natAbs (z +ℤ pos n) < 32768 + n)
+      p = raised-pos z (omega arith)
 
-    n : toZ w16 (ofZ w16 z) ≡ z
-    n = toZ-ofZ w16 z f
+      w16-is : toZ w16 (ofZ w16 z) ≡ z
+      w16-is = toZ-ofZ w16 z f
 
-    w : wide z ≡ z
-    w = rw n (toZ-ofZ w32 z (record { sfits = omega arith }))
+      w : wide z ≡ z
+      w = rw w16-is (toZ-ofZ w32 z (record { sfits = omega arith }))
 
-    s : SFits w32 (z +ℤ pos 65535)
-    s = rw (← p .0) (record { sfits = omega (arith, p .1) })
+      s : SFits w32 (z +ℤ pos n)
+      s = rw (← p .0) (record { sfits = omega (arith, p .1) })
 
-    r : toZ w32 (ofZ w32 (z +ℤ pos 65535)) ≡ z +ℤ pos 65535
-    r = toZ-ofZ w32 (z +ℤ pos 65535) s
+      r : toZ w32 (ofZ w32 (z +ℤ pos n)) ≡ z +ℤ pos n
+      r = toZ-ofZ w32 (z +ℤ pos n) s
 
 axis-raised : (h d : ℕ) → h ≤ 256 → axis h d +ℤ pos 65535 ≡ pos (2 * d + 65536 - h)
 axis-raised h d p = go (ltb (2 * d + 1) h) refl
@@ -154,3 +157,64 @@ cut-steps k d l s =
 
     all : 2 ^ (13 - k) * 2 ^ suc (suc k) ≡ 32768
     all = sym (pow-add 2 (13 - k) (suc (suc k))) ∙ ap (λ (n : ℕ). 2 ^ n) fifteen
+
+-- ---- the same in sixteen bits: half the coordinate above 32,768, with the sign bit's weight, and whether it was odd
+
+abbrev upped : ℕ → ℕ → ℕ
+upped m u = u / 2 + 2 * m
+
+-- an even coordinate is on no axis, so its steps may be any odd number
+abbrev stepsOf : ℕ → ℕ → ℕ
+stepsOf m u = 2 * upped m u + 32768 + (1 - u % 2)
+
+steps-16 : (m u : ℕ) (z : ℤ) → 4 * m ≤ 256 → pos u ≡ z +ℤ pos 32768 → Steps (4 * m) z (stepsOf m u)
+steps-16 m u z p e =
+    record {
+      to = λ d g. let n = s .to d g in omega arith;
+      back = λ d g. s .back d (omega arith);
+    }
+  where
+    s : Steps (4 * m) z (u + 32767 + 4 * m)
+    s = steps-law (4 * m) (u + 32767) z p (ap (λ (y : ℤ). y +ℤ pos 32767) e ∙ +ℤ-assoc z (pos 32768) (pos 32767))
+
+same-test : (a b c d : ℕ) → (a ≡ b → c ≡ d) → (c ≡ d → a ≡ b) → eqb a b ≡ eqb c d
+same-test a b c d f g = go (eqb a b) refl
+  where
+    go : (t : Bool) → eqb a b ≡ t → eqb a b ≡ eqb c d
+    go true e = e ∙ sym (eq-eqb c d (f (eqb-true a b e)))
+    go false e = e ∙ sym (ne-eqb c d (λ h. eqb-false a b e (g h)))
+
+pub axis-16 : (m u : ℕ) (z : ℤ) → Power m → pos u ≡ z +ℤ pos 32768
+    → OnAxis (4 * m) z (bitAnd (upped m u) (4 * m - 1)) (eqb (upped m u - bitAnd (upped m u) (4 * m - 1) + u % 2) 16385)
+axis-16 m u z p r =
+    record {
+      steps = stepsOf m u;
+      stepsIs = steps-16 m u z (omega (arith, half-le k (p .1))) r;
+      bitsIs = mask ∙ sym (ap (λ (n : ℕ). n % (4 * m)) whole ∙ add-mul-mod-self-right f (2 ^ (12 - k)) (4 * m));
+      onIs = rw mask (same-test (f - f % (4 * m) + u % 2) 16385 (2 * (f % (4 * m)) + 65536) (stepsOf m u) (λ t. omega (arith, fours)) (λ t. omega (arith, fours)));
+    }
+  where
+    k : ℕ
+    k = p .0
+
+    f : ℕ
+    f = upped m u
+
+    width : 4 * m ≡ half k
+    width = ap (λ (n : ℕ). 4 * n) (p .2)
+
+    mask : bitAnd f (4 * m - 1) ≡ f % (4 * m)
+    mask = cut-law k (4 * m) f width
+
+    fourteen : 12 - k + suc (suc k) ≡ 14
+    fourteen = omega (arith, p .1)
+
+    all : 2 ^ (12 - k) * (4 * m) ≡ 16384
+    all = rw (width ∙ half-pow k) (sym (pow-add 2 (12 - k) (suc (suc k))) ∙ ap (λ (n : ℕ). 2 ^ n) fourteen)
+
+    whole : stepsOf m u / 2 ≡ f + 2 ^ (12 - k) * (4 * m)
+    whole = rw all (omega arith)
+
+    -- f without its lower bits is a multiple of 4
+    fours : 4 * (m * (f / (4 * m))) + f % (4 * m) ≡ f
+    fours = rw (← mul-assoc 4 m (f / (4 * m))) (div-add-mod f (4 * m))

@@ -56,17 +56,23 @@ six-four k w =
     let f : 4 * w / 4 ≡ w = omega arith in
     shr-shr (4 * w) (2 * k) 2 ∙ ap (λ (n : ℕ). 4 * w / 2 ^ n) (add-comm (2 * k) 2) ∙ sym (shr-shr (4 * w) 2 (2 * k)) ∙ ap (λ (n : ℕ). n / 2 ^ (2 * k)) f
 
--- a table by the top four bits gives the top three back
-pub narrowed-law : (table : ℕ) → first (λ q. not (eqb (bitXor (topFour q) (table / 2 ^ (4 * topFour q) % 16)) (q / 4))) 32 ≡ Nothing
-    → (k w s : ℕ) → k ≤ 6 → s ≡ topSix k w → Narrowed k w (bitXor w (table / 2 ^ (4 * (s / 4)) % 16 * 2 ^ (2 * k) % 2 ^ 32))
+-- the top three bits of the label, by the top four of its word, leave one label
+pub narrowed-top : (k w t : ℕ) → ((q : ℕ) → q < 32 → topFour q ≡ topSix k w / 4 → t ≡ q / 4) → Narrowed k w (t * 2 ^ (2 * k) + w % 2 ^ (2 * k))
 unfolding widened
-narrowed-law table test k w s h six m l e =
-    let q = five-lt k m l in
+narrowed-top k w t back m l e =
     let r = mod-lt m (pow-pos (2 * k)) in
     let hi : w / 2 ^ (2 * k) ≡ topFour (topFive k m) = rw e (high (topFour (topFive k m)) (2 * k) r) in
     let lo : w % 2 ^ (2 * k) ≡ m % 2 ^ (2 * k) = rw e (low (topFour (topFive k m)) (2 * k) r) in
-    let n = rule (λ q. bitXor (topFour q) (table / 2 ^ (4 * topFour q) % 16)) (λ q. q / 4) 32 test (topFive k m) q in
-    rw (six, six-four k w, hi, xor-shl k w (table / 2 ^ (4 * topFour (topFive k m)) % 16) h (omega arith), hi, lo, n, three-law k m) (split m (2 * k))
+    let n : t ≡ m / 2 ^ (2 * k) = back (topFive k m) (five-lt k m l) (sym hi ∙ sym (six-four k w)) ∙ three-law k m in
+    rw (n, lo) (split m (2 * k))
+
+-- a table by the top four bits gives the top three back
+pub narrowed-law : (table : ℕ) → first (λ q. not (eqb (bitXor (topFour q) (table / 2 ^ (4 * topFour q) % 16)) (q / 4))) 32 ≡ Nothing
+    → (k w s : ℕ) → k ≤ 6 → s ≡ topSix k w → Narrowed k w (bitXor w (table / 2 ^ (4 * (s / 4)) % 16 * 2 ^ (2 * k) % 2 ^ 32))
+narrowed-law table test k w s h six =
+    let back = rule (λ q. bitXor (topFour q) (table / 2 ^ (4 * topFour q) % 16)) (λ q. q / 4) 32 test in
+    rw (six, xor-shl k w (table / 2 ^ (4 * (topSix k w / 4)) % 16) h (omega arith), ← six-four k w)
+    (narrowed-top k w (bitXor (topSix k w / 4) (table / 2 ^ (4 * (topSix k w / 4)) % 16)) (λ q l e. rw (← e) (back q l)))
 
 -- a table of sixteen entries agrees with Table 10-3 from an entry on
 pub table-law : (table from q : ℕ) → from + q % 16 ≡ q

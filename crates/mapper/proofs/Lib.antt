@@ -1,5 +1,5 @@
 pub mod Tones
-pub mod Origin
 pub mod OneTone
 pub mod MapLoop
 pub mod ReadLoop
+pub mod Labelled

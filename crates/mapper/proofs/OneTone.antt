@@ -27,7 +27,7 @@ use Rattle.g9932.specs.Bits.{bits, num}
 use Rattle.g9932.specs.Filler.{drawn}
 use Rattle.g9932.specs.Points.{pointOf, samePoint, labelOf, isLabel, labelBits}
 use Rattle.g9932.specs.Sizes.{Point, unpack}
-use Rattle.mapper.proofs.Origin.{differs}
+use Rattle.constellation.proofs.Origin.{differs}
 
 -- ---- writing
 

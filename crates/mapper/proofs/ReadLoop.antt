@@ -1,6 +1,6 @@
 -- The reader's loop: no place so far is off its constellation, and the bits gathered and those still to gather make the whole.
 use mathlib.Core.Path.{_≡_, refl, sym, ap, _∙_}
-use mathlib.Core.Bool.{Bool, true, false, not}
+use mathlib.Core.Bool.{true, false, not}
 use mathlib.Core.List.{List, [], _∷_, _++_, append-assoc, append-nil}
 use Prim.Native.Nat.{ℕ, zero, suc, _+_, _*_, _^_, _≤_, _<_}
 use native.Mathlib.Numerals.{add-one}
@@ -10,22 +10,21 @@ use lib.ListN.{length, take, drop, getD, drop-of-length-le}
 use lib.Seq.{drop-cons, take-suc, take-all}
 use Rattle.frame.specs.declared.BitWriter.{BitWriter}
 use Rattle.frame.specs.Written.{emptyWriter, written, Waits, count, Put}
-use Rattle.g9932.proofs.Search.{first-none, first-more, first-at, first-end}
+use Rattle.g9932.proofs.Search.{first-more, first-at, first-end}
 use Rattle.g9932.proofs.Words.{length-bits}
 use Rattle.g9932.specs.Bits.{bits, first, orAt}
 use Rattle.g9932.specs.Filler.{afterDraws, draws, registerAfter}
 use Rattle.g9932.specs.Sizes.{entry, toneOf, Point, point, origin, points, unpack}
-use Rattle.g9932.specs.Symbol.{inConstellation, isFiller, toneBits, offgridTest, monitorTest, gatherBits}
+use Rattle.g9932.specs.Symbol.{inConstellation, toneBits, offgridTest, monitorTest, gatherBits}
 use Rattle.g9932.specs.declared.Class.{Class}
 use Rattle.g9932.specs.declared.Class.the-variants.{Silent}
 use Rattle.g9932.specs.declared.Tone.{Tone}
 use Rattle.g9932.specs.declared.Found.{Found}
 use Rattle.g9932.specs.declared.Found.the-variants.{At, Nothing}
-use Rattle.mapper.specs.Mapping.{classesBy, Carries}
+use Rattle.mapper.specs.Mapping.{classesBy}
 use Rattle.mapper.specs.Reading.{ReadsTone, ReadRoom, ReadsAll}
 use Rattle.mapper.specs.declared.read.ToneRead.{ToneRead}
-use Rattle.mapper.specs.declared.read.TonesRead.{TonesRead}
-use Rattle.mapper.proofs.Tones.{length-classes, class-at, carries-at, drop-class}
+use Rattle.mapper.proofs.Tones.{length-classes, tone-class, drop-class}
 
 -- the point at a place of two lists
 point-at : (xs ys : List ℤ) (i : ℕ) → i < length xs → i < length ys → getD (points xs ys) i origin ≡ point (getD xs i (pos 0)) (getD ys i (pos 0))
@@ -144,12 +143,6 @@ module _ (cs : List Class) (r : ℕ) (q : List Point) (sent₀ sent after : List
 module _ (b g order : List ℕ) (xs ys : List ℤ) (sent₀ : List ℕ) (room : ReadRoom b order xs ys sent₀) (r : ℕ) (sent : List ℕ) (monitor : Found) (register : ℕ)
     (w : BitWriter) (i : ℕ) (l : Listening (classesBy b g order) r (points xs ys) sent₀ sent monitor register w i) (t : Tone) (h : i < length order)
     (is : t ≡ toneOf (entry b (entry order i)) (entry g (entry order i))) where
-  class-is : t .class ≡ getD (classesBy b g order) i Silent
-  class-is = ap (λ (t : Tone). t .class) is ∙ sym (class-at b g order i h)
-
-  pub tone-carries : Carries (t .class)
-  tone-carries = rw class-is (carries-at b g order (room .bitsMost) i h)
-
   module _ (u : ToneRead) (reads : ReadsTone (t .class) register (point (getD xs i (pos 0)) (getD ys i (pos 0))) u) where
     in-classes : i < length (classesBy b g order)
     in-classes = rw (length-classes b g order) h
@@ -160,7 +153,7 @@ module _ (b g order : List ℕ) (xs ys : List ℤ) (sent₀ : List ℕ) (room : 
     reads-at : ReadsTone (getD (classesBy b g order) i Silent) register (getD (points xs ys) i origin) u
     reads-at =
         rw (point-at xs ys i (rw (room .xsLength) h) (rw (room .ysLength) h))
-        (rw class-is at reads)
+        (rw (tone-class b g order i h t is) at reads)
 
     pub tone-off : u .on ≡ false
         → ReadsAll (classesBy b g order) r (points xs ys) (record { offgrid = At i; monitor = monitor; register = register; writer = w }) sent

@@ -14,6 +14,7 @@ use Rattle.g9932.specs.Sizes.{entry, classOf, classBy, toneOf}
 use Rattle.g9932.specs.Symbol.{load}
 use Rattle.g9932.specs.declared.Class.{Class}
 use Rattle.g9932.specs.declared.Class.the-variants.{Data, Monitored, Silent}
+use Rattle.g9932.specs.declared.Tone.{Tone}
 use Rattle.mapper.specs.Mapping.{classesBy, Carries}
 
 -- the class at a place: bits above 0 are data
@@ -43,6 +44,14 @@ module _ (b g order : List ℕ) where
 
   pub carries-at : ((k : ℕ) → entry b k ≤ 15) → (i : ℕ) → i < length order → Carries (getD (classesBy b g order) i Silent)
   carries-at most i h = rw (class-at i h) (carries (entry b (entry order i)) (entry g (entry order i)) (most (entry order i)))
+
+  -- of the tone looked up there
+  module _ (i : ℕ) (h : i < length order) (t : Tone) (is : t ≡ toneOf (entry b (entry order i)) (entry g (entry order i))) where
+    pub tone-class : t .class ≡ getD (classesBy b g order) i Silent
+    tone-class = ap (λ (t : Tone). t .class) is ∙ sym (class-at i h)
+
+    pub tone-carries : ((k : ℕ) → entry b k ≤ 15) → Carries (t .class)
+    tone-carries most = rw tone-class (carries-at most i h)
 
 -- the classes from a place on
 pub drop-class : (cs : List Class) (i : ℕ) → i < length cs → drop i cs ≡ getD cs i Silent ∷ drop (i + 1) cs

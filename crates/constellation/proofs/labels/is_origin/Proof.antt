@@ -1,7 +1,7 @@
--- `mapper::read::is_origin` meets its contract: a coordinate is 0 where its 16 bits are.
-use Rattle.mapper.proofs.Origin.{not-x, not-y, is-zero}
-use Rattle.mapper.proofs.read.is_origin.Statement.{statement}
-use Rattle.mapper.proofs.read.is_origin.Tie as tie
+-- `constellation::labels::is_origin` meets its contract: a coordinate is 0 where its 16 bits are.
+use Rattle.constellation.proofs.Origin.{not-x, not-y, is-zero}
+use Rattle.constellation.proofs.labels.is_origin.Statement.{statement}
+use Rattle.constellation.proofs.labels.is_origin.Tie as tie
 
 returns : tie.Need-returns
 returns c = not-x (c .before .args .x) (c .before .args .y) (c .if1 .taken)

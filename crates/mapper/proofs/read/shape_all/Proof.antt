@@ -1,0 +1,76 @@
+-- `mapper::read::shape_all` meets its contract. The invariant: each place before i has its tone's shape. The measure is the places left.
+use Rattle.mapper.proofs.Labelled.{shape-step}
+use Rattle.mapper.proofs.Tones.{length-classes, tone-carries}
+use Rattle.mapper.specs.Labelled.{classShape}
+use Rattle.mapper.specs.Mapping.{classesBy}
+use Rattle.g9932.specs.declared.Class.the-variants.{Silent}
+use lib.ListN.{length, getD, length-set}
+use mathlib.Core.Path.{_≡_, _∙_}
+use Prim.Native.Nat.{ℕ, _-_, _≤_, _<_}
+use native.Mathlib.Omega.{arith}
+use borrow.Author.Needs.{needs}
+use Rattle.mapper.proofs.read.shape_all.Statement.{statement}
+use Rattle.mapper.proofs.read.shape_all.Tie as tie
+
+abbrev Inv-loop : tie.InvT-loop
+Inv-loop bits gains order kinds₀ shapes i₀ kinds i = (i ≤ length order) × (length kinds ≡ 4096) × ((j : ℕ) → j < i → getD kinds j 0 ≡ classShape (getD (classesBy bits gains order) j Silent))
+
+abbrev μ-loop : tie.MeasureT-loop
+μ-loop bits gains order kinds₀ shapes i₀ kinds i = length order - i
+
+shape-table-requires : tie.Need-shape-table-requires Inv-loop μ-loop
+shape-table-requires c κs = search needs
+
+loop-holds : tie.Need-loop-holds Inv-loop μ-loop
+loop-holds c = (omega arith, c .before .before .before .before .pre .kindsLength, λ j h. absurd (omega arith))
+
+tone-of-place-requires : tie.Need-tone-of-place-requires Inv-loop μ-loop
+tone-of-place-requires c κs = search needs
+
+shape-of-tone-requires : tie.Need-shape-of-tone-requires Inv-loop μ-loop
+shape-of-tone-requires c κs =
+    let a = c .before .before .before .before .before .before .before .before .args in
+    (tone-carries (a .bits .now) (a .gains .now) (a .order .now) (c .before .before .before .loop .i) (omega arith) (c .before .tone-of-place .result) (c .before .tone-of-place .ensures) (c .before .before .before .before .before .before .before .before .pre .bitsMost), c .before .before .before .before .shape-table .ensures)
+
+mul-kinds : tie.Need-mul-kinds Inv-loop μ-loop
+mul-kinds c = record { fits = omega (arith, c .before .before .before .before .before .before .before .before .before .pre .orderMost) }
+
+element-write-kinds : tie.Need-element-write-kinds Inv-loop μ-loop
+element-write-kinds c = omega (arith, c .before .before .before .before .before .before .before .before .before .pre .orderMost)
+
+add-i : tie.Need-add-i Inv-loop μ-loop
+add-i c = record { fits = omega (arith, c .before .before .before .before .before .before .before .before .before .pre .orderMost) }
+
+loop-less : tie.Need-loop-less Inv-loop μ-loop
+loop-less c = omega arith
+
+loop-again : tie.Need-loop-again Inv-loop μ-loop
+loop-again c =
+    let a = c .before .before .before .before .before .before .before .before .before .args in
+    let l = c .before .before .before .before .loop in
+    let k = l .inv .1 in
+    let m = c .before .before .before .before .before .before .before .before .before .pre .orderMost in
+    (omega arith, length-set (l .kinds) (l .i) (c .shape-of-tone .result) ∙ k, shape-step (a .bits .now) (a .gains .now) (a .order .now) (l .kinds) (l .i) (c .shape-of-tone .result) (c .before .before .tone-of-place .result) (omega arith) (omega arith) (c .before .before .tone-of-place .ensures) (c .shape-of-tone .ensures) (l .inv .2))
+
+returns : tie.Need-returns Inv-loop μ-loop
+returns c =
+    let a = c .before .before .before .before .before .before .args in
+    let n = length-classes (a .bits .now) (a .gains .now) (a .order .now) in
+    λ i h. c .before .loop .inv .2 i (omega arith)
+
+pub shape-all-spec : {M : Type 1} → statement M
+shape-all-spec =
+    tie.close
+    (tie.spec
+    Inv-loop
+    μ-loop
+    shape-table-requires
+    loop-holds
+    tone-of-place-requires
+    shape-of-tone-requires
+    mul-kinds
+    element-write-kinds
+    add-i
+    loop-less
+    loop-again
+    returns)
