@@ -1,5 +1,7 @@
 pub mod Tones
 pub mod OneTone
 pub mod MapLoop
+pub mod EntryBits
+pub mod LabelLoop
 pub mod ReadLoop
 pub mod Labelled

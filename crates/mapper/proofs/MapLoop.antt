@@ -10,7 +10,6 @@ use lib.IntN.{ℤ, pos}
 use lib.ListN.{length, drop, getD, set, length-set, length-map, drop-of-length-le, List·getD-map}
 use lib.Seq.{drop-drop, getD-drop, getD-set-same, getD-set-other, ext-getD}
 use Rattle.constellation.specs.Shaped.{StandsFor, shapedPoint}
-use Rattle.g9932.proofs.Packed.{length-unpack}
 use Rattle.g9932.proofs.Symbols.{loads, length-write}
 use Rattle.g9932.specs.Filler.{registerAfter}
 use Rattle.g9932.specs.Sizes.{Point, point, origin, entry, toneOf, unpack}
@@ -18,52 +17,50 @@ use Rattle.g9932.specs.Symbol.{load, tonePoint, writePoints}
 use Rattle.g9932.specs.declared.Class.{Class}
 use Rattle.g9932.specs.declared.Class.the-variants.{Silent}
 use Rattle.g9932.specs.declared.Tone.{Tone}
-use Rattle.mapper.specs.Mapping.{classesBy, Carries, Lays, LayRoom, LaysAll, PutRoom, PutsAll, MapRoom, MapsAll}
+use Rattle.mapper.specs.Mapping.{classesBy, Carries, Lays, LayRoom, LaysAll, PutRoom, PutsAll, MapsAll}
 use Rattle.mapper.specs.declared.Laid.{Laid}
 use Rattle.mapper.proofs.Tones.{length-classes, class-at, carries-at, drop-class, loads-drop}
 
--- ---- laying out
+-- ---- laying out: the tones from place i on have their points from the bits left
 
-pub record Laying (cs : List Class) (r : ℕ) (d : List Bool) (labels shapes : List ℕ) (at register i : ℕ) : Type 0 where
+pub record Laying (cs : List Class) (r : ℕ) (d : List Bool) (labels shapes : List ℕ) (left : List Bool) (register i : ℕ) : Type 0 where
   pub inside : i ≤ length cs
   pub labelsLength : length labels ≡ 4096
   pub shapesLength : length shapes ≡ 4096
-  pub room : at + loads (drop i cs) ≤ length d
   pub soFar : (j : ℕ) → j < i → StandsFor (entry shapes j) (entry labels j) (getD (writePoints r cs d) j origin)
-  pub rest : drop i (writePoints r cs d) ≡ writePoints register (drop i cs) (drop at d)
+  pub rest : drop i (writePoints r cs d) ≡ writePoints register (drop i cs) left
   pub registerSoFar : registerAfter register (drop i cs) ≡ registerAfter r cs
 
-laying-start : (cs : List Class) (r : ℕ) (d : List Bool) (labels shapes : List ℕ) → length labels ≡ 4096 → length shapes ≡ 4096 → loads cs ≤ length d
-    → Laying cs r d labels shapes 0 r 0
-laying-start cs r d labels shapes hl hs h =
+pub laying-start : (cs : List Class) (r : ℕ) (d : List Bool) (labels shapes : List ℕ) → length labels ≡ 4096 → length shapes ≡ 4096
+    → Laying cs r d labels shapes d r 0
+laying-start cs r d labels shapes hl hs =
     record {
       inside = omega arith;
       labelsLength = hl;
       shapesLength = hs;
-      room = omega arith;
       soFar = λ j l. absurd (omega arith);
       rest = refl;
       registerSoFar = refl;
     }
 
-pub laying-end : {cs : List Class} {r : ℕ} {d : List Bool} {labels shapes : List ℕ} {at register i : ℕ} → Laying cs r d labels shapes at register i
-    → length cs ≤ i → LaysAll cs r d register labels shapes
+pub laying-end : {cs : List Class} {r : ℕ} {d : List Bool} {labels shapes : List ℕ} {left : List Bool} {register i : ℕ}
+    → Laying cs r d labels shapes left register i → length cs ≤ i → LaysAll cs r d register labels shapes
 unfolding registerAfter
 laying-end {cs = cs} {i = i} g h =
     record { stand = λ j l. g .soFar j (omega arith); registerIs = rw (drop-of-length-le cs h) at (g .registerSoFar) }
 
 -- one tone more
-module _ (cs : List Class) (r : ℕ) (d : List Bool) (at register i : ℕ) (m : Laid) (h : i < length cs) (lays : Lays (getD cs i Silent) register at d m)
-    (labels shapes : List ℕ) (g : Laying cs r d labels shapes at register i) (small : i < 4096) where
+module _ (cs : List Class) (r : ℕ) (d left : List Bool) (register i next : ℕ) (m : Laid) (h : i < length cs)
+    (lays : Lays (getD cs i Silent) register left next m) (labels shapes : List ℕ) (g : Laying cs r d labels shapes left register i) (small : i < 4096) where
   abbrev c : Class
   c = getD cs i Silent
 
   -- the points from here on: that of this tone, and those of the tones after it
-  points-here : drop i (writePoints r cs d) ≡ tonePoint register c (drop at d) ∷ writePoints (m .register) (drop (i + 1) cs) (drop (m .at) d)
+  points-here : drop i (writePoints r cs d) ≡ tonePoint register c left ∷ writePoints (m .register) (drop (i + 1) cs) (drop (load c) left)
   unfolding writePoints
-  points-here = rw (lays .atIs, lays .registerIs, ← (drop-drop (load c) at d)) (rw (drop-class cs i h) at (g .rest))
+  points-here = rw (lays .registerIs) (rw (drop-class cs i h) at (g .rest))
 
-  point-here : getD (writePoints r cs d) i origin ≡ tonePoint register c (drop at d)
+  point-here : getD (writePoints r cs d) i origin ≡ tonePoint register c left
   point-here = rw (add-zero i, points-here) at (sym (getD-drop i (writePoints r cs d) 0 origin))
 
   so-far : (j : ℕ) → j < i + 1 → StandsFor (entry (set shapes i (m .shape)) j) (entry (set labels i (m .label)) j) (getD (writePoints r cs d) j origin)
@@ -80,45 +77,66 @@ module _ (cs : List Class) (r : ℕ) (d : List Bool) (at register i : ℕ) (m : 
           let n : (j ≡ i → ⊥) = λ e. absurd (omega arith) in
           rw (getD-set-other shapes i j (m .shape) 0 n, getD-set-other labels i j (m .label) 0 n) (g .soFar j k)
 
-  laying-step : Laying cs r d (set labels i (m .label)) (set shapes i (m .shape)) (m .at) (m .register) (i + 1)
+  pub laying-step : (after : List Bool) → after ≡ drop (load c) left
+      → Laying cs r d (set labels i (m .label)) (set shapes i (m .shape)) after (m .register) (i + 1)
   unfolding registerAfter
-  laying-step =
+  laying-step after e =
       record {
         inside = omega arith;
         labelsLength = length-set labels i (m .label) ∙ g .labelsLength;
         shapesLength = length-set shapes i (m .shape) ∙ g .shapesLength;
-        room = rw (lays .atIs) (omega (arith, g .room, loads-drop cs i h));
         soFar = so-far;
-        rest = sym (drop-drop 1 i (writePoints r cs d)) ∙ ap (λ (l : List Point). drop 1 l) points-here;
+        rest = rw e (sym (drop-drop 1 i (writePoints r cs d)) ∙ ap (λ (l : List Point). drop 1 l) points-here);
         registerSoFar = rw (lays .registerIs) (rw (drop-class cs i h) at (g .registerSoFar));
       }
 
--- ---- as the code has it: the classes of t', the bits of a packed source, and the tone t at place i
-module _ (b g order source labels₀ shapes₀ : List ℕ) (room : LayRoom b g order source labels₀ shapes₀) where
-  bits-there : length (unpack source) ≡ 8 * length source
-  bits-there = length-unpack source
+-- the class of the tone at a place, as the code has it
+module _ (b g order : List ℕ) (i : ℕ) (t : Tone) (h : i < length order) (is : t ≡ toneOf (entry b (entry order i)) (entry g (entry order i))) where
+  pub place-there : i < length (classesBy b g order)
+  place-there = rw (length-classes b g order) h
 
-  pub lay-start : (r : ℕ) → Laying (classesBy b g order) r (unpack source) labels₀ shapes₀ 0 r 0
-  lay-start r = laying-start (classesBy b g order) r (unpack source) labels₀ shapes₀ (room .labelsLength) (room .shapesLength) (omega (arith, room .bits, bits-there))
+  pub class-is : t .class ≡ getD (classesBy b g order) i Silent
+  class-is = ap (λ (t : Tone). t .class) is ∙ sym (class-at b g order i h)
 
-  module _ (r : ℕ) (labels shapes : List ℕ) (at register i : ℕ) (going : Laying (classesBy b g order) r (unpack source) labels shapes at register i) (t : Tone)
+-- ---- from the bits of a packed source, bit `at` next
+pub record BitsLeft (b g order source : List ℕ) (r : ℕ) (labels shapes : List ℕ) (at register i : ℕ) : Type 0 where
+  pub laying : Laying (classesBy b g order) r (unpack source) labels shapes (drop at (unpack source)) register i
+  pub loaded : at + loads (drop i (classesBy b g order)) ≤ 8 * length source
+
+module _ (b g order source labels₀ shapes₀ : List ℕ) (room : LayRoom b g order source labels₀ shapes₀) (r : ℕ) where
+  pub lay-start : BitsLeft b g order source r labels₀ shapes₀ 0 r 0
+  lay-start =
+      record {
+        laying = laying-start (classesBy b g order) r (unpack source) labels₀ shapes₀ (room .labelsLength) (room .shapesLength);
+        loaded = omega (arith, room .bits);
+      }
+
+  module _ (labels shapes : List ℕ) (at register i : ℕ) (going : BitsLeft b g order source r labels shapes at register i) (t : Tone)
       (h : i < length order) (is : t ≡ toneOf (entry b (entry order i)) (entry g (entry order i))) where
-    class-is : t .class ≡ getD (classesBy b g order) i Silent
-    class-is = ap (λ (t : Tone). t .class) is ∙ sym (class-at b g order i h)
+    there : i < length (classesBy b g order)
+    there = place-there b g order i t h is
+
+    class : t .class ≡ getD (classesBy b g order) i Silent
+    class = class-is b g order i t h is
 
     pub tone-room : Carries (t .class) × (at + load (t .class) ≤ 8 * length source) × (length source ≤ 7688)
     tone-room =
-        let l = loads-drop (classesBy b g order) i (rw (length-classes b g order) h) in (
-          rw class-is (carries-at b g order (room .bitsMost) i h),
-          rw class-is (omega (arith, going .room, l, bits-there)),
+        let l = loads-drop (classesBy b g order) i there in (
+          rw class (carries-at b g order (room .bitsMost) i h),
+          rw class (omega (arith, going .loaded, l)),
           room .sourceMost,
         )
 
-    pub lay-step : (m : Laid) → Lays (t .class) register at (unpack source) m
-        → Laying (classesBy b g order) r (unpack source) (set labels i (m .label)) (set shapes i (m .shape)) (m .at) (m .register) (i + 1)
+    pub lay-step : (m : Laid) → Lays (t .class) register (drop at (unpack source)) (at + load (t .class)) m
+        → BitsLeft b g order source r (set labels i (m .label)) (set shapes i (m .shape)) (m .at) (m .register) (i + 1)
     lay-step m lays =
-        laying-step (classesBy b g order) r (unpack source) at register i m (rw (length-classes b g order) h) (rw class-is at lays) labels shapes going
-        (omega (arith, room .orderMost))
+        let c = load (getD (classesBy b g order) i Silent) in
+        let n : m .at ≡ at + c = rw class at (lays .atIs) in
+        record {
+          laying = laying-step (classesBy b g order) r (unpack source) (drop at (unpack source)) register i (at + c) m there (rw class at lays) labels shapes
+              (going .laying) (omega (arith, room .orderMost)) (drop (m .at) (unpack source)) (rw n (sym (drop-drop c at (unpack source))));
+          loaded = omega (arith, n, going .loaded, loads-drop (classesBy b g order) i there);
+        }
 
 -- ---- the points of what is laid out
 
@@ -154,14 +172,14 @@ module _ (labels shapes : List ℕ) (n : ℕ) (xs ys : List ℤ) (i : ℕ) (g : 
 
 -- ---- one after the other
 
-pub put-room : (b g order source : List ℕ) (xs ys : List ℤ) (r : ℕ) (d : List Bool) (after : ℕ) (labels shapes : List ℕ) → MapRoom b g order source xs ys
-    → LaysAll (classesBy b g order) r d after labels shapes → PutRoom labels shapes xs ys
-put-room b g order source xs ys r d after labels shapes room laid =
+pub put-room : (b g order : List ℕ) (xs ys : List ℤ) (r : ℕ) (d : List Bool) (after : ℕ) (labels shapes : List ℕ) → length order ≤ 4096
+    → length xs ≡ length order → length ys ≡ length order → LaysAll (classesBy b g order) r d after labels shapes → PutRoom labels shapes xs ys
+put-room b g order xs ys r d after labels shapes most hx hy laid =
     let n = length-classes b g order in
     record {
-      most = omega (arith, room .xsLength, room .orderMost);
-      same = room .ysLength ∙ sym (room .xsLength);
-      shaped = λ i l. laid .stand i (omega (arith, room .xsLength)) .shaped;
+      most = omega arith;
+      same = hy ∙ sym hx;
+      shaped = λ i l. laid .stand i (omega arith) .shaped;
     }
 
 module _ (cs : List Class) (r : ℕ) (d : List Bool) (after : ℕ) (labels shapes : List ℕ) (laid : LaysAll cs r d after labels shapes)

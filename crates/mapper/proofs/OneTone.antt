@@ -1,16 +1,16 @@
 -- One tone, in numbers: a label got from the source, and a label found for a point.
-use Prim.Native.Nat.{ℕ, _+_, _*_, _^_, _≤_, _<_}
+use Prim.Native.Nat.{ℕ, _+_, _*_, _%_, _^_, _≤_, _<_}
 use mathlib.Core.Bool.{Bool, true, false, _&&_, true≢false, false≢true}
 use mathlib.Core.List.{List}
 use mathlib.Core.Option.{Option, some}
 use mathlib.Core.Path.{_≡_, refl, sym, ap, _∙_}
 use native.Mathlib.Nat.{lt-of-lt-of-le}
 use native.Mathlib.Omega.{arith}
-use borrow.Author.Tests.{eq-eqb, ne-eqb, eqb-true, eqb-false}
+use borrow.Author.Tests.{le-ltb, eq-eqb, ne-eqb, eqb-true, eqb-false}
 use lib.Dec.{eqb}
 use lib.ListN.{length, take, drop, getD, length-drop}
 use lib.Pow.{pow-mono}
-use lib.Seq.{length-take-le}
+use lib.Seq.{take-length, length-take-le}
 use Rattle.constellation.specs.Reading.{SoughtIs}
 use Rattle.constellation.specs.Shaped.{StandsFor}
 use Rattle.constellation.specs.Shapes.{shapeList}
@@ -22,7 +22,7 @@ use Rattle.constellation.proofs.Sizes.{label-lt, label-16}
 use Rattle.g9932.proofs.Constellations.{samePoint-self, point-inj}
 use Rattle.g9932.proofs.Labels.{label-point, label-back}
 use Rattle.g9932.proofs.Packed.{length-unpack}
-use Rattle.g9932.proofs.Words.{num-lt, num-inj, bits-num}
+use Rattle.g9932.proofs.Words.{length-bits, num-lt, num-inj, bits-num, bits-mod}
 use Rattle.g9932.specs.Bits.{bits, num}
 use Rattle.g9932.specs.Filler.{drawn}
 use Rattle.g9932.specs.Points.{pointOf, samePoint, labelOf, isLabel, labelBits}
@@ -42,7 +42,12 @@ label-at source at b label h e =
 pub filler-at : (r label : ℕ) → label ≡ num (drawn 2 r) → (bits 2 label ≡ drawn 2 r) × (label < 2 ^ 2)
 filler-at r label e = (rw e (bits-num (drawn 2 r)), rw e (num-lt (drawn 2 r)))
 
--- a table of shapes, a bit count, and the label got for it stand for the tone's point
+-- a label and its shape, from the table of shapes, stand for its point
+pub table-stands : (table : List ℕ) (b l label : ℕ) → table ≡ shapeList → 1 ≤ b → b ≤ 15 → l < 2 ^ b → label ≡ oddLabel b l
+    → StandsFor (getD table b 0) label (pointOf b (bits b l))
+table-stands table b l label t h k s e = rw (t, shape-at b h k, e) (label-stands b l h k s)
+
+-- the label got for a bit count
 module _ (source table : List ℕ) (at b got : ℕ) (h : 1 ≤ b) (k : b ≤ 15) (room : at + b ≤ 8 * length source) (is : got ≡ num (take b (drop at (unpack source)))) where
   pub got-small : got < 32768
   got-small = lt-of-lt-of-le (label-at source at b got room is .1) (pow-mono {i = b} {j = 15} k)
@@ -53,12 +58,23 @@ module _ (source table : List ℕ) (at b got : ℕ) (h : 1 ≤ b) (k : b ≤ 15)
   pub data-stands : (label : ℕ) → table ≡ shapeList → label ≡ oddLabel b got → StandsFor (getD table b 0) label (pointOf b (take b (drop at (unpack source))))
   data-stands label t e =
       let a = label-at source at b got room is in
-      rw (t, shape-at b h k, e, ← (a .0)) (label-stands b got h k (a .1))
+      rw (← (a .0)) (table-stands table b got label t h k (a .1) e)
 
 pub filler-stands : (table : List ℕ) (r label : ℕ) → table ≡ shapeList → label ≡ num (drawn 2 r) → StandsFor (getD table 2 0) label (pointOf 2 (drawn 2 r))
 filler-stands table r label t e =
     let a = filler-at r label e in
-    rw (t, ← (a .0)) (label-stands 2 label (omega arith) (omega arith) (a .1))
+    rw (← (a .0)) (table-stands table 2 label label t (omega arith) (omega arith) (a .1) refl)
+
+-- the bits of the label itself are those taken
+pub own-bits : (b l : ℕ) → take b (bits b l) ≡ bits b l
+own-bits b l = rw (length-bits b l) at (take-length (bits b l))
+
+pub own-stands : (table : List ℕ) (b l : ℕ) → table ≡ shapeList → 2 ≤ b → b ≤ 15 → l < 2 ^ b → StandsFor (getD table b 0) l (pointOf b (take b (bits b l)))
+own-stands table b l t h k s = rw (own-bits b l) (table-stands table b l l t (omega arith) k s (rw (le-ltb b 2 h)))
+
+-- the lowest bit of a label, tripled
+pub one-stands : (table : List ℕ) (l label : ℕ) → table ≡ shapeList → label ≡ oddLabel 1 (l % 2) → StandsFor (getD table 1 0) label (pointOf 1 (take 1 (bits 1 l)))
+one-stands table l label t e = rw (own-bits 1 l, ← (bits-mod 1 l)) (table-stands table 1 (l % 2) label t (omega arith) (omega arith) (omega arith) e)
 
 -- ---- reading
 

@@ -1,15 +1,15 @@
 -- What the mapper's loop asks and does.
-use Prim.Native.Nat.{ℕ, _+_, _*_, _≤_, _<_}
+use Prim.Native.Nat.{ℕ, _*_, _/_, _%_, _^_, _≤_, _<_, min}
 use mathlib.Core.Bool.{Bool}
 use mathlib.Core.List.{List, map}
 use mathlib.Core.Path.{_≡_}
 use lib.IntN.{ℤ, pos}
-use lib.ListN.{length, drop, getD}
+use lib.ListN.{length, getD}
 use Rattle.constellation.specs.Shaped.{Shaped, StandsFor, shapedPoint}
+use Rattle.frame.specs.Spelled.{Within, Fits}
 use Rattle.g9932.proofs.Symbols.{loads}
 use Rattle.g9932.specs.Sizes.{entry, toneOf, point, origin}
-use Rattle.g9932.specs.Filler.{drawn, afterDraws, draws, registerAfter}
-use Rattle.g9932.specs.Points.{pointOf}
+use Rattle.g9932.specs.Filler.{afterDraws, draws, registerAfter}
 use Rattle.g9932.specs.Symbol.{load, tonePoint, writePoints}
 use Rattle.g9932.specs.declared.Class.{Class}
 use Rattle.g9932.specs.declared.Class.the-variants.{Data, Monitored, Silent}
@@ -25,18 +25,12 @@ Carries (Data n) = (1 ≤ n) × (n ≤ 15)
 Carries Monitored = Unit {0}
 Carries Silent = Unit {0}
 
--- ---- one tone laid out
+-- ---- one tone laid out, from the bits left
 
-pub record Lays (c : Class) (r at : ℕ) (d : List Bool) (m : Laid) : Type 0 where
-  pub stands : StandsFor (m .shape) (m .label) (tonePoint r c (drop at d))
-  pub atIs : m .at ≡ at + load c
+pub record Lays (c : Class) (r : ℕ) (left : List Bool) (next : ℕ) (m : Laid) : Type 0 where
+  pub stands : StandsFor (m .shape) (m .label) (tonePoint r c left)
+  pub atIs : m .at ≡ next
   pub registerIs : m .register ≡ afterDraws (draws c) r
-
--- a monitored tone, whatever bits are left
-pub record LaysFiller (r at : ℕ) (m : Laid) : Type 0 where
-  pub stands : StandsFor (m .shape) (m .label) (pointOf 2 (drawn 2 r))
-  pub atIs : m .at ≡ at
-  pub registerIs : m .register ≡ afterDraws 2 r
 
 -- ---- all tones laid out
 
@@ -76,3 +70,26 @@ pub record MapsAll (cs : List Class) (r : ℕ) (d : List Bool) (after : ℕ) (xs
   pub xsHold : xsAfter ≡ map (λ p. p .px) (writePoints r cs d)
   pub ysHold : ysAfter ≡ map (λ p. p .py) (writePoints r cs d)
   pub registerIs : after ≡ registerAfter r cs
+
+-- ---- all tones, from the labels of the entries of b'
+
+-- Where the next tone's bits start is counted in halves of an entry: a tone of 1 bit takes one, a tone of more bits a whole entry.
+abbrev pub halves : ℕ → ℕ
+halves n = min n 2
+
+-- what is left of the label of the next entry
+abbrev pub labelLeft : List ℕ → ℕ → ℕ
+labelLeft ls at = entry ls (at / 2) / 2 ^ (at % 2)
+
+-- the labels of the entries that the tones' bit counts fit
+pub record LabelsFit (b g order es ls : List ℕ) : Type 0 where
+  pub bitsMost : (k : ℕ) → entry b k ≤ 15
+  pub orderMost : length order ≤ 4096
+  pub enough : length es ≤ length ls
+  pub within : Within es ls (length es)
+  pub fits : Fits (map load (classesBy b g order)) es
+
+pub record LabelRoom (b g order es ls : List ℕ) (xs ys : List ℤ) : Type 0 where
+  pub labels : LabelsFit b g order es ls
+  pub xsLength : length xs ≡ length order
+  pub ysLength : length ys ≡ length order

@@ -1,18 +1,20 @@
-// The loops over the tones in t' order: sent bits to points, and points back to sent bits.
+// The loops over the tones in t' order: sent bits or the labels of the entries to points, and points back to sent bits.
+pub mod labels;
 pub mod read;
 
 ghost use mathlib.Core.Path.{_≡_};
+ghost use mathlib.Core.List.{[]};
 ghost use Prim.Native.Nat.{_+_, _*_, _≤_};
-ghost use lib.ListN.{length};
+ghost use lib.ListN.{length, drop};
 ghost use Rattle.constellation.specs.Shapes.{shapeList};
 ghost use Rattle.g9932.specs.Sizes.{unpack};
 ghost use Rattle.g9932.specs.Symbol.{load};
-ghost use Rattle.mapper.specs.Mapping.{classesBy, Carries, Lays, LaysFiller, LayRoom, LaysAll, PutRoom, PutsAll, MapRoom, MapsAll};
+ghost use Rattle.mapper.specs.Mapping.{classesBy, Carries, Lays, LayRoom, LaysAll, PutRoom, PutsAll, MapRoom, MapsAll};
 use g9932::Class;
 use g9932::Place;
 use g9932::Tone;
 
-// A tone laid out: its odd label and the shape of its bit count, the next sent bit and the register after it.
+// A tone laid out: its odd label and the shape of its bit count, where the next tone's bits start and the register after it.
 pub struct Laid {
     pub label: u16,
     pub shape: u16,
@@ -23,7 +25,7 @@ pub struct Laid {
 // Lays out a data tone: the bits from bit `at` of the source are its label.
 fn lay_data(b: u8, shapes: &[u16; 16], source: &[u8], at: usize, register: u32) -> Laid
     requires { ⌜ (1 ≤ b) × (b ≤ 15) × (at + b ≤ 8 * length (now source)) × (length (now source) ≤ 7688) × (now shapes ≡ shapeList) ⌝ }
-    ensures { λ r. ⌜ Lays (Class.Data b) register at (unpack (now (source .entry))) r ⌝ }
+    ensures { λ r. ⌜ Lays (Class.Data b) register (drop at (unpack (now (source .entry)))) (at + b) r ⌝ }
 {
     let n = b as usize;
     let label = constellation::odd_label(b as u32, frame::get(source, at, n)) as u16;
@@ -38,7 +40,7 @@ fn lay_data(b: u8, shapes: &[u16; 16], source: &[u8], at: usize, register: u32) 
 // Lays out a monitored tone: its label is the next two filler bits.
 fn lay_filler(shapes: &[u16; 16], at: usize, register: u32) -> Laid
     requires { ⌜ now shapes ≡ shapeList ⌝ }
-    ensures { λ r. ⌜ LaysFiller register at r ⌝ }
+    ensures { λ r. ⌜ Lays Class.Monitored register [] at r ⌝ }
 {
     let f = prbs::filler_label(register);
     let label = f.label as u16;
@@ -53,7 +55,7 @@ fn lay_filler(shapes: &[u16; 16], at: usize, register: u32) -> Laid
 // Lays out a tone.
 fn lay(tone: Tone, shapes: &[u16; 16], source: &[u8], at: usize, register: u32) -> Laid
     requires { ⌜ Carries (tone .class) × (at + load (tone .class) ≤ 8 * length (now source)) × (length (now source) ≤ 7688) × (now shapes ≡ shapeList) ⌝ }
-    ensures { λ r. ⌜ Lays (tone .class) register at (unpack (now (source .entry))) r ⌝ }
+    ensures { λ r. ⌜ Lays (tone .class) register (drop at (unpack (now (source .entry)))) (at + load (tone .class)) r ⌝ }
 {
     let class = tone.class;
     match class {

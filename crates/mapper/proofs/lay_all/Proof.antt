@@ -4,16 +4,14 @@ use borrow.Author.Needs.{needs}
 use lib.ListN.{length}
 use native.Mathlib.Omega.{arith}
 use Prim.Native.Nat.{_-_}
-use Rattle.g9932.specs.Sizes.{unpack}
-use Rattle.mapper.specs.Mapping.{classesBy}
 use Rattle.mapper.proofs.Tones.{length-classes}
-use Rattle.mapper.proofs.MapLoop.{Laying, lay-start, tone-room, lay-step, laying-end}
+use Rattle.mapper.proofs.MapLoop.{BitsLeft, lay-start, tone-room, lay-step, laying-end}
 use Rattle.mapper.proofs.lay_all.Statement.{statement}
 use Rattle.mapper.proofs.lay_all.Tie as tie
 
 abbrev Inv-loop : tie.InvT-loop
 Inv-loop bits gains order source register labels₀ shapes₀ table at₀ next₀ i₀ labels shapes at next i =
-    Laying (classesBy bits gains order) register (unpack source) labels shapes at next i
+    BitsLeft bits gains order source register labels shapes at next i
 
 abbrev μ-loop : tie.MeasureT-loop
 μ-loop bits gains order source register labels₀ shapes₀ table at₀ next₀ i₀ labels shapes at next i = length order - i
@@ -61,7 +59,7 @@ loop-again c =
 returns : tie.Need-returns Inv-loop μ-loop
 returns c =
     let s = c .before .before .before .before .before .before .before in
-    laying-end (c .before .loop .inv) (omega (arith, length-classes (s .args .bits .now) (s .args .gains .now) (s .args .order .now)))
+    laying-end (c .before .loop .inv .laying) (omega (arith, length-classes (s .args .bits .now) (s .args .gains .now) (s .args .order .now)))
 
 pub lay-all-spec : {M : Type 1} → statement M
 lay-all-spec =

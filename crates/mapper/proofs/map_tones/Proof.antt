@@ -16,8 +16,9 @@ put-points-requires : tie.Need-put-points-requires
 put-points-requires c κs =
     let s = c .before .before .before .before .before .before .before .before .before .before .before in
     let l = c .before .before .before .before .lay-all in
-    put-room (s .args .bits .now) (s .args .gains .now) (s .args .order .now) (s .args .source .now) (s .args .xs .now) (s .args .ys .now)
-    (s .args .register) (unpack (s .args .source .now)) (l .result) (l .last .1 .1 .1 .1 .1 .0) (l .last .1 .1 .1 .1 .1 .1 .0) (s .pre) (l .ensures)
+    put-room (s .args .bits .now) (s .args .gains .now) (s .args .order .now) (s .args .xs .now) (s .args .ys .now) (s .args .register)
+    (unpack (s .args .source .now)) (l .result) (l .last .1 .1 .1 .1 .1 .0) (l .last .1 .1 .1 .1 .1 .1 .0) (s .pre .orderMost) (s .pre .xsLength)
+    (s .pre .ysLength) (l .ensures)
 
 same-length : tie.Need-same-length
 same-length c = search needs

@@ -1,0 +1,100 @@
+use Rattle.mapper.proofs.LabelLoop.{LabelsLeft, labels-start, label-room, labels-step}
+use Rattle.mapper.proofs.MapLoop.{laying-end}
+use Rattle.mapper.proofs.Tones.{length-classes}
+use Prim.Native.Nat.{_-_}
+use native.Mathlib.Omega.{arith}
+use lib.ListN.{length}
+use borrow.Author.Needs.{needs}
+use borrow.Author.Needs.{needs}
+use Rattle.mapper.proofs.labels.lay_labels.Statement.{statement}
+use Rattle.mapper.proofs.labels.lay_labels.Tie as tie
+use Rattle.mapper.proofs.labels.lay_labels.Reads as reads
+use Rattle.mapper.proofs.labels.lay_labels.Lts as lts
+use Rattle.constellation.proofs.shape_table.Reads as shape-table-reads
+use Rattle.mapper.proofs.labels.label_left.Reads as label-left-reads
+use Rattle.mapper.proofs.labels.lay_label.Reads as lay-label-reads
+use Rattle.tables.proofs.tone_of_place.Reads as tone-of-place-reads
+
+abbrev Inv-loop : tie.InvT-loop
+Inv-loop bits gains order entries source register labels₀ shapes₀ table at₀ next₀ i₀ labels shapes at next i =
+    LabelsLeft bits gains order entries source register labels shapes at next i
+
+abbrev μ-loop : tie.MeasureT-loop
+μ-loop bits gains order entries source register labels₀ shapes₀ table at₀ next₀ i₀ labels shapes at next i = length order - i
+
+shape-table-requires : tie.Need-shape-table-requires Inv-loop μ-loop
+shape-table-requires c κs = search needs
+
+loop-holds : tie.Need-loop-holds Inv-loop μ-loop
+loop-holds c =
+    let s = c .before .before .before .before .before .before in
+    labels-start (s .args .bits .now) (s .args .gains .now) (s .args .order .now) (s .args .entries .now) (s .args .source .now) (s .pre .0) (s .args .register)
+    (s .args .labels .now) (s .args .shapes .now) (s .pre .1) (s .pre .2)
+
+tone-of-place-requires : tie.Need-tone-of-place-requires Inv-loop μ-loop
+tone-of-place-requires c κs = search needs
+
+label-left-requires : tie.Need-label-left-requires Inv-loop μ-loop
+label-left-requires c κs = search needs
+
+lay-label-requires : tie.Need-lay-label-requires Inv-loop μ-loop
+lay-label-requires c κs =
+    let s = c .before .before .before .before .before .before .before .before .before .before .before in
+    let l = c .before .before .before .before .loop in
+    let p = c .before .before .tone-of-place in
+    let k = c .label-left in
+    let r = label-room (s .args .bits .now) (s .args .gains .now) (s .args .order .now) (s .args .entries .now) (s .args .source .now) (s .pre .0) (s .args .register)
+    (l .labels) (l .shapes) (l .at) (l .next) (l .i) (l .inv) (p .result) (omega arith) (p .ensures) (k .result) (k .ensures) in
+    (r .0, r .1, r .2, c .before .before .before .before .before .shape-table .ensures)
+
+mul-labels : tie.Need-mul-labels Inv-loop μ-loop
+mul-labels c = record { fits = omega (arith, c .before .before .before .before .before .before .before .before .before .before .before .before .pre .0 .orderMost) }
+
+element-write-labels : tie.Need-element-write-labels Inv-loop μ-loop
+element-write-labels c = omega (arith, c .before .before .before .before .before .before .before .before .before .before .before .before .pre .0 .orderMost)
+
+mul-shapes : tie.Need-mul-shapes Inv-loop μ-loop
+mul-shapes c = record { fits = omega (arith, c .before .before .before .before .before .before .before .before .before .before .before .before .pre .0 .orderMost) }
+
+element-write-shapes : tie.Need-element-write-shapes Inv-loop μ-loop
+element-write-shapes c = omega (arith, c .before .before .before .before .before .before .before .before .before .before .before .before .pre .0 .orderMost)
+
+add-i : tie.Need-add-i Inv-loop μ-loop
+add-i c = record { fits = omega (arith, c .before .before .before .before .before .before .before .before .before .before .before .before .pre .0 .orderMost) }
+
+loop-less : tie.Need-loop-less Inv-loop μ-loop
+loop-less c = omega arith
+
+loop-again : tie.Need-loop-again Inv-loop μ-loop
+loop-again c =
+    let s = c .before .before .before .before .before .before .before .before .before .before .before .before in
+    let l = c .before .before .before .before .before .loop in
+    let p = c .before .before .before .tone-of-place in
+    let k = c .before .label-left in
+    labels-step (s .args .bits .now) (s .args .gains .now) (s .args .order .now) (s .args .entries .now) (s .args .source .now) (s .pre .0) (s .args .register)
+    (l .labels) (l .shapes) (l .at) (l .next) (l .i) (l .inv) (p .result) (omega arith) (p .ensures) (k .result) (k .ensures) (c .lay-label .result) (c .lay-label .ensures)
+
+returns : tie.Need-returns Inv-loop μ-loop
+returns c =
+    let s = c .before .before .before .before .before .before .before .before in
+    laying-end (c .before .loop .inv .laying) (omega (arith, length-classes (s .args .bits .now) (s .args .gains .now) (s .args .order .now)))
+
+pub lay-labels-spec : {M : Type 1} → statement M
+lay-labels-spec =
+    tie.close
+    (tie.spec
+    Inv-loop
+    μ-loop
+    shape-table-requires
+    loop-holds
+    tone-of-place-requires
+    label-left-requires
+    lay-label-requires
+    mul-labels
+    element-write-labels
+    mul-shapes
+    element-write-shapes
+    add-i
+    loop-less
+    loop-again
+    returns)
