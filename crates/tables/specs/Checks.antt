@@ -1,5 +1,5 @@
 -- Refusals 1 to 9 in two parts, and the tests that one pass makes together.
-use Prim.Native.Nat.{ℕ, _<_}
+use Prim.Native.Nat.{ℕ, zero, suc, _<_}
 use mathlib.Core.Bool.{Bool, false, _||_}
 use mathlib.Core.List.{List}
 use mathlib.Core.Path.{_≡_}
@@ -13,7 +13,12 @@ use Rattle.g9932.specs.declared.Found.{Found}
 use Rattle.g9932.specs.declared.Found.the-variants.{Nothing}
 use Rattle.g9932.specs.declared.Mode.{Mode}
 use Rattle.tables.specs.declared.lists.Rule.{Rule}
-use Rattle.tables.specs.declared.lists.Rule.the-variants.{Bits, Stray}
+use Rattle.tables.specs.declared.lists.Rule.the-variants.{Bits, Stray, Gain}
+
+-- a test holds at some k below n
+unfoldable pub anyBelow : (ℕ → Bool) → ℕ → Bool
+anyBelow p zero = false
+anyBelow p (suc n) = anyBelow p n || p n
 
 -- 2 or 3 applies to a place in t
 abbrev pub placeFault : ℕ → List ℕ → ℕ → Bool
@@ -26,10 +31,11 @@ indexBy inT bits gain = ltb 15 bits || (strayBy inT bits gain || gainBy bits gai
 abbrev pub indexFault : List ℕ → List ℕ → List ℕ → ℕ → Bool
 indexFault b g t k = indexBy (member k t) (entry b k) (entry g k)
 
--- 4 or 5, looked for by itself
+-- 4, 5 or 6, looked for by itself
 abbrev pub ruleBy : Rule → Bool → ℕ → ℕ → Bool
 ruleBy Bits inT bits gain = ltb 15 bits
 ruleBy Stray inT bits gain = strayBy inT bits gain
+ruleBy Gain inT bits gain = gainBy bits gain
 
 abbrev pub ruleTest : Rule → List ℕ → List ℕ → List ℕ → ℕ → Bool
 ruleTest rule b g t k = ruleBy rule (member k t) (entry b k) (entry g k)

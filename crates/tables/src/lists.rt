@@ -13,9 +13,9 @@ ghost use mathlib.Core.Bool.{false};
 ghost use Prim.Native.Nat.{_<_, _≤_};
 ghost use lib.ListN.{length, replicate};
 ghost use Rattle.g9932.specs.Bits.{first};
-ghost use Rattle.g9932.specs.Refusals.{sizeTest, toneTest, strayBy};
+ghost use Rattle.g9932.specs.Refusals.{sizeTest, toneTest, strayBy, gainBy};
 ghost use Rattle.g9932.specs.Answers.{verdictOf};
-ghost use Rattle.tables.specs.Checks.{indexBy, indexFault, ruleBy, ruleTest, Marks, Passed, listVerdict};
+ghost use Rattle.tables.specs.Checks.{anyBelow, indexBy, indexFault, ruleBy, ruleTest, Marks, Passed, listVerdict};
 
 // 1 SIZE, of the three lengths.
 fn wrong_size(g: usize, gains: usize, nsc: usize) -> bool
@@ -77,55 +77,45 @@ fn first_tone(g: usize, tones: &[u16]) -> Found
 fn is_stray(seen: bool, bits: u8, gain: u16) -> bool
     ensures { λ r. ⌜ r ≡ strayBy seen bits gain ⌝ }
 {
-    if seen {
-        return false;
-    }
-    if 0 < bits {
-        return true;
-    }
-    0 < gain
+    !seen & ((0 < bits) | (0 < gain))
+}
+
+// 6 GAIN, of one index.
+fn is_wrong_gain(bits: u8, gain: u16) -> bool
+    ensures { λ r. ⌜ r ≡ gainBy bits gain ⌝ }
+{
+    (4095 < gain) | ((0 < bits) & (gain == 0))
 }
 
 // Does 4 BITS, 5 STRAY or 6 GAIN apply to an index?
 fn is_fault(seen: bool, bits: u8, gain: u16) -> bool
     ensures { λ r. ⌜ r ≡ indexBy seen bits gain ⌝ }
 {
-    if 15 < bits {
-        return true;
-    }
-    if is_stray(seen, bits, gain) {
-        return true;
-    }
-    if 4095 < gain {
-        return true;
-    }
-    if 0 < bits {
-        return gain == 0;
-    }
-    false
+    (15 < bits) | (is_stray(seen, bits, gain) | is_wrong_gain(bits, gain))
 }
 
-// The smallest index to which 4 BITS, 5 STRAY or 6 GAIN applies. `seen` marks the members of t.
-fn first_index_fault(bits: &[u8], gains: &[u16], tones: &[u16], seen: &[bool; 4096]) -> Found
+// Does 4 BITS, 5 STRAY or 6 GAIN apply to any index? `seen` marks the members of t. No early exit and no `if`, so that the
+// compiler takes many entries at a time.
+fn any_index_fault(bits: &[u8], gains: &[u16], tones: &[u16], seen: &[bool; 4096]) -> bool
     requires size { ⌜ length (now bits) ≤ 4096 ⌝ }
+    requires gains { ⌜ length (now gains) ≡ length (now bits) ⌝ }
     requires marks { ⌜ Marks (now tones) (now seen) ⌝ }
-    ensures { λ r. ⌜ r ≡ first (indexFault (now (bits .entry)) (now (gains .entry)) (now (tones .entry))) (length (now (bits .entry))) ⌝ }
+    ensures { λ r. ⌜ r ≡ anyBelow (indexFault (now (bits .entry)) (now (gains .entry)) (now (tones .entry))) (length (now (bits .entry))) ⌝ }
 {
+    let mut any = false;
     let mut i = 0;
     while i < bits.len() {
-        let k = Subcarrier(i);
-        if is_fault(seen[i], bits_at(bits, k), gain_at(gains, k)) {
-            return Found::At(i);
-        }
+        any = any | is_fault(seen[i], bits[i], gains[i]);
         i += 1;
     }
-    Found::Nothing
+    any
 }
 
-// 4 BITS or 5 STRAY, looked for by itself.
+// 4 BITS, 5 STRAY or 6 GAIN, looked for by itself.
 pub enum Rule {
     Bits,
     Stray,
+    Gain,
 }
 
 // Does the rule apply to an index?
@@ -135,6 +125,7 @@ fn breaks(rule: Rule, seen: bool, bits: u8, gain: u16) -> bool
     match rule {
         Rule::Bits => 15 < bits,
         Rule::Stray => is_stray(seen, bits, gain),
+        Rule::Gain => is_wrong_gain(bits, gain),
     }
 }
 
@@ -169,14 +160,17 @@ pub fn check_lists(bits: &[u8], gains: &[u16], tones: &[u16]) -> Checked
         }
         return Checked::Refused(Refusal::Twice(Place(twice)));
     }
-    if let Found::At(gain) = first_index_fault(bits, gains, tones, &seen) {
-        if let Found::At(k) = first_index(Rule::Bits, bits, gains, tones, &seen) {
-            return Checked::Refused(Refusal::Bits(Subcarrier(k)));
-        }
-        if let Found::At(k) = first_index(Rule::Stray, bits, gains, tones, &seen) {
-            return Checked::Refused(Refusal::Stray(Subcarrier(k)));
-        }
-        return Checked::Refused(Refusal::Gain(Subcarrier(gain)));
+    if !any_index_fault(bits, gains, tones, &seen) {
+        return Checked::Accepted(0);
+    }
+    if let Found::At(k) = first_index(Rule::Bits, bits, gains, tones, &seen) {
+        return Checked::Refused(Refusal::Bits(Subcarrier(k)));
+    }
+    if let Found::At(k) = first_index(Rule::Stray, bits, gains, tones, &seen) {
+        return Checked::Refused(Refusal::Stray(Subcarrier(k)));
+    }
+    if let Found::At(k) = first_index(Rule::Gain, bits, gains, tones, &seen) {
+        return Checked::Refused(Refusal::Gain(Subcarrier(k)));
     }
     Checked::Accepted(0)
 }
