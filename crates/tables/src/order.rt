@@ -17,7 +17,7 @@ ghost use Rattle.g9932.specs.Bits.{weight, first};
 ghost use Rattle.g9932.specs.Refusals.{pairTest};
 ghost use Rattle.g9932.specs.Order.{isOne, zeroInFront, pairsOf};
 ghost use Rattle.g9932.specs.declared.Mode.the-variants.{Uncoded, Coded};
-ghost use Rattle.tables.specs.Checks.{modeVerdict};
+ghost use Rattle.tables.specs.Checks.{anyBelow, modeVerdict};
 ghost use Rattle.tables.specs.Ordered.{OrderedBy, Room, CountsAre, Written, PlaceReady, CodedReady, Placing};
 
 // Sums over the tones: of the bits, of the loaded tones, and of the 1-bit tones.
@@ -192,11 +192,29 @@ fn holds_one(x: u8, y: u8) -> bool
     y == 1
 }
 
-// 9 PAIR: the first pair, of the n entries of b' from `from` on, that holds an entry of 1.
+// Is any of the n entries of b' from `from` on a 1? No early exit and no `if`, so that the compiler takes many entries at a time.
+fn holds_any_one(entries: &[u8], from: usize, n: usize) -> bool
+    requires { ⌜ from + n ≤ length (now entries) ⌝ }
+    ensures { λ r. ⌜ r ≡ anyBelow (λ k. isOne (getD (take n (drop from (now (entries .entry)))) k 0)) n ⌝ }
+{
+    let mut any = false;
+    let mut k = 0;
+    while k < n {
+        any = any | (entries[from + k] == 1);
+        k += 1;
+    }
+    any
+}
+
+// 9 PAIR: the first pair, of the n entries of b' from `from` on, that holds an entry of 1. Where no entry is 1 there is none to
+// look for.
 fn first_pair(entries: &[u8], from: usize, n: usize) -> Found
     requires { ⌜ from + n ≤ length (now entries) ⌝ }
     ensures { λ r. ⌜ r ≡ first (pairTest (pairsOf (take n (drop from (now (entries .entry)))))) (length (pairsOf (take n (drop from (now (entries .entry)))))) ⌝ }
 {
+    if !holds_any_one(entries, from, n) {
+        return Found::Nothing;
+    }
     let mut k = 0;
     while k < (n + 1) / 2 {
         let x = paired_entry(entries, from, n, 2 * k);
