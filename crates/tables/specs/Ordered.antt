@@ -1,12 +1,13 @@
 -- What stands in the two arrays for t' and b', and what the functions that write them ask.
-use Prim.Native.Nat.{ℕ, _+_, _-_, _%_, _≤_}
+use Prim.Native.Nat.{ℕ, _+_, _-_, _%_, _<_, _≤_}
+use mathlib.Core.Bool.{false}
 use mathlib.Core.List.{List}
 use mathlib.Core.Path.{_≡_}
 use lib.Dec.{leb}
 use lib.ListN.{length, take}
 use lib.Seq.{sets}
-use Rattle.g9932.specs.Sizes.{Tables}
-use Rattle.g9932.specs.Refusals.{Verdict, tableVerdict}
+use Rattle.g9932.specs.Sizes.{Tables, entry}
+use Rattle.g9932.specs.Refusals.{Verdict, member, twiceTest, tableVerdict}
 use Rattle.g9932.specs.Order.{sum, filter, bitsOf, singles, others, loaded, ones, reorderedTones, entryCount, reorderedBits}
 use Rattle.g9932.specs.Answers.{verdictOf}
 use Rattle.g9932.specs.declared.Mode.{Mode}
@@ -31,6 +32,14 @@ pub record Room (t order entries : List ℕ) : Type 0 where
   pub size : length t ≤ 4096
   pub orderRoom : length t ≤ length order
   pub entriesRoom : length t ≤ length entries
+
+-- what refusals 1 to 6 leave of the bit table and t: t has indices below G, each once, and only they have bits, at most 15
+pub record Medley (b t : List ℕ) : Type 0 where
+  pub size : length b ≤ 4096
+  pub below : (k : ℕ) → k < length t → entry t k < length b
+  pub once : (k : ℕ) → k < length t → twiceTest t k ≡ false
+  pub bitsMost : (k : ℕ) → entry b k ≤ 15
+  pub strayBits : (k : ℕ) → member k t ≡ false → entry b k ≡ 0
 
 -- t' and b' are written
 pub record Written (m : Mode) (b t order entries : List ℕ) : Type 0 where

@@ -16,7 +16,7 @@ ghost use Rattle.g9932.specs.Sizes.{tables, entry, toneOf};
 ghost use Rattle.g9932.specs.Refusals.{tableVerdict};
 ghost use Rattle.g9932.specs.Answers.{verdictOf, Reorders};
 ghost use Rattle.tables.specs.Checks.{modeVerdict};
-ghost use Rattle.tables.specs.Ordered.{OrderedBy, Ordered, Arrays, Room};
+ghost use Rattle.tables.specs.Ordered.{OrderedBy, Ordered, Arrays, Room, Medley};
 
 mod lists; // refusals 1 to 6
 mod order; // refusals 7 to 9, t' and b'
@@ -108,7 +108,7 @@ pub fn order_tables(
     }
 }
 
-// Refusals 7 to 9, with t' and b' written. Its caller shows that the arrays have room.
+// Refusals 7 to 9, with t' and b' written. Its caller shows that refusals 1 to 6 do not apply, and that the arrays have room.
 fn order_by(
     mode: Mode,
     bits: &[u8],
@@ -116,7 +116,8 @@ fn order_by(
     order: &mut [u16],
     entries: &mut [u8],
 ) -> Checked
-    requires { ⌜ Room (now tones) (now order) (now entries) ⌝ }
+    requires room { ⌜ Room (now tones) (now order) (now entries) ⌝ }
+    requires medley { ⌜ Medley (now bits) (now tones) ⌝ }
     ensures { λ r. ⌜ OrderedBy (modeVerdict mode (now (bits .entry)) (now (tones .entry))) mode (now (bits .entry)) (now (tones .entry)) r (now (order .exit)) (now (entries .exit)) ⌝ }
 {
     match mode {

@@ -10,7 +10,6 @@ use g9932::Subcarrier;
 ghost use mathlib.Core.Path.{_≡_};
 ghost use Prim.Native.Nat.{_+_, _%_, _<_, _≤_};
 ghost use mathlib.Core.Bool.{_||_};
-ghost use lib.Dec.{ltb};
 ghost use lib.ListN.{length, getD, take, drop, set, replicate};
 ghost use lib.Seq.{sets};
 ghost use Rattle.g9932.specs.Bits.{weight, first};
@@ -18,7 +17,7 @@ ghost use Rattle.g9932.specs.Refusals.{pairTest};
 ghost use Rattle.g9932.specs.Order.{isOne, zeroInFront, pairsOf};
 ghost use Rattle.g9932.specs.declared.Mode.the-variants.{Uncoded, Coded};
 ghost use Rattle.tables.specs.Checks.{anyBelow, modeVerdict};
-ghost use Rattle.tables.specs.Ordered.{OrderedBy, Room, CountsAre, Written, PlaceReady, CodedReady, Placing};
+ghost use Rattle.tables.specs.Ordered.{OrderedBy, Room, Medley, CountsAre, Written, PlaceReady, CodedReady, Placing};
 
 // Sums over the tones: of the bits, of the loaded tones, and of the 1-bit tones.
 pub struct Counts {
@@ -27,50 +26,35 @@ pub struct Counts {
     pub ones: usize,
 }
 
-// The counts with one tone more.
-fn with_tone(c: Counts, b: u8) -> Counts
-    requires { ⌜ (c .sum ≤ 1044480) × (c .loaded ≤ 4096) × (c .ones ≤ 4096) ⌝ }
-    ensures { λ r. ⌜ (r .sum ≡ c .sum + b) × (r .loaded ≡ c .loaded + weight (ltb 0 b)) × (r .ones ≡ c .ones + weight (isOne b)) ⌝ }
+// A test as a number to count with.
+fn one_if(test: bool) -> u16
+    ensures { λ r. ⌜ (r ≡ weight test) × (r ≤ 1) ⌝ }
 {
-    let sum = c.sum + b as usize;
-    if b == 0 {
-        return Counts {
-            sum,
-            loaded: c.loaded,
-            ones: c.ones,
-        };
-    }
-    if b == 1 {
-        return Counts {
-            sum,
-            loaded: c.loaded + 1,
-            ones: c.ones + 1,
-        };
-    }
-    Counts {
-        sum,
-        loaded: c.loaded + 1,
-        ones: c.ones,
-    }
+    test as u16
 }
 
-// The counts over all tones.
+// The counts over all tones. Only tones have bits, so that they are the counts over the bit table. The sums fit 16 bits, and there
+// is no `if`, so that the compiler takes many entries at a time.
 fn count_tones(bits: &[u8], tones: &[u16]) -> Counts
-    requires { ⌜ length (now tones) ≤ 4096 ⌝ }
+    requires { ⌜ Medley (now bits) (now tones) ⌝ }
     ensures { λ r. ⌜ CountsAre r (now (bits .entry)) (now (tones .entry)) ⌝ }
 {
-    let mut c = Counts {
-        sum: 0,
-        loaded: 0,
-        ones: 0,
-    };
+    let mut sum: u16 = 0;
+    let mut loaded: u16 = 0;
+    let mut ones: u16 = 0;
     let mut i = 0;
-    while i < tones.len() {
-        let k = tone_at(tones, Place(i));
-        c = with_tone(c, bits_at(bits, k));
+    while i < bits.len() {
+        let b = bits[i];
+        sum += b as u16;
+        loaded += one_if(0 < b);
+        ones += one_if(b == 1);
         i += 1;
     }
-    c
+    Counts {
+        sum: sum as usize,
+        loaded: loaded as usize,
+        ones: ones as usize,
+    }
 }
 
 // Writes a sub-carrier at a place of t'.
@@ -229,7 +213,8 @@ fn first_pair(entries: &[u8], from: usize, n: usize) -> Found
 
 // Coded: refusals 7 to 9 and L, with t' and b' written before 9.
 pub fn order_coded(bits: &[u8], tones: &[u16], order: &mut [u16], entries: &mut [u8]) -> Checked
-    requires { ⌜ Room (now tones) (now order) (now entries) ⌝ }
+    requires room { ⌜ Room (now tones) (now order) (now entries) ⌝ }
+    requires medley { ⌜ Medley (now bits) (now tones) ⌝ }
     ensures { λ r. ⌜ OrderedBy (modeVerdict Coded (now (bits .entry)) (now (tones .entry))) Coded (now (bits .entry)) (now (tones .entry)) r (now (order .exit)) (now (entries .exit)) ⌝ }
 {
     let c = count_tones(bits, tones);
