@@ -1,6 +1,5 @@
 // Refusals 7 to 9, and the re-ordered tables t' and b' in two arrays.
 // Only this crate's proved code calls these functions, and shows what a `requires` asks.
-use super::bits_at;
 use super::tone_at;
 use g9932::Checked;
 use g9932::Found;
@@ -13,6 +12,7 @@ ghost use mathlib.Core.Bool.{_||_};
 ghost use lib.ListN.{length, getD, take, drop, set, replicate};
 ghost use lib.Seq.{sets};
 ghost use Rattle.g9932.specs.Bits.{weight, first};
+ghost use Rattle.g9932.specs.Sizes.{entry};
 ghost use Rattle.g9932.specs.Refusals.{pairTest};
 ghost use Rattle.g9932.specs.Order.{isOne, zeroInFront, pairsOf};
 ghost use Rattle.g9932.specs.declared.Mode.the-variants.{Uncoded, Coded};
@@ -57,6 +57,15 @@ fn count_tones(bits: &[u8], tones: &[u16]) -> Counts
     }
 }
 
+// The bits of a sub-carrier of the table.
+fn bits_of(bits: &[u8], k: Subcarrier) -> u8
+    requires { ⌜ k .0 < length (now bits) ⌝ }
+    ensures { λ r. ⌜ r ≡ entry (now (bits .entry)) (k .0) ⌝ }
+{
+    let at = k.0;
+    bits[at]
+}
+
 // Writes a sub-carrier at a place of t'.
 fn put_tone(order: &mut [u16], p: Place, k: Subcarrier)
     requires { ⌜ (p .0 < length (now order)) × (k .0 < 65536) ⌝ }
@@ -68,14 +77,15 @@ fn put_tone(order: &mut [u16], p: Place, k: Subcarrier)
 
 // Uncoded: t' is t, b' lists the bits in t order, and L is their sum.
 pub fn order_uncoded(bits: &[u8], tones: &[u16], order: &mut [u16], entries: &mut [u8]) -> Checked
-    requires { ⌜ Room (now tones) (now order) (now entries) ⌝ }
+    requires room { ⌜ Room (now tones) (now order) (now entries) ⌝ }
+    requires medley { ⌜ Medley (now bits) (now tones) ⌝ }
     ensures { λ r. ⌜ OrderedBy (modeVerdict Uncoded (now (bits .entry)) (now (tones .entry))) Uncoded (now (bits .entry)) (now (tones .entry)) r (now (order .exit)) (now (entries .exit)) ⌝ }
 {
     let mut sum: usize = 0;
     let mut i = 0;
     while i < tones.len() {
         let k = tone_at(tones, Place(i));
-        let b = bits_at(bits, k);
+        let b = bits_of(bits, k);
         put_tone(order, Place(i), k);
         entries[i] = b;
         sum += b as usize;
@@ -117,7 +127,7 @@ fn place_tones(
     let mut i = 0;
     while i < tones.len() {
         let k = tone_at(tones, Place(i));
-        let b = bits_at(bits, k);
+        let b = bits_of(bits, k);
         i += 1;
         if b == 1 {
             put_tone(order, Place(one), k);

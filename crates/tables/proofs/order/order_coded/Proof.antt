@@ -48,7 +48,8 @@ write-coded-requires : tie.Need-write-coded-requires
 write-coded-requires c κs =
     let k = c .before .before .before .before .before .before .before .count-tones .ensures in
     let e = c .before .before .before .before .before .if1 .left in
-    (record { onesIs = k .onesIs; even = coded-even k e; zerosIs = omega (arith, coded-count k e) }, c .before .before .before .before .before .before .before .before .before .before .before .before .pre .0)
+    let r = c .before .before .before .before .before .before .before .before .before .before .before .before .pre in
+    (record { onesIs = k .onesIs; even = coded-even k e; zerosIs = omega (arith, coded-count k e); below = r .1 .below }, r .0)
 
 first-pair-requires : tie.Need-first-pair-requires
 first-pair-requires c κs =

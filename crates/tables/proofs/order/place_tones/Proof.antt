@@ -20,17 +20,17 @@ abbrev μ-loop : tie.MeasureT-loop
 -- there is room for the tone at place i: behind the others, where it is a 1-bit tone,
 behind-room : (c : tie.Then1 Inv-loop μ-loop) → c .before .before .before .before .loop .one < length (now (c .before .before .before .before .before .before .before .before .before .args .order))
 behind-room c =
-    omega (arith, single-room (c .before .before .before .before .loop .inv .2) (c .before .before .tone-at .ensures) (c .before .bits-at .ensures) (omega arith) (c .if1 .taken), c .before .before .before .before .before .before .before .before .before .pre .orderRoom)
+    omega (arith, single-room (c .before .before .before .before .loop .inv .2) (c .before .before .tone-at .ensures) (c .before .bits-of .ensures) (omega arith) (c .if1 .taken), c .before .before .before .before .before .before .before .before .before .pre .orderRoom)
 
 -- else in front of the 1-bit tones,
 front-room : (c : tie.Else1 Inv-loop μ-loop) → c .before .before .before .before .loop .other < length (now (c .before .before .before .before .before .before .before .before .before .args .order))
 front-room c =
-    omega (arith, other-room (c .before .before .before .before .loop .inv .2) (c .before .before .tone-at .ensures) (c .before .bits-at .ensures) (omega arith) (c .if1 .left), c .before .before .before .before .before .before .before .before .before .pre .orderRoom)
+    omega (arith, other-room (c .before .before .before .before .loop .inv .2) (c .before .before .tone-at .ensures) (c .before .bits-of .ensures) (omega arith) (c .if1 .left), c .before .before .before .before .before .before .before .before .before .pre .orderRoom)
 
 -- and for its bits, where there are at least 2
 bits-room : (c : tie.Then2 Inv-loop μ-loop) → c .before .before .before .before .before .before .before .before .before .loop .at < length (now (c .before .before .before .before .before .before .before .before .before .before .before .before .before .before .args .entries))
 bits-room c =
-    omega (arith, big-room (c .before .before .before .before .before .before .before .before .before .loop .inv .2) (c .before .before .before .before .before .before .before .tone-at .ensures) (c .before .before .before .before .before .before .bits-at .ensures) (omega arith) (c .if2 .taken), c .before .before .before .before .before .before .before .before .before .before .before .before .before .before .pre .entriesRoom)
+    omega (arith, big-room (c .before .before .before .before .before .before .before .before .before .loop .inv .2) (c .before .before .before .before .before .before .before .tone-at .ensures) (c .before .before .before .before .before .before .bits-of .ensures) (omega arith) (c .if2 .taken), c .before .before .before .before .before .before .before .before .before .before .before .before .before .before .pre .entriesRoom)
 
 loop-holds : tie.Need-loop-holds Inv-loop μ-loop
 loop-holds c = (refl, refl, ahead-start (c .before .before .before .before .pre .behindIs))
@@ -38,8 +38,8 @@ loop-holds c = (refl, refl, ahead-start (c .before .before .before .before .pre 
 tone-at-requires : tie.Need-tone-at-requires Inv-loop μ-loop
 tone-at-requires c κs = search needs
 
-bits-at-requires : tie.Need-bits-at-requires Inv-loop μ-loop
-bits-at-requires c κs = search needs
+bits-of-requires : tie.Need-bits-of-requires Inv-loop μ-loop
+bits-of-requires c κs = omega (arith, c .tone-at .ensures, c .before .before .before .before .before .before .before .pre .below (c .before .before .loop .i) (omega arith))
 
 add-i : tie.Need-add-i Inv-loop μ-loop
 add-i c = search needs
@@ -58,7 +58,7 @@ loop-again : tie.Need-loop-again Inv-loop μ-loop
 loop-again c =
     let l = c .before .before .before .before .before .before .before .before .loop in
     let p = c .before .before .put-tone in
-    (p .kept .0 ∙ l .inv .0, l .inv .1, ahead-single (l .inv .2) (c .before .before .before .before .before .before .tone-at .ensures) (c .before .before .before .before .before .bits-at .ensures) (omega arith) (c .before .before .before .before .if1 .taken) (p .ensures))
+    (p .kept .0 ∙ l .inv .0, l .inv .1, ahead-single (l .inv .2) (c .before .before .before .before .before .before .tone-at .ensures) (c .before .before .before .before .before .bits-of .ensures) (omega arith) (c .before .before .before .before .if1 .taken) (p .ensures))
 
 put-tone-requires-2 : tie.Need-put-tone-requires-2 Inv-loop μ-loop
 put-tone-requires-2 c κs =
@@ -80,7 +80,7 @@ loop-again-2 : tie.Need-loop-again-2 Inv-loop μ-loop
 loop-again-2 c =
     let l = c .before .before .before .before .before .before .before .before .before .loop in
     let p = c .before .before .before .put-tone2 in
-    (p .kept .0 ∙ l .inv .0, length-set (l .entries) (l .at) (c .before .before .before .before .before .before .bits-at .result) ∙ l .inv .1, ahead-big (l .inv .2) (c .before .before .before .before .before .before .before .tone-at .ensures) (c .before .before .before .before .before .before .bits-at .ensures) (omega arith) (c .before .before .before .before .before .if1 .left) (p .ensures) (c .if2 .taken))
+    (p .kept .0 ∙ l .inv .0, length-set (l .entries) (l .at) (c .before .before .before .before .before .before .bits-of .result) ∙ l .inv .1, ahead-big (l .inv .2) (c .before .before .before .before .before .before .before .tone-at .ensures) (c .before .before .before .before .before .before .bits-of .ensures) (omega arith) (c .before .before .before .before .before .if1 .left) (p .ensures) (c .if2 .taken))
 
 loop-less-3 : tie.Need-loop-less-3 Inv-loop μ-loop
 loop-less-3 c = omega arith
@@ -89,7 +89,7 @@ loop-again-3 : tie.Need-loop-again-3 Inv-loop μ-loop
 loop-again-3 c =
     let l = c .before .before .before .before .before .before .before .before .before .loop in
     let p = c .before .before .before .put-tone2 in
-    (p .kept .0 ∙ l .inv .0, l .inv .1, ahead-zero (l .inv .2) (c .before .before .before .before .before .before .before .tone-at .ensures) (c .before .before .before .before .before .before .bits-at .ensures) (omega arith) (c .before .before .before .before .before .if1 .left) (p .ensures) (c .if2 .left))
+    (p .kept .0 ∙ l .inv .0, l .inv .1, ahead-zero (l .inv .2) (c .before .before .before .before .before .before .before .tone-at .ensures) (c .before .before .before .before .before .before .bits-of .ensures) (omega arith) (c .before .before .before .before .before .if1 .left) (p .ensures) (c .if2 .left))
 
 same-length : tie.Need-same-length Inv-loop μ-loop
 same-length c = search needs
@@ -108,7 +108,7 @@ place-tones-spec =
     μ-loop
     loop-holds
     tone-at-requires
-    bits-at-requires
+    bits-of-requires
     add-i
     put-tone-requires
     add-one
