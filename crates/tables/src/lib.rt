@@ -12,6 +12,8 @@ use order::copy_tones;
 use order::order_coded;
 use order::order_uncoded;
 ghost use mathlib.Core.Path.{_≡_};
+ghost use Prim.Native.Nat.{_≤_};
+ghost use Rattle.g9932.specs.Bits.{weight};
 ghost use Rattle.g9932.specs.Sizes.{tables, entry, toneOf};
 ghost use Rattle.g9932.specs.Refusals.{tableVerdict};
 ghost use Rattle.g9932.specs.Answers.{verdictOf, Reorders};
@@ -77,6 +79,13 @@ pub fn tone_of_place(bits: &[u8], gains: &[u16], tones: &[u16], p: Place) -> Ton
 {
     let k = tone_at(tones, p);
     tone_of(bits_at(bits, k), gain_at(gains, k))
+}
+
+// A test as a number to count with.
+fn one_if(test: bool) -> u16
+    ensures { λ r. ⌜ (r ≡ weight test) × (r ≤ 1) ⌝ }
+{
+    test as u16
 }
 
 // Checks the tables and tells L: refusals 1 to 9.

@@ -2,6 +2,7 @@
 // Only this crate's proved code calls these functions, and shows what a `requires` asks.
 use super::bits_at;
 use super::gain_at;
+use super::one_if;
 use super::tone_at;
 use g9932::Checked;
 use g9932::Found;
@@ -15,7 +16,7 @@ ghost use lib.ListN.{length, replicate};
 ghost use Rattle.g9932.specs.Bits.{first};
 ghost use Rattle.g9932.specs.Refusals.{sizeTest, toneTest, strayBy, gainBy};
 ghost use Rattle.g9932.specs.Answers.{verdictOf};
-ghost use Rattle.tables.specs.Checks.{anyBelow, indexBy, indexFault, ruleBy, ruleTest, Marks, Passed, listVerdict};
+ghost use Rattle.tables.specs.Checks.{anyBelow, indexBy, indexFault, ruleBy, ruleTest, Below, marked, trues, Marks, Passed, listVerdict};
 
 // 1 SIZE, of the three lengths.
 fn wrong_size(g: usize, gains: usize, nsc: usize) -> bool
@@ -34,6 +35,49 @@ fn wrong_size(g: usize, gains: usize, nsc: usize) -> bool
         return true;
     }
     g < nsc
+}
+
+// Does 2 TONE apply to any place? No early exit and no `if`, so that the compiler takes many entries at a time.
+fn any_tone_fault(g: usize, tones: &[u16]) -> bool
+    requires { ⌜ g ≤ 4096 ⌝ }
+    ensures { λ r. ⌜ r ≡ anyBelow (toneTest g (now (tones .entry))) (length (now (tones .entry))) ⌝ }
+{
+    let end = g as u16;
+    let mut any = false;
+    let mut i = 0;
+    while i < tones.len() {
+        any = any | (end <= tones[i]);
+        i += 1;
+    }
+    any
+}
+
+// Marks every entry of t.
+fn mark_tones(tones: &[u16], seen: &mut [bool; 4096])
+    requires { ⌜ Below 4096 (now tones) ⌝ }
+    ensures { λ _. ⌜ now (seen .exit) ≡ marked (now (seen .entry)) (now (tones .entry)) ⌝ }
+{
+    let mut i = 0;
+    while i < tones.len() {
+        let k = tone_at(tones, Place(i));
+        let at = k.0;
+        seen[at] = true;
+        i += 1;
+    }
+}
+
+// How many are marked?
+fn count_marks(seen: &[bool; 4096]) -> usize
+    requires { ⌜ length (now seen) ≡ 4096 ⌝ }
+    ensures { λ r. ⌜ r ≡ trues (now (seen .entry)) ⌝ }
+{
+    let mut n: u16 = 0;
+    let mut i = 0;
+    while i < 4096 {
+        n += one_if(seen[i]);
+        i += 1;
+    }
+    n as usize
 }
 
 // The first place in t where 2 TONE or 3 TWICE applies. Marks each entry that it passes.
@@ -56,6 +100,24 @@ fn first_place_fault(g: usize, tones: &[u16], seen: &mut [bool; 4096]) -> Found
         i += 1;
     }
     Found::Nothing
+}
+
+// The first place in t where 2 TONE or 3 TWICE applies; where neither does, every entry is marked. As many marks as entries say
+// that no entry comes twice, and only otherwise is a place looked for.
+fn pass_tones(g: usize, tones: &[u16], seen: &mut [bool; 4096]) -> Found
+    requires clear { ⌜ now seen ≡ replicate 4096 false ⌝ }
+    requires size { ⌜ g ≤ 4096 ⌝ }
+    ensures { λ r. ⌜ Passed g (now (tones .entry)) r (now (seen .exit)) ⌝ }
+{
+    if any_tone_fault(g, tones) {
+        return first_place_fault(g, tones, seen);
+    }
+    mark_tones(tones, seen);
+    if count_marks(seen) == tones.len() {
+        return Found::Nothing;
+    }
+    let mut again = [false; 4096];
+    first_place_fault(g, tones, &mut again)
 }
 
 // 2 TONE: the first place whose entry is G or more.
@@ -146,7 +208,7 @@ fn first_index(rule: Rule, bits: &[u8], gains: &[u16], tones: &[u16], seen: &[bo
     Found::Nothing
 }
 
-// Refusals 1 to 6. One pass over t and one over the indices accept; which number applies is looked for only after that.
+// Refusals 1 to 6. Passes over all of t and over all indices accept; which number applies is looked for only after that.
 pub fn check_lists(bits: &[u8], gains: &[u16], tones: &[u16]) -> Checked
     ensures { λ r. ⌜ verdictOf r ≡ listVerdict (now (bits .entry)) (now (gains .entry)) (now (tones .entry)) ⌝ }
 {
@@ -154,7 +216,7 @@ pub fn check_lists(bits: &[u8], gains: &[u16], tones: &[u16]) -> Checked
         return Checked::Refused(Refusal::Size);
     }
     let mut seen = [false; 4096];
-    if let Found::At(twice) = first_place_fault(bits.len(), tones, &mut seen) {
+    if let Found::At(twice) = pass_tones(bits.len(), tones, &mut seen) {
         if let Found::At(p) = first_tone(bits.len(), tones) {
             return Checked::Refused(Refusal::Tone(Place(p)));
         }

@@ -1,5 +1,6 @@
 // Refusals 7 to 9, and the re-ordered tables t' and b' in two arrays.
 // Only this crate's proved code calls these functions, and shows what a `requires` asks.
+use super::one_if;
 use super::tone_at;
 use g9932::Checked;
 use g9932::Found;
@@ -11,7 +12,7 @@ ghost use Prim.Native.Nat.{_+_, _%_, _<_, _≤_};
 ghost use mathlib.Core.Bool.{_||_};
 ghost use lib.ListN.{length, getD, take, drop, set, replicate};
 ghost use lib.Seq.{sets};
-ghost use Rattle.g9932.specs.Bits.{weight, first};
+ghost use Rattle.g9932.specs.Bits.{first};
 ghost use Rattle.g9932.specs.Sizes.{entry};
 ghost use Rattle.g9932.specs.Refusals.{pairTest};
 ghost use Rattle.g9932.specs.Order.{isOne, zeroInFront, pairsOf};
@@ -24,13 +25,6 @@ pub struct Counts {
     pub sum: usize,
     pub loaded: usize,
     pub ones: usize,
-}
-
-// A test as a number to count with.
-fn one_if(test: bool) -> u16
-    ensures { λ r. ⌜ (r ≡ weight test) × (r ≤ 1) ⌝ }
-{
-    test as u16
 }
 
 // The counts over all tones. Only tones have bits, so that they are the counts over the bit table. The sums fit 16 bits, and there

@@ -22,7 +22,7 @@ sizes c = size-facts _ _ _ (sized c)
 
 -- 2 and 3 do not apply either
 placed : (c : tie.After-enum-told2) → let a = c .before .before .before .before .before .before .before .before .before .args in first (placeFault (length (now (a .bits))) (now (a .tones))) (length (now (a .tones))) ≡ Nothing
-placed c = sym (c .before .before .first-place-fault .ensures .found) ∙ c .enum-told2 .given .1
+placed c = sym (c .before .before .pass-tones .ensures .found) ∙ c .enum-told2 .given .1
 
 wrong-size-requires : tie.Need-wrong-size-requires
 wrong-size-requires c κs = search needs
@@ -30,8 +30,8 @@ wrong-size-requires c κs = search needs
 returns : tie.Need-returns
 returns c = refused-size _ _ _ (sym (c .before .wrong-size .ensures) ∙ c .if1 .taken)
 
-first-place-fault-requires : tie.Need-first-place-fault-requires
-first-place-fault-requires c κs = (refl, sizes (c .before) .top)
+pass-tones-requires : tie.Need-pass-tones-requires
+pass-tones-requires c κs = (refl, sizes (c .before) .top)
 
 enum-known-twice : tie.Need-enum-known-twice
 enum-known-twice c = search needs
@@ -51,7 +51,7 @@ enum-told c = search needs
 returns-3 : tie.Need-returns-3
 returns-3 c =
     refused-twice _ _ _ (sized (c .before .before .before .before .before .before .before .before)) (sym (c .before .before .first-tone .ensures) ∙ c .enum-told .given .1)
-    (sym (c .before .before .before .before .before .before .first-place-fault .ensures .found) ∙ c .before .before .before .before .twice .given .1)
+    (sym (c .before .before .before .before .before .before .pass-tones .ensures .found) ∙ c .before .before .before .before .twice .given .1)
 
 enum-told-2 : tie.Need-enum-told-2
 enum-told-2 c = search needs
@@ -59,7 +59,7 @@ enum-told-2 c = search needs
 any-index-fault-requires : tie.Need-any-index-fault-requires
 any-index-fault-requires c κs =
     let s = sizes (c .before .before .before .before .before) in
-    (s .top, (s .gainsFit, c .before .before .before .first-place-fault .ensures .marks (c .before .enum-told2 .given .1)))
+    (s .top, (s .gainsFit, c .before .before .before .pass-tones .ensures .marks (c .before .enum-told2 .given .1)))
 
 returns-4 : tie.Need-returns-4
 returns-4 c =
@@ -67,7 +67,7 @@ returns-4 c =
     lists-passed _ _ _ (sized (s .before .before .before .before)) (placed s) (sym (c .before .any-index-fault .ensures) ∙ not-true _ (c .if2 .taken))
 
 first-index-requires : tie.Need-first-index-requires
-first-index-requires c κs = (sizes (c .before .before .before .before .before .before .before .before) .top, c .before .before .before .before .before .before .first-place-fault .ensures .marks (c .before .before .before .before .enum-told2 .given .1))
+first-index-requires c κs = (sizes (c .before .before .before .before .before .before .before .before) .top, c .before .before .before .before .before .before .pass-tones .ensures .marks (c .before .before .before .before .enum-told2 .given .1))
 
 enum-known-k : tie.Need-enum-known-k
 enum-known-k c = search needs
@@ -81,7 +81,7 @@ enum-told-3 : tie.Need-enum-told-3
 enum-told-3 c = search needs
 
 first-index-requires-2 : tie.Need-first-index-requires-2
-first-index-requires-2 c κs = (sizes (c .before .before .before .before .before .before .before .before .before .before .before .before) .top, c .before .before .before .before .before .before .before .before .before .before .first-place-fault .ensures .marks (c .before .before .before .before .before .before .before .before .enum-told2 .given .1))
+first-index-requires-2 c κs = (sizes (c .before .before .before .before .before .before .before .before .before .before .before .before) .top, c .before .before .before .before .before .before .before .before .before .before .pass-tones .ensures .marks (c .before .before .before .before .before .before .before .before .enum-told2 .given .1))
 
 enum-known-k-2 : tie.Need-enum-known-k-2
 enum-known-k-2 c = search needs
@@ -96,7 +96,7 @@ enum-told-4 : tie.Need-enum-told-4
 enum-told-4 c = search needs
 
 first-index-requires-3 : tie.Need-first-index-requires-3
-first-index-requires-3 c κs = (sizes (c .before .before .before .before .before .before .before .before .before .before .before .before .before .before .before .before) .top, c .before .before .before .before .before .before .before .before .before .before .before .before .before .before .first-place-fault .ensures .marks (c .before .before .before .before .before .before .before .before .before .before .before .before .enum-told2 .given .1))
+first-index-requires-3 c κs = (sizes (c .before .before .before .before .before .before .before .before .before .before .before .before .before .before .before .before) .top, c .before .before .before .before .before .before .before .before .before .before .before .before .before .before .pass-tones .ensures .marks (c .before .before .before .before .before .before .before .before .before .before .before .before .enum-told2 .given .1))
 
 enum-known-k-3 : tie.Need-enum-known-k-3
 enum-known-k-3 c = search needs
@@ -122,7 +122,7 @@ check-lists-spec =
     (tie.spec
     wrong-size-requires
     returns
-    first-place-fault-requires
+    pass-tones-requires
     enum-known-twice
     first-tone-requires
     enum-known-p

@@ -1,4 +1,4 @@
--- `tables::order::one_if` meets its contract, by its two values.
+-- `tables::one_if` meets its contract, by its two values.
 use mathlib.Core.Bool.{Bool, true, false}
 use mathlib.Core.Path.{_≡_, refl}
 use native.Mathlib.Omega.{arith}
@@ -6,8 +6,8 @@ use Prim.Native.Nat.{_≤_}
 use mir.Val.{boolByte}
 use Rattle.g9932.specs.Bits.{weight}
 use borrow.Author.Needs.{needs}
-use Rattle.tables.proofs.order.one_if.Statement.{statement}
-use Rattle.tables.proofs.order.one_if.Tie as tie
+use Rattle.tables.proofs.one_if.Statement.{statement}
+use Rattle.tables.proofs.one_if.Tie as tie
 
 values : (b : Bool) → (boolByte b ≡ weight b) × (boolByte b ≤ 1)
 unfolding weight
