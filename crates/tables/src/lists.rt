@@ -11,7 +11,7 @@ use g9932::Refusal;
 use g9932::Subcarrier;
 ghost use mathlib.Core.Path.{_≡_};
 ghost use mathlib.Core.Bool.{false};
-ghost use Prim.Native.Nat.{_<_, _≤_};
+ghost use Prim.Native.Nat.{_≤_};
 ghost use lib.ListN.{length, replicate};
 ghost use Rattle.g9932.specs.Bits.{first};
 ghost use Rattle.g9932.specs.Refusals.{sizeTest, toneTest, strayBy, gainBy};
