@@ -123,16 +123,17 @@ fn place_tones(
         let k = tone_at(tones, Place(i));
         let b = bits_of(bits, k);
         i += 1;
-        if b == 1 {
+        if 2 <= b {
+            put_tone(order, Place(other), k);
+            other += 1;
+            entries[at] = b;
+            at += 1;
+        } else if b == 1 {
             put_tone(order, Place(one), k);
             one += 1;
         } else {
             put_tone(order, Place(other), k);
             other += 1;
-            if 2 <= b {
-                entries[at] = b;
-                at += 1;
-            }
         }
     }
 }
