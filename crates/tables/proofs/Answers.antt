@@ -1,24 +1,28 @@
 -- Laws of the answers: checking with t' and b' in two arrays, and re-ordering, from what the parts answer.
-use Prim.Native.Nat.{ℕ, _≤_}
+use Prim.Native.Nat.{ℕ, _<_, _≤_}
 use mathlib.Core.Bool.{true, false, _||_}
 use mathlib.Core.List.{List}
-use mathlib.Core.Path.{_≡_, sym, ap, _∙_}
+use mathlib.Core.Path.{_≡_, refl, sym, ap, _∙_}
 use native.Mathlib.Omega.{arith}
 use borrow.Author.Tests.{eq-eqb, eqb-false}
 use lib.ListN.{length, take}
+use Rattle.g9932.specs.Bits.{first}
 use Rattle.g9932.specs.Sizes.{Tables, tables}
-use Rattle.g9932.specs.Refusals.{Verdict, accepted, roomTest, tableVerdict}
+use Rattle.g9932.specs.Refusals.{Verdict, accepted, sizeTest, toneTest, twiceTest, roomTest, tableVerdict}
 use Rattle.g9932.specs.Answers.{verdictOf, orderVerdict, Reorders}
 use Rattle.g9932.specs.declared.Mode.{Mode}
+use Rattle.g9932.specs.declared.Mode.the-variants.{Uncoded}
 use Rattle.g9932.specs.declared.Refusal.{Refusal}
 use Rattle.g9932.specs.declared.Refusal.the-variants.{Room}
 use Rattle.g9932.specs.declared.Checked.{Checked}
 use Rattle.g9932.specs.declared.Checked.the-variants.{Accepted, Refused}
 use Rattle.g9932.proofs.Accepted.{accepted-tables}
-use Rattle.g9932.proofs.Verdicts.{test-here, test-past, test-none, number-some, and-refused, and-accepted, and-none, done-refused, done-accepted}
+use Rattle.g9932.proofs.Search.{first-no}
+use Rattle.g9932.proofs.Verdicts.{test-here, test-past, test-none, found-none, number-some, and-refused, and-accepted, and-none, done-refused, done-accepted}
 use Rattle.tables.specs.Checks.{listVerdict, modeVerdict}
-use Rattle.tables.specs.Ordered.{OrderedBy, Ordered}
+use Rattle.tables.specs.Ordered.{OrderedBy, Ordered, Medley}
 use Rattle.tables.proofs.Faults.{size-facts, two-parts}
+use Rattle.tables.proofs.Modes.{uncoded-verdict}
 
 number-none : {l : ℕ} {v : Verdict} → accepted l ≡ v → v .number ≡ 0
 number-none e = sym (ap (λ (v : Verdict). v .number) e)
@@ -27,6 +31,21 @@ number-none e = sym (ap (λ (v : Verdict). v .number) e)
 pub lists-fit : (b g t : List ℕ) {l : ℕ} → accepted l ≡ listVerdict b g t → length t ≤ 4096
 unfolding listVerdict
 lists-fit b g t e = let z = size-facts (length b) (length g) (length t) (test-none 0 _ _ (number-none e) .0) in omega arith
+
+-- t without a repeat
+lists-once : (b g t : List ℕ) {l : ℕ} → accepted l ≡ listVerdict b g t → (k : ℕ) → k < length t → twiceTest t k ≡ false
+unfolding listVerdict
+lists-once b g t e =
+    let p1 = test-none 0 (sizeTest (length b) (length g) (length t)) _ (number-none e) in
+    let p2 = found-none 1 (first (toneTest (length b) t) (length t)) _ (p1 .1) in
+    let p3 = found-none 2 (first (twiceTest t) (length t)) _ (p2 .1) in
+    first-no (twiceTest t) (length t) (p3 .0)
+
+-- and a bit table whose bits are the tones': in uncoded mode nothing else is refused
+pub lists-medley : (b g t : List ℕ) {l : ℕ} → accepted l ≡ listVerdict b g t → Medley b t
+lists-medley b g t {l} e =
+    let a = accepted-tables (tables Uncoded b g t) (number-none (uncoded-verdict b t refl ∙ and-accepted l e refl ∙ sym (two-parts Uncoded b g t))) in
+    record { size = a .tableMost; below = a .tonesBelow; once = lists-once b g t e; bitsMost = a .bitsMost; strayBits = a .strayBits }
 
 pub table-fits : (T : Tables) {l : ℕ} → accepted l ≡ tableVerdict T → length (T .tones) ≤ 4096
 table-fits T e = let a = accepted-tables T (number-none e) in omega (arith, a .tonesMost, a .tableMost)

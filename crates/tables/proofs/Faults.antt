@@ -5,7 +5,7 @@ use mathlib.Core.Bool.{Bool, true, false, not, _||_}
 use mathlib.Core.List.{List}
 use mathlib.Core.Path.{_≡_, refl, sym, ap, _∙_}
 use native.Mathlib.Omega.{arith}
-use borrow.Author.Tests.{ltb-false, ne-eqb}
+use borrow.Author.Tests.{ltb-false, eqb-true, ne-eqb, not-false}
 use lib.Dec.{ltb, eqb}
 use lib.ListN.{length}
 use Rattle.g9932.specs.Bits.{first}
@@ -17,7 +17,8 @@ use Rattle.g9932.specs.declared.Mode.{Mode}
 use Rattle.g9932.proofs.Identities.{or-false}
 use Rattle.g9932.proofs.Search.{first-no, first-all, first-ext}
 use Rattle.g9932.proofs.Verdicts.{test-here, test-past, found-here, found-past}
-use Rattle.tables.specs.Checks.{placeFault, indexFault, listVerdict, modeVerdict}
+use Rattle.tables.specs.Checks.{anyBelow, placeFault, indexFault, listVerdict, modeVerdict}
+use Rattle.tables.proofs.Scans.{any-nothing}
 
 -- where neither of two tests holds anywhere; and where the first of them does not
 module _ (p q : ℕ → Bool) (n : ℕ) where
@@ -30,11 +31,12 @@ module _ (p q : ℕ → Bool) (n : ℕ) where
   or-second e = first-ext (λ k. p k || q k) q n (λ k l. ap (λ (x : Bool). x || q k) (first-no p n e k l))
 
 -- what the size test leaves
-pub record SizeFacts (g nsc : ℕ) : Type 0 where
+pub record SizeFacts (g gains nsc : ℕ) : Type 0 where
   pub top : g ≤ 4096
+  pub gainsFit : gains ≡ g
   pub tonesFit : nsc ≤ g
 
-pub size-facts : (g n m : ℕ) → sizeTest g n m ≡ false → SizeFacts g m
+pub size-facts : (g n m : ℕ) → sizeTest g n m ≡ false → SizeFacts g n m
 size-facts g n m e =
     let w4 = or-false (ltb g 1 || ltb 4096 g || not (eqb n g) || ltb m 1) (ltb g m) e in
     let w3 = or-false (ltb g 1 || ltb 4096 g || not (eqb n g)) (ltb m 1) (w4 .0) in
@@ -42,6 +44,7 @@ size-facts g n m e =
     let w1 = or-false (ltb g 1) (ltb 4096 g) (w2 .0) in
     record {
       top = ltb-false _ _ (w1 .1);
+      gainsFit = eqb-true _ _ (not-false _ (w2 .1));
       tonesFit = ltb-false _ _ (w4 .1);
     }
 
@@ -81,19 +84,17 @@ module _ (b g t : List ℕ) where
       pub refused-stray : {k : ℕ} → first (bitsTest b) (length b) ≡ Nothing → first (strayTest b g t) (length b) ≡ At k → refused 5 k ≡ listVerdict b g t
       refused-stray n e = past-places (found-past 4 n (found-here 5 _ e))
 
-      abbrev strayOrGain : ℕ → Bool
-      strayOrGain k = strayTest b g t k || gainTest b g k
+      pub refused-gain : {k : ℕ} → first (bitsTest b) (length b) ≡ Nothing → first (strayTest b g t) (length b) ≡ Nothing → first (gainTest b g) (length b) ≡ At k → refused 6 k ≡ listVerdict b g t
+      refused-gain n m e = past-places (found-past 4 n (found-past 5 m (found-here 6 _ e)))
 
-      pub refused-gain : {k : ℕ} → first (bitsTest b) (length b) ≡ Nothing → first (strayTest b g t) (length b) ≡ Nothing → first (indexFault b g t) (length b) ≡ At k → refused 6 k ≡ listVerdict b g t
-      refused-gain n m e =
-          let f = or-second (bitsTest b) strayOrGain (length b) n ∙ or-second (strayTest b g t) (gainTest b g) (length b) m in
-          past-places (found-past 4 n (found-past 5 m (found-here 6 _ (sym f ∙ e))))
+      pub none-refused : first (bitsTest b) (length b) ≡ Nothing → first (strayTest b g t) (length b) ≡ Nothing → first (gainTest b g) (length b) ≡ Nothing → accepted 0 ≡ listVerdict b g t
+      none-refused n m e = past-places (found-past 4 n (found-past 5 m (found-past 6 e refl)))
 
-      pub lists-passed : first (indexFault b g t) (length b) ≡ Nothing → accepted 0 ≡ listVerdict b g t
+      pub lists-passed : anyBelow (indexFault b g t) (length b) ≡ false → accepted 0 ≡ listVerdict b g t
       lists-passed e =
-          let w = or-nothing (bitsTest b) strayOrGain (length b) e in
+          let w = or-nothing (bitsTest b) (λ k. strayTest b g t k || gainTest b g k) (length b) (any-nothing (indexFault b g t) (length b) e) in
           let v = or-nothing (strayTest b g t) (gainTest b g) (length b) (w .1) in
-          past-places (found-past 4 (w .0) (found-past 5 (v .0) (found-past 6 (v .1) refl)))
+          none-refused (w .0) (v .0) (v .1)
 
 -- what follows a chain of refusals follows its last
 and-test : (n : ℕ) (b : Bool) (v w : Verdict) → andThen (refuseIf (suc n) b v) w ≡ refuseIf (suc n) b (andThen v w)

@@ -1,3 +1,4 @@
+pub mod Scans
 pub mod Faults
 pub mod Marks
 pub mod Runs

@@ -1,15 +1,21 @@
 -- Laws of the pairs: pair k of a list holds its entries 2k and 2k + 1, from any array and place.
 use Prim.Native.Nat.{ℕ, zero, suc, _+_, _-_, _*_, _/_, _%_, _<_, _≤_}
-use mathlib.Core.Bool.{_||_}
+use mathlib.Core.Bool.{Bool, true, false, _||_}
 use mathlib.Core.List.{List, [], _∷_}
 use mathlib.Core.Path.{_≡_, refl, sym, ap, _∙_}
 use native.Mathlib.Omega.{arith}
-use borrow.Author.Tests.{eq-eqb, ne-eqb}
-use lib.ListN.{length, getD, take, drop, length-drop}
+use borrow.Author.Tests.{ltb-true, ltb-false, eq-eqb, ne-eqb}
+use lib.Dec.{ltb}
+use lib.ListN.{length, getD, take, drop, length-drop, List·getD-eq-default}
 use lib.Seq.{getD-take, getD-drop, length-take-le}
+use Rattle.g9932.specs.Bits.{first}
 use Rattle.g9932.specs.Refusals.{holdsOne, pairTest}
 use Rattle.g9932.specs.Order.{Pair, pair, isOne, inTwos, zeroInFront, pairsOf}
+use Rattle.g9932.specs.declared.Found.the-variants.{Nothing}
 use Rattle.g9932.proofs.Formed.{length-pairsOf}
+use Rattle.g9932.proofs.Search.{first-no, first-all}
+use Rattle.tables.specs.Checks.{anyBelow}
+use Rattle.tables.proofs.Scans.{any-nothing}
 
 pair-at : (l : List ℕ) (k : ℕ) → k < length (inTwos l) → getD (inTwos l) k (pair 0 0) ≡ pair (getD l (2 * k) 0) (getD l (2 * k + 1) 0)
 pair-at [] k h = absurd (omega arith)
@@ -20,6 +26,19 @@ pair-at (a ∷ b ∷ l) (suc k) h =
     let f : 2 * suc k + 1 ≡ suc (suc (2 * k + 1)) = omega arith in
     rw (f, e) (pair-at l k (omega arith))
 
+-- a list in which no entry is 1 has none past its end either, nor with a 0 in front
+no-one : (l : List ℕ) {n : ℕ} → length l ≡ n → anyBelow (λ k. isOne (getD l k 0)) n ≡ false → (k : ℕ) → isOne (getD l k 0) ≡ false
+no-one l {n} e none k = go (ltb k n) refl
+  where
+    go : (c : Bool) → ltb k n ≡ c → isOne (getD l k 0) ≡ false
+    go true h = first-no (λ j. isOne (getD l j 0)) n (any-nothing (λ j. isOne (getD l j 0)) n none) k (ltb-true k n h)
+    go false h = ap isOne (List·getD-eq-default l 0 (omega (arith, e, ltb-false k n h)))
+
+no-one-in-front : (l : List ℕ) → ((k : ℕ) → isOne (getD l k 0) ≡ false) → (c : Bool) (j : ℕ) → isOne (getD (zeroInFront c l) j 0) ≡ false
+no-one-in-front l h true zero = refl
+no-one-in-front l h true (suc j) = h j
+no-one-in-front l h false j = h j
+
 -- the n entries from a place on, a 0 put in front where n is odd
 module _ (arr : List ℕ) (from n : ℕ) where
   abbrev pub part : List ℕ
@@ -28,7 +47,7 @@ module _ (arr : List ℕ) (from n : ℕ) where
   abbrev pub padded : List ℕ
   padded = zeroInFront (isOne (n % 2)) part
 
-  part-at : (j : ℕ) → j < n → getD arr (from + j) 0 ≡ getD part j 0
+  pub part-at : (j : ℕ) → j < n → getD arr (from + j) 0 ≡ getD part j 0
   part-at j h = sym (getD-take n (drop from arr) j 0 h ∙ getD-drop from arr j 0)
 
   pub front-zero : n % 2 ≡ 1 → 0 ≡ getD padded 0 0
@@ -58,3 +77,12 @@ module _ (arr : List ℕ) (from n : ℕ) where
         let l : k < length (inTwos padded) = omega (arith, ap length pairs-cut, length-pairs) in
         let e : getD (pairsOf part) k (pair 0 0) ≡ pair x y = ap (λ (ps : List Pair). getD ps k (pair 0 0)) pairs-cut ∙ pair-at padded k l ∙ rw (← p, ← q) in
         ap holdsOne e
+
+    -- where no entry is 1, no pair holds a 1
+    pub none-paired : anyBelow (λ k. isOne (getD part k 0)) n ≡ false → first (pairTest (pairsOf part)) (length (pairsOf part)) ≡ Nothing
+    none-paired e =
+        let p = no-one part length-part e in
+        first-all _ _ (λ k h.
+        let x = no-one-in-front part p (isOne (n % 2)) (2 * k) in
+        let y = no-one-in-front part p (isOne (n % 2)) (2 * k + 1) in
+        pair-test k (omega (arith, h, length-pairs)) refl refl ∙ rw (x, y))

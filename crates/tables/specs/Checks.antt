@@ -1,11 +1,11 @@
 -- Refusals 1 to 9 in two parts, and the tests that one pass makes together.
-use Prim.Native.Nat.{ℕ, _<_}
-use mathlib.Core.Bool.{Bool, false, _||_}
-use mathlib.Core.List.{List}
+use Prim.Native.Nat.{ℕ, zero, suc, _+_, _<_}
+use mathlib.Core.Bool.{Bool, true, false, _||_}
+use mathlib.Core.List.{List, [], _∷_}
 use mathlib.Core.Path.{_≡_}
 use lib.Dec.{ltb}
-use lib.ListN.{length, getD}
-use Rattle.g9932.specs.Bits.{first}
+use lib.ListN.{length, getD, set}
+use Rattle.g9932.specs.Bits.{weight, first}
 use Rattle.g9932.specs.Sizes.{entry}
 use Rattle.g9932.specs.Refusals.{Verdict, accepted, refuseIf, refuseAt, sizeTest, toneTest, member, twiceTest, bitsTest, strayBy, strayTest, gainBy, gainTest, oddTest, fewTest, pairTest}
 use Rattle.g9932.specs.Order.{codedPairs, frameSize}
@@ -13,7 +13,12 @@ use Rattle.g9932.specs.declared.Found.{Found}
 use Rattle.g9932.specs.declared.Found.the-variants.{Nothing}
 use Rattle.g9932.specs.declared.Mode.{Mode}
 use Rattle.tables.specs.declared.lists.Rule.{Rule}
-use Rattle.tables.specs.declared.lists.Rule.the-variants.{Bits, Stray}
+use Rattle.tables.specs.declared.lists.Rule.the-variants.{Bits, Stray, Gain}
+
+-- a test holds at some k below n
+unfoldable pub anyBelow : (ℕ → Bool) → ℕ → Bool
+anyBelow p zero = false
+anyBelow p (suc n) = anyBelow p n || p n
 
 -- 2 or 3 applies to a place in t
 abbrev pub placeFault : ℕ → List ℕ → ℕ → Bool
@@ -26,13 +31,27 @@ indexBy inT bits gain = ltb 15 bits || (strayBy inT bits gain || gainBy bits gai
 abbrev pub indexFault : List ℕ → List ℕ → List ℕ → ℕ → Bool
 indexFault b g t k = indexBy (member k t) (entry b k) (entry g k)
 
--- 4 or 5, looked for by itself
+-- 4, 5 or 6, looked for by itself
 abbrev pub ruleBy : Rule → Bool → ℕ → ℕ → Bool
 ruleBy Bits inT bits gain = ltb 15 bits
 ruleBy Stray inT bits gain = strayBy inT bits gain
+ruleBy Gain inT bits gain = gainBy bits gain
 
 abbrev pub ruleTest : Rule → List ℕ → List ℕ → List ℕ → ℕ → Bool
 ruleTest rule b g t k = ruleBy rule (member k t) (entry b k) (entry g k)
+
+-- every tone is below n
+abbrev pub Below : ℕ → List ℕ → Type 0
+Below n t = (k : ℕ) → k < length t → entry t k < n
+
+-- the marks after a list of tones more; and how many there are
+unfoldable pub marked : List Bool → List ℕ → List Bool
+marked seen [] = seen
+marked seen (k ∷ t) = marked (set seen k true) t
+
+abbrev pub trues : List Bool → ℕ
+trues [] = 0
+trues (b ∷ l) = weight b + trues l
 
 -- the members of a list of tones are marked
 abbrev pub Marks : List ℕ → List Bool → Type 0

@@ -12,11 +12,13 @@ use order::copy_tones;
 use order::order_coded;
 use order::order_uncoded;
 ghost use mathlib.Core.Path.{_≡_};
+ghost use Prim.Native.Nat.{_≤_};
+ghost use Rattle.g9932.specs.Bits.{weight};
 ghost use Rattle.g9932.specs.Sizes.{tables, entry, toneOf};
 ghost use Rattle.g9932.specs.Refusals.{tableVerdict};
 ghost use Rattle.g9932.specs.Answers.{verdictOf, Reorders};
 ghost use Rattle.tables.specs.Checks.{modeVerdict};
-ghost use Rattle.tables.specs.Ordered.{OrderedBy, Ordered, Arrays, Room};
+ghost use Rattle.tables.specs.Ordered.{OrderedBy, Ordered, Arrays, Room, Medley};
 
 mod lists; // refusals 1 to 6
 mod order; // refusals 7 to 9, t' and b'
@@ -79,6 +81,13 @@ pub fn tone_of_place(bits: &[u8], gains: &[u16], tones: &[u16], p: Place) -> Ton
     tone_of(bits_at(bits, k), gain_at(gains, k))
 }
 
+// A test as a number to count with.
+fn one_if(test: bool) -> u16
+    ensures { λ r. ⌜ (r ≡ weight test) × (r ≤ 1) ⌝ }
+{
+    test as u16
+}
+
 // Checks the tables and tells L: refusals 1 to 9.
 pub fn check_tables(mode: Mode, bits: &[u8], gains: &[u16], tones: &[u16]) -> Checked
     ensures { λ r. ⌜ verdictOf r ≡ tableVerdict (tables mode (now (bits .entry)) (now (gains .entry)) (now (tones .entry))) ⌝ }
@@ -108,7 +117,7 @@ pub fn order_tables(
     }
 }
 
-// Refusals 7 to 9, with t' and b' written. Its caller shows that the arrays have room.
+// Refusals 7 to 9, with t' and b' written. Its caller shows that refusals 1 to 6 do not apply, and that the arrays have room.
 fn order_by(
     mode: Mode,
     bits: &[u8],
@@ -116,7 +125,8 @@ fn order_by(
     order: &mut [u16],
     entries: &mut [u8],
 ) -> Checked
-    requires { ⌜ Room (now tones) (now order) (now entries) ⌝ }
+    requires room { ⌜ Room (now tones) (now order) (now entries) ⌝ }
+    requires medley { ⌜ Medley (now bits) (now tones) ⌝ }
     ensures { λ r. ⌜ OrderedBy (modeVerdict mode (now (bits .entry)) (now (tones .entry))) mode (now (bits .entry)) (now (tones .entry)) r (now (order .exit)) (now (entries .exit)) ⌝ }
 {
     match mode {

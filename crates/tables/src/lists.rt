@@ -2,6 +2,7 @@
 // Only this crate's proved code calls these functions, and shows what a `requires` asks.
 use super::bits_at;
 use super::gain_at;
+use super::one_if;
 use super::tone_at;
 use g9932::Checked;
 use g9932::Found;
@@ -10,12 +11,12 @@ use g9932::Refusal;
 use g9932::Subcarrier;
 ghost use mathlib.Core.Path.{_≡_};
 ghost use mathlib.Core.Bool.{false};
-ghost use Prim.Native.Nat.{_<_, _≤_};
+ghost use Prim.Native.Nat.{_≤_};
 ghost use lib.ListN.{length, replicate};
 ghost use Rattle.g9932.specs.Bits.{first};
-ghost use Rattle.g9932.specs.Refusals.{sizeTest, toneTest, strayBy};
+ghost use Rattle.g9932.specs.Refusals.{sizeTest, toneTest, strayBy, gainBy};
 ghost use Rattle.g9932.specs.Answers.{verdictOf};
-ghost use Rattle.tables.specs.Checks.{indexBy, indexFault, ruleBy, ruleTest, Marks, Passed, listVerdict};
+ghost use Rattle.tables.specs.Checks.{anyBelow, indexBy, indexFault, ruleBy, ruleTest, Below, marked, trues, Marks, Passed, listVerdict};
 
 // 1 SIZE, of the three lengths.
 fn wrong_size(g: usize, gains: usize, nsc: usize) -> bool
@@ -34,6 +35,49 @@ fn wrong_size(g: usize, gains: usize, nsc: usize) -> bool
         return true;
     }
     g < nsc
+}
+
+// Does 2 TONE apply to any place? No early exit and no `if`, so that the compiler takes many entries at a time.
+fn any_tone_fault(g: usize, tones: &[u16]) -> bool
+    requires { ⌜ g ≤ 4096 ⌝ }
+    ensures { λ r. ⌜ r ≡ anyBelow (toneTest g (now (tones .entry))) (length (now (tones .entry))) ⌝ }
+{
+    let end = g as u16;
+    let mut any = false;
+    let mut i = 0;
+    while i < tones.len() {
+        any = any | (end <= tones[i]);
+        i += 1;
+    }
+    any
+}
+
+// Marks every entry of t.
+fn mark_tones(tones: &[u16], seen: &mut [bool; 4096])
+    requires { ⌜ Below 4096 (now tones) ⌝ }
+    ensures { λ _. ⌜ now (seen .exit) ≡ marked (now (seen .entry)) (now (tones .entry)) ⌝ }
+{
+    let mut i = 0;
+    while i < tones.len() {
+        let k = tone_at(tones, Place(i));
+        let at = k.0;
+        seen[at] = true;
+        i += 1;
+    }
+}
+
+// How many are marked?
+fn count_marks(seen: &[bool; 4096]) -> usize
+    requires { ⌜ length (now seen) ≡ 4096 ⌝ }
+    ensures { λ r. ⌜ r ≡ trues (now (seen .entry)) ⌝ }
+{
+    let mut n: u16 = 0;
+    let mut i = 0;
+    while i < 4096 {
+        n += one_if(seen[i]);
+        i += 1;
+    }
+    n as usize
 }
 
 // The first place in t where 2 TONE or 3 TWICE applies. Marks each entry that it passes.
@@ -58,6 +102,24 @@ fn first_place_fault(g: usize, tones: &[u16], seen: &mut [bool; 4096]) -> Found
     Found::Nothing
 }
 
+// The first place in t where 2 TONE or 3 TWICE applies; where neither does, every entry is marked. As many marks as entries say
+// that no entry comes twice, and only otherwise is a place looked for.
+fn pass_tones(g: usize, tones: &[u16], seen: &mut [bool; 4096]) -> Found
+    requires clear { ⌜ now seen ≡ replicate 4096 false ⌝ }
+    requires size { ⌜ g ≤ 4096 ⌝ }
+    ensures { λ r. ⌜ Passed g (now (tones .entry)) r (now (seen .exit)) ⌝ }
+{
+    if any_tone_fault(g, tones) {
+        return first_place_fault(g, tones, seen);
+    }
+    mark_tones(tones, seen);
+    if count_marks(seen) == tones.len() {
+        return Found::Nothing;
+    }
+    let mut again = [false; 4096];
+    first_place_fault(g, tones, &mut again)
+}
+
 // 2 TONE: the first place whose entry is G or more.
 fn first_tone(g: usize, tones: &[u16]) -> Found
     ensures { λ r. ⌜ r ≡ first (toneTest g (now (tones .entry))) (length (now (tones .entry))) ⌝ }
@@ -77,55 +139,45 @@ fn first_tone(g: usize, tones: &[u16]) -> Found
 fn is_stray(seen: bool, bits: u8, gain: u16) -> bool
     ensures { λ r. ⌜ r ≡ strayBy seen bits gain ⌝ }
 {
-    if seen {
-        return false;
-    }
-    if 0 < bits {
-        return true;
-    }
-    0 < gain
+    !seen & ((0 < bits) | (0 < gain))
+}
+
+// 6 GAIN, of one index.
+fn is_wrong_gain(bits: u8, gain: u16) -> bool
+    ensures { λ r. ⌜ r ≡ gainBy bits gain ⌝ }
+{
+    (4095 < gain) | ((0 < bits) & (gain == 0))
 }
 
 // Does 4 BITS, 5 STRAY or 6 GAIN apply to an index?
 fn is_fault(seen: bool, bits: u8, gain: u16) -> bool
     ensures { λ r. ⌜ r ≡ indexBy seen bits gain ⌝ }
 {
-    if 15 < bits {
-        return true;
-    }
-    if is_stray(seen, bits, gain) {
-        return true;
-    }
-    if 4095 < gain {
-        return true;
-    }
-    if 0 < bits {
-        return gain == 0;
-    }
-    false
+    (15 < bits) | (is_stray(seen, bits, gain) | is_wrong_gain(bits, gain))
 }
 
-// The smallest index to which 4 BITS, 5 STRAY or 6 GAIN applies. `seen` marks the members of t.
-fn first_index_fault(bits: &[u8], gains: &[u16], tones: &[u16], seen: &[bool; 4096]) -> Found
+// Does 4 BITS, 5 STRAY or 6 GAIN apply to any index? `seen` marks the members of t. No early exit and no `if`, so that the
+// compiler takes many entries at a time.
+fn any_index_fault(bits: &[u8], gains: &[u16], tones: &[u16], seen: &[bool; 4096]) -> bool
     requires size { ⌜ length (now bits) ≤ 4096 ⌝ }
+    requires gains { ⌜ length (now gains) ≡ length (now bits) ⌝ }
     requires marks { ⌜ Marks (now tones) (now seen) ⌝ }
-    ensures { λ r. ⌜ r ≡ first (indexFault (now (bits .entry)) (now (gains .entry)) (now (tones .entry))) (length (now (bits .entry))) ⌝ }
+    ensures { λ r. ⌜ r ≡ anyBelow (indexFault (now (bits .entry)) (now (gains .entry)) (now (tones .entry))) (length (now (bits .entry))) ⌝ }
 {
+    let mut any = false;
     let mut i = 0;
     while i < bits.len() {
-        let k = Subcarrier(i);
-        if is_fault(seen[i], bits_at(bits, k), gain_at(gains, k)) {
-            return Found::At(i);
-        }
+        any = any | is_fault(seen[i], bits[i], gains[i]);
         i += 1;
     }
-    Found::Nothing
+    any
 }
 
-// 4 BITS or 5 STRAY, looked for by itself.
+// 4 BITS, 5 STRAY or 6 GAIN, looked for by itself.
 pub enum Rule {
     Bits,
     Stray,
+    Gain,
 }
 
 // Does the rule apply to an index?
@@ -135,6 +187,7 @@ fn breaks(rule: Rule, seen: bool, bits: u8, gain: u16) -> bool
     match rule {
         Rule::Bits => 15 < bits,
         Rule::Stray => is_stray(seen, bits, gain),
+        Rule::Gain => is_wrong_gain(bits, gain),
     }
 }
 
@@ -155,7 +208,7 @@ fn first_index(rule: Rule, bits: &[u8], gains: &[u16], tones: &[u16], seen: &[bo
     Found::Nothing
 }
 
-// Refusals 1 to 6. One pass over t and one over the indices accept; which number applies is looked for only after that.
+// Refusals 1 to 6. Passes over all of t and over all indices accept; which number applies is looked for only after that.
 pub fn check_lists(bits: &[u8], gains: &[u16], tones: &[u16]) -> Checked
     ensures { λ r. ⌜ verdictOf r ≡ listVerdict (now (bits .entry)) (now (gains .entry)) (now (tones .entry)) ⌝ }
 {
@@ -163,20 +216,23 @@ pub fn check_lists(bits: &[u8], gains: &[u16], tones: &[u16]) -> Checked
         return Checked::Refused(Refusal::Size);
     }
     let mut seen = [false; 4096];
-    if let Found::At(twice) = first_place_fault(bits.len(), tones, &mut seen) {
+    if let Found::At(twice) = pass_tones(bits.len(), tones, &mut seen) {
         if let Found::At(p) = first_tone(bits.len(), tones) {
             return Checked::Refused(Refusal::Tone(Place(p)));
         }
         return Checked::Refused(Refusal::Twice(Place(twice)));
     }
-    if let Found::At(gain) = first_index_fault(bits, gains, tones, &seen) {
-        if let Found::At(k) = first_index(Rule::Bits, bits, gains, tones, &seen) {
-            return Checked::Refused(Refusal::Bits(Subcarrier(k)));
-        }
-        if let Found::At(k) = first_index(Rule::Stray, bits, gains, tones, &seen) {
-            return Checked::Refused(Refusal::Stray(Subcarrier(k)));
-        }
-        return Checked::Refused(Refusal::Gain(Subcarrier(gain)));
+    if !any_index_fault(bits, gains, tones, &seen) {
+        return Checked::Accepted(0);
+    }
+    if let Found::At(k) = first_index(Rule::Bits, bits, gains, tones, &seen) {
+        return Checked::Refused(Refusal::Bits(Subcarrier(k)));
+    }
+    if let Found::At(k) = first_index(Rule::Stray, bits, gains, tones, &seen) {
+        return Checked::Refused(Refusal::Stray(Subcarrier(k)));
+    }
+    if let Found::At(k) = first_index(Rule::Gain, bits, gains, tones, &seen) {
+        return Checked::Refused(Refusal::Gain(Subcarrier(k)));
     }
     Checked::Accepted(0)
 }

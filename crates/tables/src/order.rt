@@ -1,6 +1,6 @@
 // Refusals 7 to 9, and the re-ordered tables t' and b' in two arrays.
 // Only this crate's proved code calls these functions, and shows what a `requires` asks.
-use super::bits_at;
+use super::one_if;
 use super::tone_at;
 use g9932::Checked;
 use g9932::Found;
@@ -10,15 +10,15 @@ use g9932::Subcarrier;
 ghost use mathlib.Core.Path.{_≡_};
 ghost use Prim.Native.Nat.{_+_, _%_, _<_, _≤_};
 ghost use mathlib.Core.Bool.{_||_};
-ghost use lib.Dec.{ltb};
 ghost use lib.ListN.{length, getD, take, drop, set, replicate};
 ghost use lib.Seq.{sets};
-ghost use Rattle.g9932.specs.Bits.{weight, first};
+ghost use Rattle.g9932.specs.Bits.{first};
+ghost use Rattle.g9932.specs.Sizes.{entry};
 ghost use Rattle.g9932.specs.Refusals.{pairTest};
 ghost use Rattle.g9932.specs.Order.{isOne, zeroInFront, pairsOf};
 ghost use Rattle.g9932.specs.declared.Mode.the-variants.{Uncoded, Coded};
-ghost use Rattle.tables.specs.Checks.{modeVerdict};
-ghost use Rattle.tables.specs.Ordered.{OrderedBy, Room, CountsAre, Written, PlaceReady, CodedReady, Placing};
+ghost use Rattle.tables.specs.Checks.{anyBelow, modeVerdict};
+ghost use Rattle.tables.specs.Ordered.{OrderedBy, Room, Medley, CountsAre, Written, PlaceReady, CodedReady, Placing};
 
 // Sums over the tones: of the bits, of the loaded tones, and of the 1-bit tones.
 pub struct Counts {
@@ -27,50 +27,37 @@ pub struct Counts {
     pub ones: usize,
 }
 
-// The counts with one tone more.
-fn with_tone(c: Counts, b: u8) -> Counts
-    requires { ⌜ (c .sum ≤ 1044480) × (c .loaded ≤ 4096) × (c .ones ≤ 4096) ⌝ }
-    ensures { λ r. ⌜ (r .sum ≡ c .sum + b) × (r .loaded ≡ c .loaded + weight (ltb 0 b)) × (r .ones ≡ c .ones + weight (isOne b)) ⌝ }
+// The counts over all tones. Only tones have bits, so that they are the counts over the bit table. The sums fit 16 bits, and there
+// is no `if`, so that the compiler takes many entries at a time.
+fn count_tones(bits: &[u8], tones: &[u16]) -> Counts
+    requires { ⌜ Medley (now bits) (now tones) ⌝ }
+    ensures { λ r. ⌜ CountsAre r (now (bits .entry)) (now (tones .entry)) ⌝ }
 {
-    let sum = c.sum + b as usize;
-    if b == 0 {
-        return Counts {
-            sum,
-            loaded: c.loaded,
-            ones: c.ones,
-        };
-    }
-    if b == 1 {
-        return Counts {
-            sum,
-            loaded: c.loaded + 1,
-            ones: c.ones + 1,
-        };
+    let mut sum: u16 = 0;
+    let mut loaded: u16 = 0;
+    let mut ones: u16 = 0;
+    let mut i = 0;
+    while i < bits.len() {
+        let b = bits[i];
+        sum += b as u16;
+        loaded += one_if(0 < b);
+        ones += one_if(b == 1);
+        i += 1;
     }
     Counts {
-        sum,
-        loaded: c.loaded + 1,
-        ones: c.ones,
+        sum: sum as usize,
+        loaded: loaded as usize,
+        ones: ones as usize,
     }
 }
 
-// The counts over all tones.
-fn count_tones(bits: &[u8], tones: &[u16]) -> Counts
-    requires { ⌜ length (now tones) ≤ 4096 ⌝ }
-    ensures { λ r. ⌜ CountsAre r (now (bits .entry)) (now (tones .entry)) ⌝ }
+// The bits of a sub-carrier of the table.
+fn bits_of(bits: &[u8], k: Subcarrier) -> u8
+    requires { ⌜ k .0 < length (now bits) ⌝ }
+    ensures { λ r. ⌜ r ≡ entry (now (bits .entry)) (k .0) ⌝ }
 {
-    let mut c = Counts {
-        sum: 0,
-        loaded: 0,
-        ones: 0,
-    };
-    let mut i = 0;
-    while i < tones.len() {
-        let k = tone_at(tones, Place(i));
-        c = with_tone(c, bits_at(bits, k));
-        i += 1;
-    }
-    c
+    let at = k.0;
+    bits[at]
 }
 
 // Writes a sub-carrier at a place of t'.
@@ -84,14 +71,15 @@ fn put_tone(order: &mut [u16], p: Place, k: Subcarrier)
 
 // Uncoded: t' is t, b' lists the bits in t order, and L is their sum.
 pub fn order_uncoded(bits: &[u8], tones: &[u16], order: &mut [u16], entries: &mut [u8]) -> Checked
-    requires { ⌜ Room (now tones) (now order) (now entries) ⌝ }
+    requires room { ⌜ Room (now tones) (now order) (now entries) ⌝ }
+    requires medley { ⌜ Medley (now bits) (now tones) ⌝ }
     ensures { λ r. ⌜ OrderedBy (modeVerdict Uncoded (now (bits .entry)) (now (tones .entry))) Uncoded (now (bits .entry)) (now (tones .entry)) r (now (order .exit)) (now (entries .exit)) ⌝ }
 {
     let mut sum: usize = 0;
     let mut i = 0;
     while i < tones.len() {
         let k = tone_at(tones, Place(i));
-        let b = bits_at(bits, k);
+        let b = bits_of(bits, k);
         put_tone(order, Place(i), k);
         entries[i] = b;
         sum += b as usize;
@@ -133,18 +121,19 @@ fn place_tones(
     let mut i = 0;
     while i < tones.len() {
         let k = tone_at(tones, Place(i));
-        let b = bits_at(bits, k);
+        let b = bits_of(bits, k);
         i += 1;
-        if b == 1 {
+        if 2 <= b {
+            put_tone(order, Place(other), k);
+            other += 1;
+            entries[at] = b;
+            at += 1;
+        } else if b == 1 {
             put_tone(order, Place(one), k);
             one += 1;
         } else {
             put_tone(order, Place(other), k);
             other += 1;
-            if 2 <= b {
-                entries[at] = b;
-                at += 1;
-            }
         }
     }
 }
@@ -192,11 +181,29 @@ fn holds_one(x: u8, y: u8) -> bool
     y == 1
 }
 
-// 9 PAIR: the first pair, of the n entries of b' from `from` on, that holds an entry of 1.
+// Is any of the n entries of b' from `from` on a 1? No early exit and no `if`, so that the compiler takes many entries at a time.
+fn holds_any_one(entries: &[u8], from: usize, n: usize) -> bool
+    requires { ⌜ from + n ≤ length (now entries) ⌝ }
+    ensures { λ r. ⌜ r ≡ anyBelow (λ k. isOne (getD (take n (drop from (now (entries .entry)))) k 0)) n ⌝ }
+{
+    let mut any = false;
+    let mut k = 0;
+    while k < n {
+        any = any | (entries[from + k] == 1);
+        k += 1;
+    }
+    any
+}
+
+// 9 PAIR: the first pair, of the n entries of b' from `from` on, that holds an entry of 1. Where no entry is 1 there is none to
+// look for.
 fn first_pair(entries: &[u8], from: usize, n: usize) -> Found
     requires { ⌜ from + n ≤ length (now entries) ⌝ }
     ensures { λ r. ⌜ r ≡ first (pairTest (pairsOf (take n (drop from (now (entries .entry)))))) (length (pairsOf (take n (drop from (now (entries .entry)))))) ⌝ }
 {
+    if !holds_any_one(entries, from, n) {
+        return Found::Nothing;
+    }
     let mut k = 0;
     while k < (n + 1) / 2 {
         let x = paired_entry(entries, from, n, 2 * k);
@@ -211,7 +218,8 @@ fn first_pair(entries: &[u8], from: usize, n: usize) -> Found
 
 // Coded: refusals 7 to 9 and L, with t' and b' written before 9.
 pub fn order_coded(bits: &[u8], tones: &[u16], order: &mut [u16], entries: &mut [u8]) -> Checked
-    requires { ⌜ Room (now tones) (now order) (now entries) ⌝ }
+    requires room { ⌜ Room (now tones) (now order) (now entries) ⌝ }
+    requires medley { ⌜ Medley (now bits) (now tones) ⌝ }
     ensures { λ r. ⌜ OrderedBy (modeVerdict Coded (now (bits .entry)) (now (tones .entry))) Coded (now (bits .entry)) (now (tones .entry)) r (now (order .exit)) (now (entries .exit)) ⌝ }
 {
     let c = count_tones(bits, tones);

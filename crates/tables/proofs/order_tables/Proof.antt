@@ -2,7 +2,7 @@
 use native.Mathlib.Omega.{arith}
 use mathlib.Core.Path.{sym, ap, _∙_}
 use Rattle.g9932.specs.Answers.{verdictOf}
-use Rattle.tables.proofs.Answers.{lists-fit, ordered-refused, lists-refused, lists-accepted}
+use Rattle.tables.proofs.Answers.{lists-fit, lists-medley, ordered-refused, lists-refused, lists-accepted}
 use borrow.Author.Needs.{needs}
 use Rattle.tables.proofs.order_tables.Statement.{statement}
 use Rattle.tables.proofs.order_tables.Tie as tie
@@ -18,9 +18,10 @@ enum-told c = search needs
 
 order-by-requires : tie.Need-order-by-requires
 order-by-requires c κs =
-    let f = lists-fit _ _ _ (ap verdictOf (sym (c .before .before .enum-told .given .1)) ∙ c .before .before .before .before .check-lists .ensures) in
+    let e = ap verdictOf (sym (c .before .before .enum-told .given .1)) ∙ c .before .before .before .before .check-lists .ensures in
+    let f = lists-fit _ _ _ e in
     let r = c .before .before .before .before .before .before .before .before .before .before .pre in
-    record { size = f; orderRoom = omega (arith, r .orderLength); entriesRoom = omega (arith, r .entriesLength) }
+    (record { size = f; orderRoom = omega (arith, r .orderLength); entriesRoom = omega (arith, r .entriesLength) }, lists-medley _ _ _ e)
 
 returns : tie.Need-returns
 returns c =

@@ -1,40 +1,58 @@
--- `tables::order::count_tones` meets its contract. The invariant: each count so far with that of the tones left is that of all.
--- The measure is what is left of t.
+-- `tables::order::count_tones` meets its contract. The invariant: each count so far with that of the bit table from i on is that of
+-- all of it, and no sum is above what i entries can give. The measure is what is left.
 use borrow.Author.Needs.{needs}
 use native.Mathlib.Omega.{arith}
-use mathlib.Core.Path.{_≡_, ap}
+use mathlib.Core.Path.{_≡_, refl, ap}
 use Prim.Native.Nat.{_+_, _*_, _-_, _≤_}
 use lib.Dec.{ltb}
 use lib.ListN.{length, drop, drop-of-length-le}
 use denote.Ref.{now}
-use Rattle.g9932.specs.Order.{sum, count, isOne, bitsOf, loaded, ones}
-use Rattle.g9932.proofs.Words.{weight-le}
-use Rattle.tables.proofs.Counts.{bits-next}
+use Rattle.g9932.specs.Sizes.{entry}
+use Rattle.g9932.specs.Order.{sum, count, isOne}
+use Rattle.g9932.proofs.Members.{sum-members}
+use Rattle.tables.proofs.Counts.{count-table}
+use Rattle.tables.proofs.Runs.{drop-some}
 use Rattle.tables.proofs.order.count_tones.Statement.{statement}
 use Rattle.tables.proofs.order.count_tones.Tie as tie
 
 abbrev Inv-loop : tie.InvT-loop
-Inv-loop bits tones c₀ i₀ c i =
-    (i ≤ length tones)
-    × (c .sum + sum (bitsOf bits (drop i tones)) ≡ sum (bitsOf bits tones))
-    × (c .loaded + loaded bits (drop i tones) ≡ loaded bits tones)
-    × (c .ones + ones bits (drop i tones) ≡ ones bits tones)
-    × (c .sum ≤ 255 * i) × (c .loaded ≤ i) × (c .ones ≤ i)
+Inv-loop bits tones s₀ l₀ o₀ i₀ s l o i =
+    (i ≤ length bits)
+    × (s + sum (drop i bits) ≡ sum bits)
+    × (l + count (ltb 0) (drop i bits) ≡ count (ltb 0) bits)
+    × (o + count isOne (drop i bits) ≡ count isOne bits)
+    × (s ≤ 15 * i) × (l ≤ i) × (o ≤ i)
 
 abbrev μ-loop : tie.MeasureT-loop
-μ-loop bits tones c₀ i₀ c i = length tones - i
+μ-loop bits tones s₀ l₀ o₀ i₀ s l o i = length bits - i
 
 loop-holds : tie.Need-loop-holds Inv-loop μ-loop
 loop-holds c = omega arith
 
-tone-at-requires : tie.Need-tone-at-requires Inv-loop μ-loop
-tone-at-requires c κs = search needs
+shared-slice-read-b : tie.Need-shared-slice-read-b Inv-loop μ-loop
+shared-slice-read-b c = search needs
 
-bits-at-requires : tie.Need-bits-at-requires Inv-loop μ-loop
-bits-at-requires c κs = search needs
+-- the entry at i is at most 15
+small : (c : tie.After-shared-slice-known3 Inv-loop μ-loop) → entry (now (c .before .before .before .before .before .args .bits)) (c .before .before .loop .i) ≤ 15
+small c = c .before .before .before .before .before .pre .bitsMost (c .before .before .loop .i)
 
-with-tone-requires : tie.Need-with-tone-requires Inv-loop μ-loop
-with-tone-requires c κs = search needs
+cast-sum : tie.Need-cast-sum Inv-loop μ-loop
+cast-sum c = omega (arith, small c)
+
+add-sum : tie.Need-add-sum Inv-loop μ-loop
+add-sum c = omega (arith, small c, c .before .before .before .before .before .pre .size)
+
+one-if-requires : tie.Need-one-if-requires Inv-loop μ-loop
+one-if-requires c κs = search needs
+
+add-loaded : tie.Need-add-loaded Inv-loop μ-loop
+add-loaded c = omega (arith, c .before .before .before .before .before .before .pre .size)
+
+one-if-requires-2 : tie.Need-one-if-requires-2 Inv-loop μ-loop
+one-if-requires-2 c κs = search needs
+
+add-ones : tie.Need-add-ones Inv-loop μ-loop
+add-ones c = omega (arith, c .before .before .before .before .before .before .before .pre .size)
 
 add-i : tie.Need-add-i Inv-loop μ-loop
 add-i c = search needs
@@ -44,23 +62,33 @@ loop-less c = search needs
 
 loop-again : tie.Need-loop-again Inv-loop μ-loop
 loop-again c =
-    let a = c .before .before .before .before .before .before .before .args in
-    let v = c .before .bits-at in
-    let e = bits-next (now (a .bits)) (now (a .tones)) (c .before .before .before .before .loop .i) (c .before .before .tone-at .ensures) (v .ensures) (omega arith) in
+    let e = drop-some (now (c .before .before .before .before .before .before .before .args .bits)) (c .before .before .before .before .loop .i) (omega arith) in
     let e0 = ap sum e in
     let e1 = ap (count (ltb 0)) e in
     let e2 = ap (count isOne) e in
-    let l1 = weight-le (ltb 0 (v .result)) in
-    let l2 = weight-le (isOne (v .result)) in
+    let m = small (c .before .before) in
     omega arith
+
+cast-t13 : tie.Need-cast-t13 Inv-loop μ-loop
+cast-t13 c = search needs
+
+cast-t14 : tie.Need-cast-t14 Inv-loop μ-loop
+cast-t14 c = search needs
+
+cast-t15 : tie.Need-cast-t15 Inv-loop μ-loop
+cast-t15 c = search needs
 
 returns : tie.Need-returns Inv-loop μ-loop
 returns c =
     let a = c .before .before .before .before .args in
-    let e = ap (bitsOf (now (a .bits))) (drop-of-length-le (now (a .tones)) {i = c .before .loop .i} (omega arith)) in
+    let m = c .before .before .before .before .pre in
+    let e = drop-of-length-le (now (a .bits)) {i = c .before .loop .i} (omega arith) in
     let e0 = ap sum e in
     let e1 = ap (count (ltb 0)) e in
     let e2 = ap (count isOne) e in
+    let s = sum-members (now (a .tones)) (now (a .bits)) (m .once) (m .below) (m .strayBits) in
+    let l = count-table (ltb 0) refl (now (a .bits)) (now (a .tones)) m in
+    let o = count-table isOne refl (now (a .bits)) (now (a .tones)) m in
     record { sumIs = omega arith; loadedIs = omega arith; onesIs = omega arith }
 
 pub count-tones-spec : {M : Type 1} → statement M
@@ -70,10 +98,17 @@ count-tones-spec =
     Inv-loop
     μ-loop
     loop-holds
-    tone-at-requires
-    bits-at-requires
-    with-tone-requires
+    shared-slice-read-b
+    cast-sum
+    add-sum
+    one-if-requires
+    add-loaded
+    one-if-requires-2
+    add-ones
     add-i
     loop-less
     loop-again
+    cast-t13
+    cast-t14
+    cast-t15
     returns)

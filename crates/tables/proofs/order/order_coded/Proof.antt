@@ -26,7 +26,7 @@ searched c =
     let k = c .before .before .before .before .before .before .before .before .before .before .before .before .before .before .count-tones .ensures in
     let e = c .before .before .before .before .before .before .before .before .before .before .before .before .if1 .left in
     let w = c .before .before .before .before .before .before .write-coded in
-    let room = c .before .before .before .before .before .before .before .before .before .before .before .before .before .before .before .before .before .before .before .pre .entriesRoom in
+    let room = c .before .before .before .before .before .before .before .before .before .before .before .before .before .before .before .before .before .before .before .pre .0 .entriesRoom in
     c .first-pair .ensures ∙ ap pairIn (entries-in _ _ (coded-even k e) (omega (arith, room, w .kept .1 .1 .1 .1 .1 .0)) (coded-count k e) refl (w .ensures))
 
 count-tones-requires : tie.Need-count-tones-requires
@@ -48,11 +48,12 @@ write-coded-requires : tie.Need-write-coded-requires
 write-coded-requires c κs =
     let k = c .before .before .before .before .before .before .before .count-tones .ensures in
     let e = c .before .before .before .before .before .if1 .left in
-    (record { onesIs = k .onesIs; even = coded-even k e; zerosIs = omega (arith, coded-count k e) }, c .before .before .before .before .before .before .before .before .before .before .before .before .pre)
+    let r = c .before .before .before .before .before .before .before .before .before .before .before .before .pre in
+    (record { onesIs = k .onesIs; even = coded-even k e; zerosIs = omega (arith, coded-count k e); below = r .1 .below }, r .0)
 
 first-pair-requires : tie.Need-first-pair-requires
 first-pair-requires c κs =
-    omega (arith, within (c .before .before .before .before .before .before .before .before), c .before .before .before .before .before .before .before .before .before .before .before .before .before .before .before .before .before .before .pre .entriesRoom, c .before .before .before .before .before .write-coded .kept .1 .1 .1 .1 .1 .0)
+    omega (arith, within (c .before .before .before .before .before .before .before .before), c .before .before .before .before .before .before .before .before .before .before .before .before .before .before .before .before .before .before .pre .0 .entriesRoom, c .before .before .before .before .before .write-coded .kept .1 .1 .1 .1 .1 .0)
 
 enum-known-k : tie.Need-enum-known-k
 enum-known-k c = search needs
@@ -72,7 +73,7 @@ enum-told : tie.Need-enum-told
 enum-told c = search needs
 
 add-t9 : tie.Need-add-t9
-add-t9 c = omega (arith, within (c .before .before .before .before .before .before .before .before .before .before .before), c .before .before .before .before .before .before .before .before .before .before .before .before .before .before .before .before .before .before .before .before .before .pre .size)
+add-t9 c = omega (arith, within (c .before .before .before .before .before .before .before .before .before .before .before), c .before .before .before .before .before .before .before .before .before .before .before .before .before .before .before .before .before .before .before .before .before .pre .0 .size)
 
 sub-t23 : tie.Need-sub-t23
 sub-t23 c = omega (arith, enough (c .before .before .before .before .before .before .before .before .before .before .before .before))

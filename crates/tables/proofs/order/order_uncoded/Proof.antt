@@ -32,17 +32,17 @@ loop-holds c = (omega arith, refl, refl, refl, refl, omega arith, omega arith)
 tone-at-requires : tie.Need-tone-at-requires Inv-loop μ-loop
 tone-at-requires c κs = search needs
 
-bits-at-requires : tie.Need-bits-at-requires Inv-loop μ-loop
-bits-at-requires c κs = search needs
+bits-of-requires : tie.Need-bits-of-requires Inv-loop μ-loop
+bits-of-requires c κs = omega (arith, c .tone-at .ensures, c .before .before .before .before .before .before .before .pre .1 .below (c .before .before .loop .i) (omega arith))
 
 put-tone-requires : tie.Need-put-tone-requires Inv-loop μ-loop
 put-tone-requires c κs =
     let l = c .before .before .before .before .loop in
-    let r = c .before .before .before .before .before .before .before .before .before .pre .orderRoom in
+    let r = c .before .before .before .before .before .before .before .before .before .pre .0 .orderRoom in
     (omega arith, omega (arith, c .before .before .tone-at .ensures, c .before .before .before .before .before .before .before .shared-slice-known2 .given (l .i)))
 
 slice-write-entries : tie.Need-slice-write-entries Inv-loop μ-loop
-slice-write-entries c = omega (arith, c .before .before .before .before .before .before .before .before .before .before .before .before .pre .entriesRoom)
+slice-write-entries c = omega (arith, c .before .before .before .before .before .before .before .before .before .before .before .before .pre .0 .entriesRoom)
 
 cast-sum : tie.Need-cast-sum Inv-loop μ-loop
 cast-sum c = search needs
@@ -62,7 +62,7 @@ loop-again c =
     let b = now (c .before .before .before .before .before .before .before .before .before .before .before .before .args .bits) in
     let t = now (c .before .before .before .before .before .before .before .before .before .before .before .before .args .tones) in
     let k = c .before .before .before .before .before .tone-at in
-    let v = c .before .before .before .before .bits-at in
+    let v = c .before .before .before .before .bits-of in
     let p = c .before .before .put-tone in
     let f = bits-next b t (l .i) (k .ensures) (v .ensures) (omega arith) in
     let g = ap total f in (
@@ -87,7 +87,7 @@ returns c =
     let l = c .before .loop in
     let b = now (c .before .before .before .before .before .before .args .bits) in
     let t = now (c .before .before .before .before .before .before .args .tones) in
-    let r = c .before .before .before .before .before .before .pre in
+    let r = c .before .before .before .before .before .before .pre .0 in
     let d = drop-of-length-le t {i = l .i} (omega arith) in
     let g = ap (λ (s : List ℕ). total (bitsOf b s)) d in
     record {
@@ -104,7 +104,7 @@ order-uncoded-spec =
     μ-loop
     loop-holds
     tone-at-requires
-    bits-at-requires
+    bits-of-requires
     put-tone-requires
     slice-write-entries
     cast-sum

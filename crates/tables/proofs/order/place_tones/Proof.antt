@@ -3,7 +3,7 @@
 use borrow.Author.Needs.{needs}
 use native.Mathlib.Omega.{arith}
 use mathlib.Core.Path.{_≡_, refl, _∙_}
-use Prim.Native.Nat.{_-_, _<_}
+use Prim.Native.Nat.{_-_, _<_, _≤_}
 use denote.Ref.{now}
 use lib.ListN.{length, length-set}
 use Rattle.tables.proofs.Placing.{Ahead, ahead-start, ahead-end, single-room, other-room, big-room, ahead-single, ahead-big, ahead-zero}
@@ -17,20 +17,17 @@ Inv-loop bits tones behind from order₀ entries₀ other₀ one₀ at₀ i₀ o
 abbrev μ-loop : tie.MeasureT-loop
 μ-loop bits tones behind from order₀ entries₀ other₀ one₀ at₀ i₀ order entries other one at i = length tones - i
 
--- there is room for the tone at place i: behind the others, where it is a 1-bit tone,
-behind-room : (c : tie.Then1 Inv-loop μ-loop) → c .before .before .before .before .loop .one < length (now (c .before .before .before .before .before .before .before .before .before .args .order))
-behind-room c =
-    omega (arith, single-room (c .before .before .before .before .loop .inv .2) (c .before .before .tone-at .ensures) (c .before .bits-at .ensures) (omega arith) (c .if1 .taken), c .before .before .before .before .before .before .before .before .before .pre .orderRoom)
+-- there is room for the tone at place i: in front of the 1-bit tones,
+front-room : (c : tie.After-bits-of Inv-loop μ-loop) → (c .bits-of .result ≡ 1 → ⊥) → c .before .before .before .loop .other < length (now (c .before .before .before .before .before .before .before .before .args .order))
+front-room c e = omega (arith, other-room (c .before .before .before .loop .inv .2) (c .before .tone-at .ensures) (c .bits-of .ensures) (omega arith) e, c .before .before .before .before .before .before .before .before .pre .orderRoom)
 
--- else in front of the 1-bit tones,
-front-room : (c : tie.Else1 Inv-loop μ-loop) → c .before .before .before .before .loop .other < length (now (c .before .before .before .before .before .before .before .before .before .args .order))
-front-room c =
-    omega (arith, other-room (c .before .before .before .before .loop .inv .2) (c .before .before .tone-at .ensures) (c .before .bits-at .ensures) (omega arith) (c .if1 .left), c .before .before .before .before .before .before .before .before .before .pre .orderRoom)
+-- or, where it is a 1-bit tone, behind the others,
+behind-room : (c : tie.After-bits-of Inv-loop μ-loop) → c .bits-of .result ≡ 1 → c .before .before .before .loop .one < length (now (c .before .before .before .before .before .before .before .before .args .order))
+behind-room c e = omega (arith, single-room (c .before .before .before .loop .inv .2) (c .before .tone-at .ensures) (c .bits-of .ensures) (omega arith) e, c .before .before .before .before .before .before .before .before .pre .orderRoom)
 
 -- and for its bits, where there are at least 2
-bits-room : (c : tie.Then2 Inv-loop μ-loop) → c .before .before .before .before .before .before .before .before .before .loop .at < length (now (c .before .before .before .before .before .before .before .before .before .before .before .before .before .before .args .entries))
-bits-room c =
-    omega (arith, big-room (c .before .before .before .before .before .before .before .before .before .loop .inv .2) (c .before .before .before .before .before .before .before .tone-at .ensures) (c .before .before .before .before .before .before .bits-at .ensures) (omega arith) (c .if2 .taken), c .before .before .before .before .before .before .before .before .before .before .before .before .before .before .pre .entriesRoom)
+bits-room : (c : tie.After-bits-of Inv-loop μ-loop) → 2 ≤ c .bits-of .result → c .before .before .before .loop .at < length (now (c .before .before .before .before .before .before .before .before .args .entries))
+bits-room c e = omega (arith, big-room (c .before .before .before .loop .inv .2) (c .before .tone-at .ensures) (c .bits-of .ensures) (omega arith) e, c .before .before .before .before .before .before .before .before .pre .entriesRoom)
 
 loop-holds : tie.Need-loop-holds Inv-loop μ-loop
 loop-holds c = (refl, refl, ahead-start (c .before .before .before .before .pre .behindIs))
@@ -38,18 +35,23 @@ loop-holds c = (refl, refl, ahead-start (c .before .before .before .before .pre 
 tone-at-requires : tie.Need-tone-at-requires Inv-loop μ-loop
 tone-at-requires c κs = search needs
 
-bits-at-requires : tie.Need-bits-at-requires Inv-loop μ-loop
-bits-at-requires c κs = search needs
+bits-of-requires : tie.Need-bits-of-requires Inv-loop μ-loop
+bits-of-requires c κs = omega (arith, c .tone-at .ensures, c .before .before .before .before .before .before .before .pre .below (c .before .before .loop .i) (omega arith))
 
 add-i : tie.Need-add-i Inv-loop μ-loop
 add-i c = search needs
 
 put-tone-requires : tie.Need-put-tone-requires Inv-loop μ-loop
-put-tone-requires c κs =
-    (omega (arith, behind-room (c .before)), omega (arith, c .before .before .before .tone-at .ensures, c .before .before .before .before .before .before .before .before .shared-slice-known2 .given (c .before .before .before .before .before .loop .i)))
+put-tone-requires c κs = (omega (arith, front-room (c .before .before) (λ e. omega (arith, c .before .if1 .taken))), omega (arith, c .before .before .before .tone-at .ensures, c .before .before .before .before .before .before .before .before .shared-slice-known2 .given (c .before .before .before .before .before .loop .i)))
 
-add-one : tie.Need-add-one Inv-loop μ-loop
-add-one c = omega (arith, behind-room (c .before .before .before .before), c .before .before .before .before .before .before .before .before .before .before .before .before .before .good)
+add-other : tie.Need-add-other Inv-loop μ-loop
+add-other c = omega (arith, front-room (c .before .before .before .before .before) (λ e. omega (arith, c .before .before .before .before .if1 .taken)), c .before .before .before .before .before .before .before .before .before .before .before .before .before .good)
+
+slice-write-entries : tie.Need-slice-write-entries Inv-loop μ-loop
+slice-write-entries c = omega (arith, bits-room (c .before .before .before .before .before) (c .before .before .before .before .if1 .taken))
+
+add-at : tie.Need-add-at Inv-loop μ-loop
+add-at c = omega (arith, bits-room (c .before .before .before .before .before) (c .before .before .before .before .if1 .taken), c .before .before .before .before .before .before .before .before .before .before .before .before .before .good)
 
 loop-less : tie.Need-loop-less Inv-loop μ-loop
 loop-less c = omega arith
@@ -58,20 +60,14 @@ loop-again : tie.Need-loop-again Inv-loop μ-loop
 loop-again c =
     let l = c .before .before .before .before .before .before .before .before .loop in
     let p = c .before .before .put-tone in
-    (p .kept .0 ∙ l .inv .0, l .inv .1, ahead-single (l .inv .2) (c .before .before .before .before .before .before .tone-at .ensures) (c .before .before .before .before .before .bits-at .ensures) (omega arith) (c .before .before .before .before .if1 .taken) (p .ensures))
+    let v = c .before .before .before .before .before .bits-of in
+    (p .kept .0 ∙ l .inv .0, length-set (l .entries) (l .at) (v .result) ∙ l .inv .1, ahead-big (l .inv .2) (c .before .before .before .before .before .before .tone-at .ensures) (v .ensures) (omega arith) (λ e. omega (arith, c .before .before .before .before .if1 .taken)) (p .ensures) (c .before .before .before .before .if1 .taken))
 
 put-tone-requires-2 : tie.Need-put-tone-requires-2 Inv-loop μ-loop
-put-tone-requires-2 c κs =
-    (omega (arith, front-room (c .before)), omega (arith, c .before .before .before .tone-at .ensures, c .before .before .before .before .before .before .before .before .shared-slice-known2 .given (c .before .before .before .before .before .loop .i)))
+put-tone-requires-2 c κs = (omega (arith, behind-room (c .before .before .before) (c .before .if2 .taken)), omega (arith, c .before .before .before .before .tone-at .ensures, c .before .before .before .before .before .before .before .before .before .shared-slice-known2 .given (c .before .before .before .before .before .before .loop .i)))
 
-add-other : tie.Need-add-other Inv-loop μ-loop
-add-other c = omega (arith, front-room (c .before .before .before .before), c .before .before .before .before .before .before .before .before .before .before .before .before .before .good)
-
-slice-write-entries : tie.Need-slice-write-entries Inv-loop μ-loop
-slice-write-entries c = omega (arith, bits-room c)
-
-add-at : tie.Need-add-at Inv-loop μ-loop
-add-at c = omega (arith, bits-room c, c .before .before .before .before .before .before .before .before .before .before .before .before .before .before .good)
+add-one : tie.Need-add-one Inv-loop μ-loop
+add-one c = omega (arith, behind-room (c .before .before .before .before .before .before) (c .before .before .before .before .if2 .taken), c .before .before .before .before .before .before .before .before .before .before .before .before .before .before .good)
 
 loop-less-2 : tie.Need-loop-less-2 Inv-loop μ-loop
 loop-less-2 c = omega arith
@@ -79,8 +75,14 @@ loop-less-2 c = omega arith
 loop-again-2 : tie.Need-loop-again-2 Inv-loop μ-loop
 loop-again-2 c =
     let l = c .before .before .before .before .before .before .before .before .before .loop in
-    let p = c .before .before .before .put-tone2 in
-    (p .kept .0 ∙ l .inv .0, length-set (l .entries) (l .at) (c .before .before .before .before .before .before .bits-at .result) ∙ l .inv .1, ahead-big (l .inv .2) (c .before .before .before .before .before .before .before .tone-at .ensures) (c .before .before .before .before .before .before .bits-at .ensures) (omega arith) (c .before .before .before .before .before .if1 .left) (p .ensures) (c .if2 .taken))
+    let p = c .before .before .put-tone2 in
+    (p .kept .0 ∙ l .inv .0, l .inv .1, ahead-single (l .inv .2) (c .before .before .before .before .before .before .before .tone-at .ensures) (c .before .before .before .before .before .before .bits-of .ensures) (omega arith) (c .before .before .before .before .if2 .taken) (p .ensures))
+
+put-tone-requires-3 : tie.Need-put-tone-requires-3 Inv-loop μ-loop
+put-tone-requires-3 c κs = (omega (arith, front-room (c .before .before .before) (c .before .if2 .left)), omega (arith, c .before .before .before .before .tone-at .ensures, c .before .before .before .before .before .before .before .before .before .shared-slice-known2 .given (c .before .before .before .before .before .before .loop .i)))
+
+add-other-2 : tie.Need-add-other-2 Inv-loop μ-loop
+add-other-2 c = omega (arith, front-room (c .before .before .before .before .before .before) (c .before .before .before .before .if2 .left), c .before .before .before .before .before .before .before .before .before .before .before .before .before .before .good)
 
 loop-less-3 : tie.Need-loop-less-3 Inv-loop μ-loop
 loop-less-3 c = omega arith
@@ -88,8 +90,8 @@ loop-less-3 c = omega arith
 loop-again-3 : tie.Need-loop-again-3 Inv-loop μ-loop
 loop-again-3 c =
     let l = c .before .before .before .before .before .before .before .before .before .loop in
-    let p = c .before .before .before .put-tone2 in
-    (p .kept .0 ∙ l .inv .0, l .inv .1, ahead-zero (l .inv .2) (c .before .before .before .before .before .before .before .tone-at .ensures) (c .before .before .before .before .before .before .bits-at .ensures) (omega arith) (c .before .before .before .before .before .if1 .left) (p .ensures) (c .if2 .left))
+    let p = c .before .before .put-tone3 in
+    (p .kept .0 ∙ l .inv .0, l .inv .1, ahead-zero (l .inv .2) (c .before .before .before .before .before .before .before .tone-at .ensures) (c .before .before .before .before .before .before .bits-of .ensures) (omega arith) (c .before .before .before .before .if2 .left) (p .ensures) (c .before .before .before .before .before .if1 .left))
 
 same-length : tie.Need-same-length Inv-loop μ-loop
 same-length c = search needs
@@ -108,18 +110,20 @@ place-tones-spec =
     μ-loop
     loop-holds
     tone-at-requires
-    bits-at-requires
+    bits-of-requires
     add-i
     put-tone-requires
-    add-one
-    loop-less
-    loop-again
-    put-tone-requires-2
     add-other
     slice-write-entries
     add-at
+    loop-less
+    loop-again
+    put-tone-requires-2
+    add-one
     loop-less-2
     loop-again-2
+    put-tone-requires-3
+    add-other-2
     loop-less-3
     loop-again-3
     same-length

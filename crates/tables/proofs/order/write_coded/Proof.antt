@@ -37,6 +37,7 @@ place-tones-requires c κs =
       behindIs = behind s;
       orderRoom = omega (arith, length-singles (now (s .args .bits)) (now (s .args .tones)), f .onesWithin, s .pre .0 .onesIs, s .pre .1 .orderRoom);
       entriesRoom = omega (arith, f .whole, s .pre .0 .zerosIs, s .pre .1 .entriesRoom, c .before .before .before .before .fill .kept .0);
+      below = s .pre .0 .below;
     }
 
 sub-fill : tie.Need-sub-fill

@@ -1,0 +1,57 @@
+-- `tables::lists::any_tone_fault` meets its contract. The invariant: `any` tells of the places before i. The measure is what is
+-- left of t.
+use borrow.Author.Needs.{needs}
+use native.Mathlib.Omega.{arith}
+use mathlib.Core.Path.{_≡_, refl}
+use Prim.Native.Nat.{_-_, _≤_}
+use lib.ListN.{length}
+use Rattle.g9932.specs.Refusals.{toneTest}
+use Rattle.tables.specs.Checks.{anyBelow}
+use Rattle.tables.proofs.Scans.{any-none, any-more, any-end}
+use Rattle.tables.proofs.lists.any_tone_fault.Statement.{statement}
+use Rattle.tables.proofs.lists.any_tone_fault.Tie as tie
+
+abbrev Inv-loop : tie.InvT-loop
+Inv-loop g tones end any₀ i₀ any i = (i ≤ length tones) × (any ≡ anyBelow (toneTest g tones) i)
+
+abbrev μ-loop : tie.MeasureT-loop
+μ-loop g tones end any₀ i₀ any i = length tones - i
+
+cast-end : tie.Need-cast-end Inv-loop μ-loop
+cast-end c = search needs
+
+loop-holds : tie.Need-loop-holds Inv-loop μ-loop
+loop-holds c = (omega arith, any-none _)
+
+mul-any : tie.Need-mul-any Inv-loop μ-loop
+mul-any c = search needs
+
+shared-slice-read-any : tie.Need-shared-slice-read-any Inv-loop μ-loop
+shared-slice-read-any c = search needs
+
+add-i : tie.Need-add-i Inv-loop μ-loop
+add-i c = search needs
+
+loop-less : tie.Need-loop-less Inv-loop μ-loop
+loop-less c = search needs
+
+loop-again : tie.Need-loop-again Inv-loop μ-loop
+loop-again c = (omega arith, any-more _ (c .before .before .loop .i) (c .before .before .loop .inv .1) refl)
+
+returns : tie.Need-returns Inv-loop μ-loop
+returns c = any-end _ _ _ (c .before .loop .inv .1) (omega arith) (omega arith)
+
+pub any-tone-fault-spec : {M : Type 1} → statement M
+any-tone-fault-spec =
+    tie.close
+    (tie.spec
+    Inv-loop
+    μ-loop
+    cast-end
+    loop-holds
+    mul-any
+    shared-slice-read-any
+    add-i
+    loop-less
+    loop-again
+    returns)

@@ -1,0 +1,56 @@
+-- `tables::lists::mark_tones` meets its contract. The invariant: marking what is left of t gives what marking all of it gives. The
+-- measure is what is left of t.
+use borrow.Author.Needs.{needs}
+use native.Mathlib.Omega.{arith}
+use mathlib.Core.Path.{_≡_, refl}
+use Prim.Native.Nat.{_-_, _≤_}
+use lib.ListN.{length, drop, drop-of-length-le}
+use denote.Ref.{now}
+use Rattle.tables.specs.Checks.{marked}
+use Rattle.tables.proofs.Counts.{tones-next}
+use Rattle.tables.proofs.Marks.{marked-step, marked-done}
+use Rattle.tables.proofs.lists.mark_tones.Statement.{statement}
+use Rattle.tables.proofs.lists.mark_tones.Tie as tie
+
+abbrev Inv-loop : tie.InvT-loop
+Inv-loop tones seen₀ i₀ seen i = (i ≤ length tones) × (marked seen (drop i tones) ≡ marked seen₀ tones)
+
+abbrev μ-loop : tie.MeasureT-loop
+μ-loop tones seen₀ i₀ seen i = length tones - i
+
+loop-holds : tie.Need-loop-holds Inv-loop μ-loop
+loop-holds c = (omega arith, refl)
+
+tone-at-requires : tie.Need-tone-at-requires Inv-loop μ-loop
+tone-at-requires c κs = search needs
+
+element-write-seen : tie.Need-element-write-seen Inv-loop μ-loop
+element-write-seen c = omega (arith, c .tone-at .ensures, c .before .before .before .before .pre (c .before .before .loop .i) (omega arith))
+
+add-i : tie.Need-add-i Inv-loop μ-loop
+add-i c = search needs
+
+loop-less : tie.Need-loop-less Inv-loop μ-loop
+loop-less c = search needs
+
+loop-again : tie.Need-loop-again Inv-loop μ-loop
+loop-again c =
+    let l = c .before .before .loop in
+    (omega arith, marked-step (l .seen) (tones-next (now (c .before .before .before .before .args .tones)) (l .i) (c .tone-at .ensures) (omega arith)) (l .inv .1))
+
+returns : tie.Need-returns Inv-loop μ-loop
+returns c = marked-done (c .before .loop .seen) (drop-of-length-le (now (c .before .before .before .args .tones)) {i = c .before .loop .i} (omega arith)) (c .before .loop .inv .1)
+
+pub mark-tones-spec : {M : Type 1} → statement M
+mark-tones-spec =
+    tie.close
+    (tie.spec
+    Inv-loop
+    μ-loop
+    loop-holds
+    tone-at-requires
+    element-write-seen
+    add-i
+    loop-less
+    loop-again
+    returns)
