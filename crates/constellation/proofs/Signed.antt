@@ -12,7 +12,7 @@ use lib.IntN.{ℤ, pos, negsuc, natAbs, subℕ, _+ℤ_, _-ℤ_, +ℤ-assoc, +ℤ
 use lib.Pow.{pow-add}
 use lib.Signed.{mag, nonNeg}
 use mir.Syntax.{w16, w32}
-use mir.Val.{SFits, toZ, ofZ}
+use mir.Val.{Fits, SFits, toZ, ofZ}
 use mir.ValLaws.{toZ-pos, toZ-ofZ}
 use Rattle.constellation.specs.Widened.{half, axis}
 use Rattle.constellation.specs.Reading.{Steps}
@@ -66,50 +66,52 @@ scaled-tone m e one h p q o =
 
 -- ---- the bits of a coordinate
 
--- above 32,768 no number of sixteen bits is below 0
-module _ (n : ℕ) (low : 32768 ≤ n) (high : n ≤ 65535) where
-  raised-pos : (z : ℤ) → mag z < 32768 → (pos (natAbs (z +ℤ pos n)) ≡ z +ℤ pos n) × (natAbs (z +ℤ pos n) < 32768 + n)
-  raised-pos (pos a) h = (refl, omega arith)
-  raised-pos (negsuc a) h = rw (le-ltb n (suc a) (omega arith)) (refl, omega arith)
+-- raised by n, at least 32,768, no number of sixteen bits is below 0
+raised-pos : (n : ℕ) (z : ℤ) → 32768 ≤ n → mag z < 32768 → (pos (natAbs (z +ℤ pos n)) ≡ z +ℤ pos n) × (natAbs (z +ℤ pos n) < 32768 + n)
+raised-pos n (pos a) l h = (refl, omega arith)
+raised-pos n (negsuc a) l h = rw (le-ltb n (suc a) (omega arith)) (refl, omega arith)
 
-  -- what the code's widths leave of it
-  abbrev wide : ℤ → ℤ
-  wide z = toZ w32 (ofZ w32 (toZ w16 (ofZ w16 z)))
+-- what the code's widths leave of it
+abbrev wide : ℤ → ℤ
+wide z = toZ w32 (ofZ w32 (toZ w16 (ofZ w16 z)))
 
-  abbrev raised : ℤ → ℤ
-  raised z = toZ w32 (ofZ w32 (wide z +ℤ pos n))
+abbrev raised : ℕ → ℤ → ℤ
+raised n z = toZ w32 (ofZ w32 (wide z +ℤ pos n))
 
-  pub record RaisedIs (z : ℤ) : Type 0 where
-    pub narrow : SFits w32 (toZ w16 (ofZ w16 z))
-    pub sum : SFits w32 (wide z +ℤ pos n)
-    pub cast : T (nonNeg (raised z))
-    pub small : natAbs (raised z) < 32768 + n
-    pub is : pos (natAbs (raised z)) ≡ z +ℤ pos n
+pub record RaisedIs (n : ℕ) (z : ℤ) : Type 0 where
+  pub narrow : SFits w32 (toZ w16 (ofZ w16 z))
+  pub sum : SFits w32 (wide z +ℤ pos n)
+  pub cast : T (nonNeg (raised n z)) × Fits w32 (natAbs (raised n z))
+  pub small : natAbs (raised n z) < 32768 + n
+  pub is : pos (natAbs (raised n z)) ≡ z +ℤ pos n
 
-  pub raised-law : (z : ℤ) → SFits w16 z → RaisedIs z
-  raised-law z f =
-      record {
-        narrow = rw w16-is (record { sfits = omega arith });
-        sum = rw w s;
-        cast = rw (w, r) (rw (← p .0) tt);
-        small = rw (w, r) (p .1);
-        is = rw (w, r) (p .0);
-      }
-    where
-      p : (pos (natAbs (z +ℤ pos n)) ≡ z +ℤ pos n) × (natAbs (z +ℤ pos n) < 32768 + n)
-      p = raised-pos z (omega arith)
+pub raised-by : (n : ℕ) → 32768 ≤ n → n ≤ 65535 → (z : ℤ) → SFits w16 z → RaisedIs n z
+raised-by n low high z f =
+    record {
+      narrow = rw o (record { sfits = omega arith });
+      sum = rw w s;
+      cast = rw (w, r) (rw (← p .0) tt, record { fits = omega (arith, p .1) });
+      small = rw (w, r) (p .1);
+      is = rw (w, r) (p .0);
+    }
+  where
+    p : (pos (natAbs (z +ℤ pos n)) ≡ z +ℤ pos n) × (natAbs (z +ℤ pos n) < 32768 + n)
+    p = raised-pos n z low (omega arith)
 
-      w16-is : toZ w16 (ofZ w16 z) ≡ z
-      w16-is = toZ-ofZ w16 z f
+    o : toZ w16 (ofZ w16 z) ≡ z
+    o = toZ-ofZ w16 z f
 
-      w : wide z ≡ z
-      w = rw w16-is (toZ-ofZ w32 z (record { sfits = omega arith }))
+    w : wide z ≡ z
+    w = rw o (toZ-ofZ w32 z (record { sfits = omega arith }))
 
-      s : SFits w32 (z +ℤ pos n)
-      s = rw (← p .0) (record { sfits = omega (arith, p .1) })
+    s : SFits w32 (z +ℤ pos n)
+    s = rw (← p .0) (record { sfits = omega (arith, p .1) })
 
-      r : toZ w32 (ofZ w32 (z +ℤ pos n)) ≡ z +ℤ pos n
-      r = toZ-ofZ w32 (z +ℤ pos n) s
+    r : toZ w32 (ofZ w32 (z +ℤ pos n)) ≡ z +ℤ pos n
+    r = toZ-ofZ w32 (z +ℤ pos n) s
+
+pub raised-law : (z : ℤ) → SFits w16 z → RaisedIs 65535 z
+raised-law = raised-by 65535 (omega arith) (omega arith)
 
 axis-raised : (h d : ℕ) → h ≤ 256 → axis h d +ℤ pos 65535 ≡ pos (2 * d + 65536 - h)
 axis-raised h d p = go (ltb (2 * d + 1) h) refl

@@ -5,19 +5,19 @@ use Rattle.constellation.proofs.steps.Statement.{statement}
 use Rattle.constellation.proofs.steps.Tie as tie
 
 cast-result : tie.Need-cast-result
-cast-result c = raised-law 65535 (omega arith) (omega arith) (c .args .z) (c .fits .z) .narrow
+cast-result c = raised-law (c .args .z) (c .fits .z) .narrow
 
 add-result : tie.Need-add-result
-add-result c = raised-law 65535 (omega arith) (omega arith) (c .args .z) (c .fits .z) .sum
+add-result c = raised-law (c .args .z) (c .fits .z) .sum
 
 cast-result-2 : tie.Need-cast-result-2
-cast-result-2 c = let r = raised-law 65535 (omega arith) (omega arith) (c .args .z) (c .fits .z) in (r .cast, record { fits = omega (arith, r .small) })
+cast-result-2 c = raised-law (c .args .z) (c .fits .z) .cast
 
 add-result-2 : tie.Need-add-result-2
-add-result-2 c = record { fits = omega (arith, raised-law 65535 (omega arith) (omega arith) (c .args .z) (c .fits .z) .small) }
+add-result-2 c = record { fits = omega (arith, raised-law (c .args .z) (c .fits .z) .small) }
 
 returns : tie.Need-returns
-returns c = steps-law (c .args .half) _ (c .args .z) (c .pre) (raised-law 65535 (omega arith) (omega arith) (c .args .z) (c .fits .z) .is)
+returns c = steps-law (c .args .half) _ (c .args .z) (c .pre) (raised-law (c .args .z) (c .fits .z) .is)
 
 pub steps-spec : {M : Type 1} → statement M
 steps-spec = tie.close (tie.spec cast-result add-result cast-result-2 add-result-2 returns)

@@ -1,11 +1,11 @@
 -- `constellation::labels::raised` meets its contract: nothing is lost between the widths.
 use native.Mathlib.Omega.{arith}
-use Rattle.constellation.proofs.Signed.{RaisedIs, raised-law}
+use Rattle.constellation.proofs.Signed.{RaisedIs, raised-by}
 use Rattle.constellation.proofs.labels.raised.Statement.{statement}
 use Rattle.constellation.proofs.labels.raised.Tie as tie
 
-up : (c : tie.Start) → RaisedIs 32768 (omega arith) (omega arith) (c .args .z)
-up c = raised-law 32768 (omega arith) (omega arith) (c .args .z) (c .fits .z)
+up : (c : tie.Start) → RaisedIs 32768 (c .args .z)
+up c = raised-by 32768 (omega arith) (omega arith) (c .args .z) (c .fits .z)
 
 cast-result : tie.Need-cast-result
 cast-result c = up c .narrow
@@ -14,7 +14,7 @@ add-result : tie.Need-add-result
 add-result c = up c .sum
 
 cast-result-2 : tie.Need-cast-result-2
-cast-result-2 c = (up c .cast, record { fits = omega (arith, up c .small) })
+cast-result-2 c = (up c .cast .0, record { fits = omega (arith, up c .small) })
 
 returns : tie.Need-returns
 returns c = up c .is
