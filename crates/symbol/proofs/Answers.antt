@@ -106,9 +106,9 @@ module _ (T : Tables) {a : Checked} {order entries : List ℕ} (o : Ordered T a 
   pub tones-fit : {n : ℕ} → n ≡ 4096 → length (T .tones) ≤ n
   tones-fit e = let k = accepted-tables T none in omega (arith, k .tonesMost, k .tableMost)
 
-  pub symbol-ready : (f : List ℕ) (r k : ℕ) (xs ys : List ℤ) (sent : List ℕ) → length sent ≡ 7688 → accepted k ≡ encodeLate l (length (T .tones)) (length xs) (length ys) f r
-      → SymbolReady T f (take (length (T .tones)) order) (take (length (T .tones)) entries) xs ys sent
-  symbol-ready f r k xs ys sent n e =
+  pub symbol-ready : (f : List ℕ) (r k : ℕ) (xs ys : List ℤ) (labels : List ℕ) → length labels ≡ 4096 → accepted k ≡ encodeLate l (length (T .tones)) (length xs) (length ys) f r
+      → SymbolReady T f (take (length (T .tones)) order) (take (length (T .tones)) entries) xs ys labels
+  symbol-ready f r k xs ys labels n e =
       let p = late-passes l (length (T .tones)) (length xs) (length ys) f r k e in
       record {
         tables = none;
@@ -117,7 +117,7 @@ module _ (T : Tables) {a : Checked} {order entries : List ℕ} (o : Ordered T a 
         entriesAre = o .bits none;
         xsLength = p .0 .0;
         ysLength = p .0 .1;
-        sentLength = n;
+        labelsLength = n;
       }
 
 -- ---- reading
@@ -174,21 +174,24 @@ no-rooms a b n c m e = go (eqb a n) (eqb b n) (eqb c m) refl refl refl e
     go false y z p q s e = absurd (true≢false e)
 
 module _ (T : Tables) {a : Checked} {order entries : List ℕ} (o : Ordered T a order entries) {l : ℕ} (is : a ≡ Accepted l) where
-  pub points-ready : (xs ys : List ℤ) (r k : ℕ) (f sent undone : List ℕ) → length sent ≡ 7688 → length undone ≡ 7688
+  pub points-ready : (xs ys : List ℤ) (r k : ℕ) (f labels held : List ℕ) → length labels ≡ 4096 → length held ≡ 7688
       → accepted k ≡ readLate l (length (T .tones)) (length xs) (length ys) (length f) r
-      → PointsReady T k xs ys f (take (length (T .tones)) order) (take (length (T .tones)) entries) sent undone
+      → PointsReady T k xs ys f (take (length (T .tones)) order) (take (length (T .tones)) entries) labels held
   unfolding readLate
-  points-ready xs ys r k f sent undone n m e =
+  points-ready xs ys r k f labels held n m e =
       let t = test-none 9 _ _ (ap (λ (v : Verdict). v .number) (sym e)) in
       let p = no-rooms (length xs) (length ys) (length (T .tones)) (length f) (bytesFor l) (t .0) in
       record {
-        tables = none T o is;
-        sizeIs = late-size k _ _ l e ∙ size-is T l (told T o is);
-        orderIs = o .tones (none T o is);
+        plain =
+            record {
+              tables = none T o is;
+              sizeIs = late-size k _ _ l e ∙ size-is T l (told T o is);
+              orderIs = o .tones (none T o is);
+              xsLength = p .0 .0;
+              ysLength = p .0 .1;
+              frameLength = p .1 ∙ ap bytesFor (size-is T l (told T o is));
+              heldLength = m;
+            };
         entriesAre = o .bits (none T o is);
-        xsLength = p .0 .0;
-        ysLength = p .0 .1;
-        frameLength = p .1 ∙ ap bytesFor (size-is T l (told T o is));
-        sentLength = n;
-        undoneLength = m;
+        labelsLength = n;
       }

@@ -1,5 +1,6 @@
+pub mod Fitting
 pub mod Answers
 pub mod Writing
-pub mod Undoing
 pub mod Points
+pub mod Undoing
 pub mod RoundTrip

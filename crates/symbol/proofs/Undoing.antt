@@ -1,144 +1,220 @@
--- The code undone into the frame: what the parts ask, and the frame's bytes.
--- a buffer that begins with a frame has its bytes in front
-use Prim.Native.Nat.{ℕ, _-_, _*_, _≤_}
+-- Reading a symbol: what the parts ask, uncoded and coded, and the frame's bytes.
+use Prim.Native.Nat.{ℕ, _+_, _-_, _≤_, _<_}
 use mathlib.Core.Bool.{Bool}
-use mathlib.Core.List.{List}
+use mathlib.Core.List.{List, _++_, map}
 use mathlib.Core.Path.{_≡_, refl, sym, ap, _∙_}
 use native.Mathlib.Omega.{arith}
-use lib.ListN.{length, take, drop, length-drop}
-use lib.Seq.{take-take, length-take-le, getD-take}
-use Rattle.frame.specs.Written.{Framed}
-use Rattle.g9932.specs.Sizes.{Tables, frameBits, unpack, pack, bytesFor}
-use Rattle.g9932.specs.Order.{sum, bitsOf, entries, entryCount, pairsOf}
+use lib.IntN.{ℤ}
+use lib.ListN.{length, take, drop}
+use Rattle.frame.specs.Spelled.{Fits, Within, spell}
+use Rattle.frame.specs.Written.{Framed, written}
+use Rattle.frame.proofs.Stores.{finished}
+use Rattle.g9932.specs.Bits.{bits, first}
+use Rattle.g9932.specs.Sizes.{Tables, unpack, pack, bytesFor, points}
+use Rattle.g9932.specs.Order.{sum, bitsOf, entries, pairsOf, reorderedTones}
 use Rattle.g9932.specs.Trellis.{Reading, frame, breaks, zeroState, readPairs, readingOf}
-use Rattle.g9932.specs.Symbol.{pairsIn, sizeOf}
+use Rattle.g9932.specs.Symbol.{load, orderOf, classesOf, pairsIn, sizeOf, offgridTest, gatherBits, readingIn}
 use Rattle.g9932.specs.Answers.{breakIn, frameIn}
 use Rattle.g9932.specs.declared.Found.{Found}
 use Rattle.g9932.specs.declared.Found.the-variants.{At, Nothing}
+use Rattle.g9932.specs.declared.Mode.{Mode}
 use Rattle.g9932.specs.declared.Mode.the-variants.{Uncoded, Coded}
 use Rattle.g9932.proofs.Accepted.{Accepted, AcceptedCoded, accepted-tables}
-use Rattle.g9932.proofs.Formed.{total-pairsOf, formed-ok}
-use Rattle.g9932.proofs.Packed.{Bytes, length-unpack, take-unpack, pack-frame}
+use Rattle.g9932.proofs.Formed.{formed-ok}
+use Rattle.g9932.proofs.Packed.{Bytes}
 use Rattle.g9932.proofs.Pairs.{takenTotal, sentTotal, length-read}
-use Rattle.g9932.proofs.Prefixes.{read-take}
-use Rattle.guarantees.proofs.Sent.{size-uncoded}
-use Rattle.trellis.specs.Reading.{HearReady, ReadsAll}
+use Rattle.g9932.proofs.Search.{first-no}
+use Rattle.g9932.proofs.Symbols.{length-gather}
+use Rattle.guarantees.proofs.Operations.{length-points, length-classes}
+use Rattle.guarantees.proofs.Sent.{load-classes, loads-sum, size-uncoded}
+use Rattle.mapper.specs.Collecting.{LabelsRoom, ReadsLabels}
+use Rattle.mapper.specs.Mapping.{classesBy}
+use Rattle.mapper.specs.Reading.{ReadRoom, ReadsAll}
+use Rattle.mapper.specs.declared.collect.LabelsRead.{LabelsRead}
+use Rattle.mapper.specs.declared.read.TonesRead.{TonesRead}
+use Rattle.trellis.specs.Reading.{HearReady, ReadsAll as ReadsLabelled, readingOfAll}
 use Rattle.symbol.specs.Encoding.{leadingZeros}
-use Rattle.symbol.specs.Reading.{sentBitsIn, readingFrom, UndoReady, Undoes}
+use Rattle.symbol.specs.Reading.{PlainReady, CodedReady, PointsReady}
+use Rattle.symbol.proofs.Fitting.{fit-entries}
+use Rattle.symbol.proofs.Points.{Heard, framed-bytes}
 use Rattle.symbol.proofs.Writing.{starts, from-start}
-
-pub framed-bytes : (x : List Bool) (buffer : List ℕ) (n : ℕ) → n ≡ bytesFor (length x) → n ≤ length buffer → Framed x buffer → Bytes buffer → take n buffer ≡ pack x
-framed-bytes x buffer n e h framed bytes =
-    let m : ℕ = bytesFor (length x) in
-    let f : List ℕ = take m buffer in
-    let b : Bytes f = λ k i. rw (getD-take m buffer k 0 (omega (arith, length-take-le m buffer (omega arith)))) (bytes k (omega (arith, length-take-le m buffer (omega arith)))) in
-    let t : frameBits (length x) f ≡ x =
-    ap (take (length x)) (sym (take-unpack m buffer)) ∙ take-take (length x) (8 * m) (unpack buffer) (omega arith) ∙ framed .starts in
-    ap (λ (k : ℕ). take k buffer) e ∙ sym (pack-frame (length x) f (framed .clean) b) ∙ ap pack t
 
 found-not : {k : ℕ} → _≡_ {A = Found} (At k) Nothing → ⊥
 found-not z = let o : _≡_ {A = ℕ} 0 1 = cc in omega arith
 
-module _ (T : Tables) (ents sent undone out : List ℕ) (u : UndoReady T ents sent undone out) where
+module _ (T : Tables) (size : ℕ) (xs ys : List ℤ) (f order held : List ℕ) (s : PlainReady T size xs ys f order held) where
   known : Accepted T
-  known = accepted-tables T (u .tables)
+  known = accepted-tables T (s .tables)
 
-  -- uncoded
-  module _ (plain : T .mode ≡ Uncoded) where
-    bits-there : length (sentBitsIn T sent) ≡ sizeOf T
-    bits-there =
-        let v = known .sumMost in
-        length-take-le (sum (bitsOf (T .bits) (T .tones))) (unpack sent) (omega (arith, length-unpack sent, u .sentLength)) ∙ sym (size-uncoded T plain)
+  order-length : length order ≡ length (T .tones)
+  order-length = ap length (s .orderIs) ∙ known .orderLength
 
-    pub plain-fits : length out ≤ length sent
-    plain-fits = omega (arith, u .frameLength, u .sentLength, known .sizeMost)
+  order-most : length order ≤ 4096
+  order-most = omega (arith, order-length, known .tonesMost, known .tableMost)
 
-    pub plain-undone : Bytes sent → (after : List ℕ) → after ≡ take (length out) sent → Undoes T sent Nothing out after
-    unfolding readingOf
-    plain-undone bytes after e =
-        let n : length out ≡ bytesFor (length (sentBitsIn T sent)) = u .frameLength ∙ ap bytesFor (sym bits-there) in
+  classes-are : classesBy (T .bits) (T .gains) order ≡ classesOf T
+  classes-are = rw (s .orderIs)
+
+  points-length : length (points xs ys) ≡ length (classesOf T)
+  points-length = length-points xs ys (s .xsLength ∙ sym (s .ysLength)) ∙ s .xsLength ∙ sym (length-classes T)
+
+  -- the sent bits of points that 13 does not refuse
+  gathered-length : first (offgridTest (classesOf T) (points xs ys)) (length (T .tones)) ≡ Nothing
+      → length (gatherBits (classesOf T) (points xs ys)) ≡ sum (bitsOf (T .bits) (T .tones))
+  gathered-length on =
+      length-gather (classesOf T) (points xs ys) points-length
+      (first-no (offgridTest (classesOf T) (points xs ys)) (length (classesOf T)) (rw length-classes on)) ∙ loads-sum T
+
+  -- ---- uncoded
+
+  pub plain-room : ReadRoom (T .bits) order xs ys held
+  plain-room =
+      record {
+        bitsMost = known .bitsMost;
+        orderMost = order-most;
+        xsLength = s .xsLength ∙ sym order-length;
+        ysLength = s .ysLength ∙ sym order-length;
+        sentLength = s .heldLength;
+      }
+
+  module _ {r : ℕ} {t : TonesRead} {heard : List ℕ} (m : ReadsAll (classesBy (T .bits) (T .gains) order) r (points xs ys) t heard) where
+    pub plain-heard : Heard T (points xs ys) r (t .offgrid) (t .monitor) (t .register)
+    plain-heard =
         record {
-          broken = rw plain;
-          written = λ _. e ∙ framed-bytes (sentBitsIn T sent) sent (length out) n plain-fits (u .framed) bytes ∙ rw plain;
-          kept = λ k z. absurd (found-not (sym z));
+          offgridIs = m .offgridIs ∙ rw (classes-are, length-classes T);
+          monitorIs = λ on. m .monitorIs on ∙ rw (classes-are, length-classes T);
+          registerIs = λ on. m .registerIs on ∙ rw classes-are;
         }
 
-  -- coded
-  module _ (coded : T .mode ≡ Coded) where
-    cs : AcceptedCoded T
-    cs = known .coded coded
+    pub store-room : length heard ≡ length held → t .writer .next < length heard
+    store-room e = omega (arith, m .counted, s .heldLength)
 
-    part : drop (leadingZeros ents) ents ≡ entries (T .bits) (T .tones)
-    part = rw (u .entriesAre) (from-start T coded (u .tables))
+    module _ (plain : T .mode ≡ Uncoded) (on : t .offgrid ≡ Nothing) where
+      reading-plain : readingIn T (points xs ys) ≡ frame (gatherBits (classesOf T) (points xs ys))
+      unfolding readingIn readingOf
+      reading-plain = rw plain
 
-    pub read-start : leadingZeros ents ≤ length ents
-    read-start =
-        let n : length ents ≡ length (T .tones) = ap length (u .entriesAre) ∙ known .reorderedLength in
-        let z : leadingZeros ents ≡ length (T .tones) - entryCount (T .bits) (T .tones) = rw (u .entriesAre) (starts T coded (u .tables)) in
-        omega arith
+      pub plain-whole : breakIn (readingIn T (points xs ys)) ≡ Nothing
+      plain-whole = ap breakIn reading-plain
 
-    pairs-are : pairsOf (drop (leadingZeros ents) ents) ≡ pairsIn T
-    pairs-are = rw part (sym (cs .pairs))
+      module _ (stored : List ℕ) (e : length heard ≡ length held) (d : length stored ≡ length heard)
+          (w : unpack (take (t .writer .next + 1) stored) ≡ written (t .writer) heard ++ bits (8 - t .writer .fill) 0) where
+        pub plain-fits : length f ≤ length stored
+        plain-fits = omega (arith, s .frameLength, s .heldLength, known .sizeMost)
 
-    pub hear-ready : HearReady (drop (leadingZeros ents) ents) sent undone
-    hear-ready =
-        let a = ap length (u .entriesAre) ∙ known .reorderedLength in
-        let b = ap length part in
-        let c = length-drop (leadingZeros ents) ents in
-        let t : takenTotal (pairsOf (entries (T .bits) (T .tones))) ≡ sizeOf T = sym (ap takenTotal (cs .pairs)) ∙ cs .taken in
-        let w : sum (entries (T .bits) (T .tones)) ≡ sum (bitsOf (T .bits) (T .tones)) =
-        sym (total-pairsOf (entries (T .bits) (T .tones))) ∙ sym (ap sentTotal (cs .pairs)) ∙ cs .widths in
-        rw part
-        (record {
-          wide = cs .entriesRange;
-          few = cs .fewEntries;
-          many = omega (arith, known .tonesMost, known .tableMost);
-          bits = omega (arith, known .sumMost, u .sentLength);
-          small = omega (arith, u .sentLength);
-          bytes = omega (arith, known .sizeMost, u .undoneLength);
-        })
+        pub plain-frame : Bytes stored → (out : List ℕ) → out ≡ take (length f) stored → out ≡ pack (frameIn (readingIn T (points xs ys)))
+        plain-frame bytes out o =
+            let g : List Bool = gatherBits (classesOf T) (points xs ys) in
+            let h = store-room e in
+            let a : written (t .writer) heard ≡ g = m .gathered on ∙ rw classes-are in
+            let framed : Framed g stored = rw a at (finished (t .writer) heard stored (omega arith) (omega arith) (m .waits) w) in
+            let n : length f ≡ bytesFor (length g) = s .frameLength ∙ ap bytesFor (size-uncoded T plain ∙ sym (gathered-length (sym (plain-heard .offgridIs) ∙ on))) in
+            o ∙ framed-bytes g stored (length f) n plain-fits framed bytes ∙ ap (λ x. pack (frameIn x)) (sym reading-plain)
 
-    same-reading : readPairs zeroState (pairsOf (drop (leadingZeros ents) ents)) (unpack sent) ≡ readingFrom T sent
-    unfolding readingOf
-    same-reading =
-        let w : sentTotal (pairsIn T) ≡ sum (bitsOf (T .bits) (T .tones)) = cs .widths in
-        let a : readPairs zeroState (pairsOf (drop (leadingZeros ents) ents)) (unpack sent) ≡ readPairs zeroState (pairsIn T) (sentBitsIn T sent) =
-        rw pairs-are (sym (read-take (pairsIn T) zeroState (sum (bitsOf (T .bits) (T .tones))) (unpack sent) (omega arith))) in
-        let b : readPairs zeroState (pairsIn T) (sentBitsIn T sent) ≡ readingFrom T sent = rw coded in
-        a ∙ b
+-- ---- coded
 
-    module _ (r : Found) (after : List ℕ) (reads : ReadsAll (drop (leadingZeros ents) ents) sent r after) where
-      breaks-at : r ≡ breakIn (readingFrom T sent)
-      breaks-at = reads .broken ∙ ap breakIn same-reading
+module _ (T : Tables) (size : ℕ) (xs ys : List ℤ) (f order es labels held : List ℕ) (s : CodedReady T size xs ys f order es labels held) (coded : T .mode ≡ Coded) where
+  facts : Accepted T
+  facts = accepted-tables T (s .plain .tables)
 
-      pub coded-broken : (k : ℕ) → r ≡ At k → Undoes T sent (At k) out out
-      coded-broken k e =
+  cs : AcceptedCoded T
+  cs = facts .coded coded
+
+  es-most : length es ≤ 4096
+  es-most =
+      let a = ap length (s .entriesAre) in
+      let b = cs .entriesLength in
+      let c = known T size xs ys f order held (s .plain) in
+      ?
+
+  counts-fit : Fits (map load (classesBy (T .bits) (T .gains) order)) es
+  counts-fit =
+      let e : map load (classesBy (T .bits) (T .gains) order) ≡ bitsOf (T .bits) (reorderedTones Coded (T .bits) (T .tones)) =
+      ap (map load) (classes-are T size xs ys f order held (s .plain)) ∙ load-classes T (orderOf T)
+      ∙ ap (λ (m : Mode). bitsOf (T .bits) (reorderedTones m (T .bits) (T .tones))) coded in
+      rw (s .entriesAre, e) (fit-entries (T .bits) (T .tones) (cs .onesEven))
+
+  pub labels-room : LabelsRoom (T .bits) (T .gains) order es xs ys labels
+  labels-room =
+      let p = plain-room T size xs ys f order held (s .plain) in
+      record {
+        bitsMost = p .bitsMost;
+        orderMost = p .orderMost;
+        xsLength = p .xsLength;
+        ysLength = p .ysLength;
+        places = omega (arith, es-most, s .labelsLength);
+        fits = counts-fit;
+      }
+
+  module _ {r : ℕ} {t : LabelsRead} {heard : List ℕ} (m : ReadsLabels (classesBy (T .bits) (T .gains) order) r (points xs ys) es t heard) where
+    pub coded-heard : Heard T (points xs ys) r (t .offgrid) (t .monitor) (t .register)
+    coded-heard =
+        let e = classes-are T size xs ys f order held (s .plain) in
+        record {
+          offgridIs = m .offgridIs ∙ rw (e, length-classes T);
+          monitorIs = λ on. m .monitorIs on ∙ rw (e, length-classes T);
+          registerIs = λ on. m .registerIs on ∙ rw e;
+        }
+
+    module _ (on : t .offgrid ≡ Nothing) (same : length heard ≡ length labels) where
+      pub hear-ready : HearReady es heard held
+      hear-ready =
+          let w : takenTotal (pairsOf (entries (T .bits) (T .tones))) ≡ sizeOf T = sym (ap takenTotal (cs .pairs)) ∙ cs .taken in
+          let e = s .entriesAre in
           record {
-            broken = sym e ∙ breaks-at;
-            written = λ z. absurd (found-not z);
-            kept = λ _ _. refl;
+            wide = rw e (cs .entriesRange);
+            few = rw e (cs .fewEntries);
+            many = es-most;
+            places = omega (arith, es-most, s .labelsLength);
+            within = m .within on;
+            bytes = rw (e, w) (omega (arith, facts .sizeMost, s .plain .heldLength));
           }
 
-      size-read : (R : Reading) → readingFrom T sent ≡ R → breakIn R ≡ Nothing → length (frameIn R) ≡ sizeOf T
-      unfolding readingOf
-      size-read (frame g) e n =
-          let b : readPairs zeroState (pairsIn T) (sentBitsIn T sent) ≡ readingFrom T sent = rw coded in
-          let d : readPairs zeroState (pairsIn T) (sentBitsIn T sent) ≡ frame g = b ∙ e in
-          let l : length (sentBitsIn T sent) ≡ sentTotal (pairsIn T) =
-          length-take-le (sum (bitsOf (T .bits) (T .tones))) (unpack sent) (omega (arith, length-unpack sent, u .sentLength, known .sumMost)) ∙ sym (cs .widths) in
-          length-read (pairsIn T) zeroState (sentBitsIn T sent) g (formed-ok (pairsIn T) (cs .formed)) l d ∙ cs .taken
-      size-read (breaks k) e n = absurd (found-not n)
+      bits-are : spell es heard ≡ gatherBits (classesOf T) (points xs ys)
+      bits-are = m .gathered on ∙ rw (classes-are T size xs ys f order held (s .plain))
 
-      pub coded-fits : length after ≡ length undone → length out ≤ length after
-      coded-fits e = omega (arith, u .frameLength, u .undoneLength, known .sizeMost)
+      reading-coded : readingOfAll es heard ≡ readingIn T (points xs ys)
+      unfolding readingIn readingOf
+      reading-coded = rw (s .entriesAre at bits-are, coded)
 
-      pub coded-undone : length after ≡ length undone → Bytes after → r ≡ Nothing → (outAfter : List ℕ) → outAfter ≡ take (length out) after → Undoes T sent Nothing out outAfter
-      coded-undone same bytes none outAfter e =
-          let f : Framed (frameIn (readingFrom T sent)) after = rw same-reading at (reads .framed none) in
-          let n : length out ≡ bytesFor (length (frameIn (readingFrom T sent))) =
-          u .frameLength ∙ ap bytesFor (sym (size-read (readingFrom T sent) refl (sym breaks-at ∙ none))) in
-          record {
-            broken = sym none ∙ breaks-at;
-            written = λ _. e ∙ framed-bytes (frameIn (readingFrom T sent)) after (length out) n (coded-fits same) f bytes;
-            kept = λ k z. absurd (found-not (sym z));
-          }
+      module _ (b : Found) (after : List ℕ) (reads : ReadsLabelled es heard b after) where
+        pub breaks-at : b ≡ breakIn (readingIn T (points xs ys))
+        breaks-at = reads .broken ∙ ap breakIn reading-coded
+
+        size-read : (R : Reading) → readingIn T (points xs ys) ≡ R → breakIn R ≡ Nothing → length (frameIn R) ≡ sizeOf T
+        unfolding readingIn readingOf
+        size-read (frame g) e n =
+            let d : readPairs zeroState (pairsIn T) (gatherBits (classesOf T) (points xs ys)) ≡ frame g = rw coded at e in
+            let l : length (gatherBits (classesOf T) (points xs ys)) ≡ sentTotal (pairsIn T) =
+            gathered-length T size xs ys f order held (s .plain) (sym (coded-heard .offgridIs) ∙ on) ∙ sym (cs .widths) in
+            length-read (pairsIn T) zeroState (gatherBits (classesOf T) (points xs ys)) g (formed-ok (pairsIn T) (cs .formed)) l d ∙ cs .taken
+        size-read (breaks k) e n = absurd (found-not n)
+
+        pub coded-fits : length after ≡ length held → length f ≤ length after
+        coded-fits e = omega (arith, s .plain .frameLength, s .plain .heldLength, facts .sizeMost)
+
+        pub coded-frame : length after ≡ length held → Bytes after → b ≡ Nothing → (out : List ℕ) → out ≡ take (length f) after
+            → out ≡ pack (frameIn (readingIn T (points xs ys)))
+        coded-frame same' bytes none out o =
+            let whole : Framed (frameIn (readingIn T (points xs ys))) after = rw reading-coded at (reads .framed none) in
+            let n : length f ≡ bytesFor (length (frameIn (readingIn T (points xs ys)))) =
+            s .plain .frameLength ∙ ap bytesFor (sym (size-read (readingIn T (points xs ys)) refl (sym breaks-at ∙ none))) in
+            o ∙ framed-bytes (frameIn (readingIn T (points xs ys))) after (length f) n (coded-fits same') whole bytes
+
+-- b' past its zeros is lent to the coded reader
+module _ (T : Tables) (size : ℕ) (xs ys : List ℤ) (f order ents labels held : List ℕ) (s : PointsReady T size xs ys f order ents labels held) (coded : T .mode ≡ Coded) where
+  pub read-start : leadingZeros ents ≤ length ents
+  read-start =
+      let k = accepted-tables T (s .plain .tables) in
+      let n : length ents ≡ length (T .tones) = ap length (s .entriesAre) ∙ k .reorderedLength in
+      let z = starts T coded (s .plain .tables) in
+      let e : leadingZeros ents ≤ length (T .tones) = rw (s .entriesAre, z) (omega arith) in
+      omega arith
+
+  pub coded-ready : CodedReady T size xs ys f order (drop (leadingZeros ents) ents) labels held
+  coded-ready =
+      record {
+        plain = s .plain;
+        entriesAre = rw (s .entriesAre) (from-start T coded (s .plain .tables));
+        labelsLength = s .labelsLength;
+      }

@@ -1,30 +1,32 @@
 -- Writing a symbol: the bits that reach the mapper, and what the parts of the writer ask.
 -- ---- where the entries of b' begin
 use Prim.Native.Nat.{ℕ, zero, suc, _+_, _-_, _*_, _≤_, _<_}
+use mathlib.Core.Bool.{Bool}
 use mathlib.Core.List.{List, [], _∷_, _++_, map}
 use mathlib.Core.Path.{_≡_, refl, sym, ap, _∙_}
 use native.Mathlib.Numerals.{add-one}
 use native.Mathlib.Omega.{arith}
 use lib.IntN.{ℤ}
 use lib.ListN.{length, take, drop, getD, replicate, length-replicate, length-drop, drop-of-length-le}
-use lib.Seq.{drop-at, drop-cons, take-all}
-use Rattle.frame.specs.Written.{Framed}
+use lib.Seq.{drop-at, drop-cons, take-all, take-length}
+use Rattle.frame.specs.Spelled.{Fits}
 use Rattle.g9932.specs.Sizes.{Tables, entry, frameBits, unpack, bytesFor}
 use Rattle.g9932.specs.Refusals.{tableVerdict}
-use Rattle.g9932.specs.Order.{sum, bitsOf, entries, entryCount, pairsOf, reorderedBits}
+use Rattle.g9932.specs.Order.{sum, bitsOf, entries, entryCount, pairsOf, reorderedTones, reorderedBits}
 use Rattle.g9932.specs.Trellis.{zeroState, encodePairs, sentOf}
-use Rattle.g9932.specs.Symbol.{bitsIn, classesOf, pairsIn, sizeOf, writePoints, sentIn, writtenPoints}
+use Rattle.g9932.specs.Symbol.{load, orderOf, bitsIn, classesOf, pairsIn, sizeOf, writePoints, sentIn, writtenPoints}
+use Rattle.g9932.specs.declared.Mode.{Mode}
 use Rattle.g9932.specs.declared.Mode.the-variants.{Uncoded, Coded}
 use Rattle.g9932.proofs.Accepted.{Accepted, AcceptedCoded, accepted-tables}
-use Rattle.g9932.proofs.Formed.{total-pairsOf}
 use Rattle.g9932.proofs.Packed.{frame-length, length-frame}
-use Rattle.g9932.proofs.Pairs.{takenTotal, sentTotal}
+use Rattle.g9932.proofs.Pairs.{takenTotal}
 use Rattle.g9932.proofs.Prefixes.{encode-take, write-take}
 use Rattle.g9932.proofs.Symbols.{loads}
-use Rattle.guarantees.proofs.Sent.{loads-sum, size-uncoded, length-sentOf}
-use Rattle.mapper.specs.Mapping.{classesBy, MapRoom, MapsAll}
-use Rattle.trellis.specs.Coding.{Ready}
-use Rattle.symbol.specs.Encoding.{leadingZeros, SymbolReady, WritesSymbol}
+use Rattle.guarantees.proofs.Sent.{load-classes, loads-sum, size-uncoded, length-sentOf}
+use Rattle.mapper.specs.Mapping.{classesBy, MapRoom, MapsAll, LabelRoom}
+use Rattle.trellis.specs.Coding.{Ready, CodedWhole}
+use Rattle.symbol.specs.Encoding.{leadingZeros, LabelsReady, SymbolReady, WritesSymbol}
+use Rattle.symbol.proofs.Fitting.{fit-entries}
 
 module _ (l : List ℕ) (i : ℕ) (h : i < length l) (so : leadingZeros l ≡ i + leadingZeros (drop i l)) where
   pub zero-more : getD l i 0 ≡ 0 → leadingZeros l ≡ i + 1 + leadingZeros (drop (i + 1) l)
@@ -78,7 +80,7 @@ module _ (T : Tables) (coded : T .mode ≡ Coded) (ok : tableVerdict T .number �
 
 -- ---- everything in order
 
-module _ (T : Tables) (f order ents : List ℕ) (xs ys : List ℤ) (sent : List ℕ) (s : SymbolReady T f order ents xs ys sent) where
+module _ (T : Tables) (f order ents : List ℕ) (xs ys : List ℤ) (labels : List ℕ) (s : SymbolReady T f order ents xs ys labels) where
   known : Accepted T
   known = accepted-tables T (s .tables)
 
@@ -97,24 +99,13 @@ module _ (T : Tables) (f order ents : List ℕ) (xs ys : List ℤ) (sent : List 
   frame-bytes : length f ≡ bytesFor (sizeOf T)
   frame-bytes = frame-length (sizeOf T) f (s .frame)
 
-  room : (source : List ℕ) → length source ≤ 7688 → sum (bitsOf (T .bits) (T .tones)) ≤ 8 * length source → MapRoom (T .bits) (T .gains) order source xs ys
-  room source h k =
-      record {
-        bitsMost = known .bitsMost;
-        orderMost = order-most;
-        sourceMost = h;
-        bits = rw bits-are k;
-        xsLength = s .xsLength ∙ sym order-length;
-        ysLength = s .ysLength ∙ sym order-length;
-      }
-
-  -- points mapped from a source that begins with the sent bits are the symbol's
-  written-from : (r after : ℕ) (source : List ℕ) (xsAfter ysAfter : List ℤ) (n : ℕ) → sum (bitsOf (T .bits) (T .tones)) ≤ n → take n (unpack source) ≡ sentIn T f
-      → MapsAll (classesBy (T .bits) (T .gains) order) r (unpack source) after xsAfter ysAfter → WritesSymbol T f r after xsAfter ysAfter
+  -- points mapped from bits that begin with the sent bits are the symbol's
+  written-from : (r after : ℕ) (d : List Bool) (xsAfter ysAfter : List ℤ) (n : ℕ) → sum (bitsOf (T .bits) (T .tones)) ≤ n → take n d ≡ sentIn T f
+      → MapsAll (classesBy (T .bits) (T .gains) order) r d after xsAfter ysAfter → WritesSymbol T f r after xsAfter ysAfter
   unfolding writtenPoints
-  written-from r after source xsAfter ysAfter n h e m =
-      let w : writePoints r (classesBy (T .bits) (T .gains) order) (unpack source) ≡ writePoints r (classesOf T) (sentIn T f) =
-      sym (write-take r (classesBy (T .bits) (T .gains) order) n (unpack source) (rw bits-are h)) ∙ rw (e, classes-are) in
+  written-from r after d xsAfter ysAfter n h e m =
+      let w : writePoints r (classesBy (T .bits) (T .gains) order) d ≡ writePoints r (classesOf T) (sentIn T f) =
+      sym (write-take r (classesBy (T .bits) (T .gains) order) n d (rw bits-are h)) ∙ rw (e, classes-are) in
       record {
         xsHold = m .xsHold ∙ ap (map (λ p. p .px)) w;
         ysHold = m .ysHold ∙ ap (map (λ p. p .py)) w;
@@ -131,12 +122,19 @@ module _ (T : Tables) (f order ents : List ℕ) (xs ys : List ℤ) (sent : List 
         let n = frame-bytes in
         let m = known .sizeMost in
         let e = size-sum in
-        room f (omega arith) (omega arith)
+        record {
+          bitsMost = known .bitsMost;
+          orderMost = order-most;
+          sourceMost = omega arith;
+          bits = rw bits-are (omega arith);
+          xsLength = s .xsLength ∙ sym order-length;
+          ysLength = s .ysLength ∙ sym order-length;
+        }
 
     pub plain-written : (r after : ℕ) (xsAfter ysAfter : List ℤ) → MapsAll (classesBy (T .bits) (T .gains) order) r (unpack f) after xsAfter ysAfter
         → WritesSymbol T f r after xsAfter ysAfter
     unfolding sentOf
-    plain-written r after xsAfter ysAfter m = written-from r after f xsAfter ysAfter (sizeOf T) (omega (arith, size-sum)) (rw plain) m
+    plain-written r after xsAfter ysAfter m = written-from r after (unpack f) xsAfter ysAfter (sizeOf T) (omega (arith, size-sum)) (rw plain) m
 
   -- coded
   module _ (coded : T .mode ≡ Coded) where
@@ -159,16 +157,11 @@ module _ (T : Tables) (f order ents : List ℕ) (xs ys : List ℤ) (sent : List 
         let c = length-drop (leadingZeros ents) ents in
         omega (arith, known .tonesMost, known .tableMost)
 
-    entries-sum : sum (entries (T .bits) (T .tones)) ≡ sum (bitsOf (T .bits) (T .tones))
-    entries-sum = sym (total-pairsOf (entries (T .bits) (T .tones))) ∙ sym (ap sentTotal (cs .pairs)) ∙ cs .widths
-
-    pub coded-ready : Ready (drop (leadingZeros ents) ents) f sent
+    coded-ready : Ready (drop (leadingZeros ents) ents) f labels
     coded-ready =
         let n = frame-bytes in
         let m = known .sizeMost in
         let t : takenTotal (pairsOf (entries (T .bits) (T .tones))) ≡ sizeOf T = sym (ap takenTotal (cs .pairs)) ∙ cs .taken in
-        let u = entries-sum in
-        let v = known .sumMost in
         rw part
         (record {
           wide = cs .entriesRange;
@@ -176,21 +169,47 @@ module _ (T : Tables) (f order ents : List ℕ) (xs ys : List ℤ) (sent : List 
           many = entries-most;
           bits = omega arith;
           small = omega arith;
-          bytes = omega (arith, s .sentLength);
+          places = omega (arith, entries-most, s .labelsLength);
         })
 
-    pub coded-room : (after : List ℕ) → length after ≡ length sent → MapRoom (T .bits) (T .gains) order after xs ys
-    coded-room after e = let n = s .sentLength in let v = known .sumMost in room after (omega arith) (omega arith)
+    counts-fit : Fits (map load (classesBy (T .bits) (T .gains) order)) (drop (leadingZeros ents) ents)
+    counts-fit =
+        let e : map load (classesBy (T .bits) (T .gains) order) ≡ bitsOf (T .bits) (reorderedTones Coded (T .bits) (T .tones)) =
+        ap (map load) classes-are ∙ load-classes T (orderOf T) ∙ ap (λ (m : Mode). bitsOf (T .bits) (reorderedTones m (T .bits) (T .tones))) coded in
+        rw (part, e) (fit-entries (T .bits) (T .tones) (cs .onesEven))
 
-    pub coded-written : (after : List ℕ) → Framed (encodePairs zeroState (pairsOf (drop (leadingZeros ents) ents)) (unpack f)) after → (r next : ℕ) (xsAfter ysAfter : List ℤ)
-        → MapsAll (classesBy (T .bits) (T .gains) order) r (unpack after) next xsAfter ysAfter → WritesSymbol T f r next xsAfter ysAfter
+    pub coded-parts : LabelsReady (T .bits) (T .gains) order (drop (leadingZeros ents) ents) f xs ys labels
+    coded-parts =
+        record {
+          ready = coded-ready;
+          bitsMost = known .bitsMost;
+          orderMost = order-most;
+          fits = counts-fit;
+          xsLength = s .xsLength ∙ sym order-length;
+          ysLength = s .ysLength ∙ sym order-length;
+        }
+
+    pub coded-written : (r next : ℕ) (xsAfter ysAfter : List ℤ)
+        → MapsAll (classesBy (T .bits) (T .gains) order) r (encodePairs zeroState (pairsOf (drop (leadingZeros ents) ents)) (unpack f)) next xsAfter ysAfter
+        → WritesSymbol T f r next xsAfter ysAfter
     unfolding sentOf
-    coded-written after framed r next xsAfter ysAfter m =
+    coded-written r next xsAfter ysAfter m =
         let t : takenTotal (pairsIn T) ≡ sizeOf T = cs .taken in
         let q : pairsOf (drop (leadingZeros ents) ents) ≡ pairsIn T = rw part (sym (cs .pairs)) in
-        let e : encodePairs zeroState (pairsOf (drop (leadingZeros ents) ents)) (unpack f) ≡ encodePairs zeroState (pairsIn T) (frameBits (sizeOf T) f) =
+        let d : List Bool = encodePairs zeroState (pairsOf (drop (leadingZeros ents) ents)) (unpack f) in
+        let e : d ≡ encodePairs zeroState (pairsIn T) (frameBits (sizeOf T) f) =
         rw q (sym (encode-take (pairsIn T) zeroState (sizeOf T) (unpack f) (omega arith))) in
         let i : encodePairs zeroState (pairsIn T) (frameBits (sizeOf T) f) ≡ sentIn T f = rw coded in
-        let n : length (encodePairs zeroState (pairsOf (drop (leadingZeros ents) ents)) (unpack f)) ≡ sum (bitsOf (T .bits) (T .tones)) =
+        let n : length d ≡ sum (bitsOf (T .bits) (T .tones)) =
         ap length (e ∙ i) ∙ length-sentOf T known (frameBits (sizeOf T) f) (length-frame (sizeOf T) f (s .frame)) in
-        written-from r next after xsAfter ysAfter (length (encodePairs zeroState (pairsOf (drop (leadingZeros ents) ents)) (unpack f))) (omega arith) (framed .starts ∙ e ∙ i) m
+        written-from r next d xsAfter ysAfter (length d) (omega arith) (take-length d ∙ e ∙ i) m
+
+-- the labels of a frame are in order for the mapper
+pub label-room : {b g order es f : List ℕ} {xs ys : List ℤ} {labels after : List ℕ} → LabelsReady b g order es f xs ys labels → CodedWhole es f after
+    → length after ≡ length labels → LabelRoom b g order es after xs ys
+label-room c w e =
+    record {
+      labels = record { bitsMost = c .bitsMost; orderMost = c .orderMost; enough = omega (arith, c .ready .places); within = w .within; fits = c .fits };
+      xsLength = c .xsLength;
+      ysLength = c .ysLength;
+    }

@@ -1,10 +1,13 @@
 // Encoding, after the tables are checked and re-ordered.
 ghost use mathlib.Core.Path.{_≡_};
 ghost use lib.ListN.{length};
-ghost use Rattle.g9932.specs.Sizes.{tables};
+ghost use Rattle.g9932.specs.Order.{pairsOf};
+ghost use Rattle.g9932.specs.Sizes.{tables, unpack};
+ghost use Rattle.g9932.specs.Trellis.{zeroState, encodePairs};
 ghost use Rattle.g9932.specs.Answers.{verdictOf, Encodes};
+ghost use Rattle.mapper.specs.Mapping.{classesBy, MapsAll};
 ghost use Rattle.tables.specs.Ordered.{Arrays};
-ghost use Rattle.symbol.specs.Encoding.{encodeLate, leadingZeros, SymbolReady, WritesSymbol};
+ghost use Rattle.symbol.specs.Encoding.{encodeLate, leadingZeros, LabelsReady, SymbolReady, WritesSymbol};
 use g9932::Answer;
 use g9932::Checked;
 use g9932::Mode;
@@ -50,8 +53,27 @@ pub fn first_entry(entries: &[u8]) -> usize
     i
 }
 
+// Coded: the frame's bits to the labels of the entries of b' past its zeros, and these to points.
+fn write_coded(
+    bits: &[u8],
+    gains: &[u16],
+    order: &[u16],
+    entries: &[u8],
+    frame: &[u8],
+    register: u32,
+    xs: &mut [i16],
+    ys: &mut [i16],
+    labels: &mut [u16],
+) -> u32
+    requires { ⌜ LabelsReady (now bits) (now gains) (now order) (now entries) (now frame) (now xs) (now ys) (now labels) ⌝ }
+    ensures { λ r. ⌜ MapsAll (classesBy (now (bits .entry)) (now (gains .entry)) (now (order .entry))) register (encodePairs zeroState (pairsOf (now (entries .entry))) (unpack (now (frame .entry)))) r (now (xs .exit)) (now (ys .exit)) ⌝ }
+{
+    trellis::encode_labels(frame, entries, labels);
+    mapper::labels::map_labels(bits, gains, order, entries, labels, register, xs, ys)
+}
+
 // Writes the symbol of an accepted frame, and answers the register after the draws.
-// Uncoded, the frame's bits go straight to the mapper; coded, they pass the trellis into `sent`.
+// Uncoded, the frame's bits go straight to the mapper; coded, the trellis makes labels of them.
 fn write_symbol(
     mode: Mode,
     bits: &[u8],
@@ -63,22 +85,31 @@ fn write_symbol(
     entries: &[u8],
     xs: &mut [i16],
     ys: &mut [i16],
-    sent: &mut [u8],
+    labels: &mut [u16],
 ) -> u32
-    requires { ⌜ SymbolReady (tables mode (now bits) (now gains) (now tones)) (now frame) (now order) (now entries) (now xs) (now ys) (now sent) ⌝ }
+    requires { ⌜ SymbolReady (tables mode (now bits) (now gains) (now tones)) (now frame) (now order) (now entries) (now xs) (now ys) (now labels) ⌝ }
     ensures { λ r. ⌜ WritesSymbol (tables mode (now (bits .entry)) (now (gains .entry)) (now (tones .entry))) (now (frame .entry)) register r (now (xs .exit)) (now (ys .exit)) ⌝ }
 {
     match mode {
         Mode::Uncoded => mapper::map_tones(bits, gains, order, frame, register, xs, ys),
         Mode::Coded => {
             let start = first_entry(entries);
-            trellis::encode_pairs(frame, &entries[start..], sent);
-            mapper::map_tones(bits, gains, order, sent, register, xs, ys)
+            write_coded(
+                bits,
+                gains,
+                order,
+                &entries[start..],
+                frame,
+                register,
+                xs,
+                ys,
+                labels,
+            )
         }
     }
 }
 
-// Encodes through three lent arrays: t', b' and the sent bits. Called by proved code only.
+// Encodes through three lent arrays: t', b' and the labels of its entries. Called by proved code only.
 pub fn encode_through(
     mode: Mode,
     bits: &[u8],
@@ -90,9 +121,9 @@ pub fn encode_through(
     ys: &mut [i16],
     order: &mut [u16],
     entries: &mut [u8],
-    sent: &mut [u8],
+    labels: &mut [u16],
 ) -> Answer
-    requires { ⌜ Arrays (now order) (now entries) × (length (now sent) ≡ 7688) ⌝ }
+    requires { ⌜ Arrays (now order) (now entries) × (length (now labels) ≡ 4096) ⌝ }
     ensures { λ r. ⌜ Encodes (tables mode (now (bits .entry)) (now (gains .entry)) (now (tones .entry))) (now (frame .entry)) register (now (xs .entry)) (now (ys .entry)) r (now (xs .exit)) (now (ys .exit)) ⌝ }
 {
     let n = tones.len();
@@ -115,7 +146,7 @@ pub fn encode_through(
                         &entries[..n],
                         xs,
                         ys,
-                        sent,
+                        labels,
                     );
                     Answer::Done {
                         size: l,

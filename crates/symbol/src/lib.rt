@@ -8,7 +8,7 @@ use g9932::Answer;
 use g9932::Mode;
 
 // Encodes a frame: refusals 1 to 12. Where nothing is refused, writes all of X and Y, and answers L and the register after
-// the draws; else writes nothing. A call takes some 24 KiB of stack for its local arrays, no heap and no global.
+// the draws; else writes nothing. A call takes some 40 KiB of stack for its local arrays, no heap and no global.
 pub fn encode(
     mode: Mode,
     bits: &[u8],
@@ -23,7 +23,7 @@ pub fn encode(
 {
     let mut order = [0u16; 4096];
     let mut entries = [0u8; 4096];
-    let mut sent = [0u8; 7688];
+    let mut labels = [0u16; 4096];
     encoding::encode_through(
         mode,
         bits,
@@ -35,12 +35,12 @@ pub fn encode(
         ys,
         &mut order,
         &mut entries,
-        &mut sent,
+        &mut labels,
     )
 }
 
 // Reads a symbol: refusals 1 to 10 and 12, then 13 at every place, 14 at every place, and 15. Where nothing is refused, writes
-// all of the frame, and answers L and the register after the draws; else writes nothing. A call takes some 32 KiB of stack for
+// all of the frame, and answers L and the register after the draws; else writes nothing. A call takes some 50 KiB of stack for
 // its local arrays, no heap and no global.
 pub fn read(
     mode: Mode,
@@ -56,8 +56,8 @@ pub fn read(
 {
     let mut order = [0u16; 4096];
     let mut entries = [0u8; 4096];
-    let mut sent = [0u8; 7688];
-    let mut undone = [0u8; 7688];
+    let mut labels = [0u16; 4096];
+    let mut held = [0u8; 7688];
     reading::read_through(
         mode,
         bits,
@@ -69,7 +69,7 @@ pub fn read(
         frame,
         &mut order,
         &mut entries,
-        &mut sent,
-        &mut undone,
+        &mut labels,
+        &mut held,
     )
 }

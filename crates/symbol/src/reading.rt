@@ -3,8 +3,9 @@ ghost use mathlib.Core.Path.{_≡_};
 ghost use lib.ListN.{length};
 ghost use Rattle.g9932.specs.Sizes.{tables, points};
 ghost use Rattle.g9932.specs.Answers.{verdictOf, Reads};
+ghost use Rattle.g9932.specs.declared.Mode.the-variants.{Uncoded, Coded};
 ghost use Rattle.tables.specs.Ordered.{Arrays};
-ghost use Rattle.symbol.specs.Reading.{readLate, UndoReady, Undoes, PointsReady, ReadsPoints};
+ghost use Rattle.symbol.specs.Reading.{readLate, PlainReady, CodedReady, PointsReady, ReadsPoints};
 use super::encoding::first_entry;
 use g9932::Answer;
 use g9932::Checked;
@@ -39,42 +40,8 @@ fn read_checks(
     Checked::Accepted(size)
 }
 
-// Undoes the code: the first pair that breaks it, or else the frame is written. Uncoded, the sent bits are the frame's.
-fn undo_code(
-    mode: Mode,
-    bits: &[u8],
-    gains: &[u16],
-    tones: &[u16],
-    entries: &[u8],
-    sent: &[u8],
-    undone: &mut [u8],
-    frame: &mut [u8],
-) -> Found
-    requires { ⌜ UndoReady (tables mode (now bits) (now gains) (now tones)) (now entries) (now sent) (now undone) (now frame) ⌝ }
-    ensures { λ r. ⌜ Undoes (tables mode (now (bits .entry)) (now (gains .entry)) (now (tones .entry))) (now (sent .entry)) r (now (frame .entry)) (now (frame .exit)) ⌝ }
-{
-    match mode {
-        Mode::Uncoded => {
-            frame::copy(sent, frame);
-            Found::Nothing
-        }
-        Mode::Coded => {
-            let start = first_entry(entries);
-            let broken = trellis::read::read_pairs(sent, &entries[start..], undone);
-            match broken {
-                Found::At(k) => Found::At(k),
-                Found::Nothing => {
-                    frame::copy(undone, frame);
-                    Found::Nothing
-                }
-            }
-        }
-    }
-}
-
-// Reads the points of tables in order: 13 at every place, 14 at every place, then 15; or else writes the frame.
-fn read_symbol(
-    mode: Mode,
+// Uncoded: 13 at every place, 14 at every place; or else writes the frame, whose bits are the sent bits.
+fn read_plain(
     bits: &[u8],
     gains: &[u16],
     tones: &[u16],
@@ -84,14 +51,12 @@ fn read_symbol(
     size: usize,
     frame: &mut [u8],
     order: &[u16],
-    entries: &[u8],
-    sent: &mut [u8],
-    undone: &mut [u8],
+    held: &mut [u8],
 ) -> Answer
-    requires { ⌜ PointsReady (tables mode (now bits) (now gains) (now tones)) size (now xs) (now ys) (now frame) (now order) (now entries) (now sent) (now undone) ⌝ }
-    ensures { λ r. ⌜ ReadsPoints (tables mode (now (bits .entry)) (now (gains .entry)) (now (tones .entry))) (points (now (xs .entry)) (now (ys .entry))) register (now (frame .entry)) r (now (frame .exit)) ⌝ }
+    requires { ⌜ PlainReady (tables Uncoded (now bits) (now gains) (now tones)) size (now xs) (now ys) (now frame) (now order) (now held) ⌝ }
+    ensures { λ r. ⌜ ReadsPoints (tables Uncoded (now (bits .entry)) (now (gains .entry)) (now (tones .entry))) (points (now (xs .entry)) (now (ys .entry))) register (now (frame .entry)) r (now (frame .exit)) ⌝ }
 {
-    let t = mapper::read::read_tones(bits, gains, order, xs, ys, register, sent);
+    let t = mapper::read::read_tones(bits, gains, order, xs, ys, register, held);
     let offgrid = t.offgrid;
     let monitor = t.monitor;
     let after = t.register;
@@ -108,21 +73,110 @@ fn read_symbol(
             register,
         };
     }
-    writer.finish(sent);
-    let broken = undo_code(mode, bits, gains, tones, entries, sent, undone, frame);
-    match broken {
-        Found::At(k) => Answer::Refused {
-            refusal: Refusal::Trellis(k),
-            register,
-        },
-        Found::Nothing => Answer::Done {
-            size,
-            register: after,
-        },
+    writer.finish(held);
+    frame::copy(held, frame);
+    Answer::Done {
+        size,
+        register: after,
     }
 }
 
-// Reads through four lent arrays: t', b', the sent bits and the frame before it is known to be whole. Called by proved code only.
+// Coded: 13 at every place, 14 at every place, then 15; or else writes the frame. `entries` is b' past its zeros.
+fn read_coded(
+    bits: &[u8],
+    gains: &[u16],
+    tones: &[u16],
+    xs: &[i16],
+    ys: &[i16],
+    register: u32,
+    size: usize,
+    frame: &mut [u8],
+    order: &[u16],
+    entries: &[u8],
+    labels: &mut [u16],
+    held: &mut [u8],
+) -> Answer
+    requires { ⌜ CodedReady (tables Coded (now bits) (now gains) (now tones)) size (now xs) (now ys) (now frame) (now order) (now entries) (now labels) (now held) ⌝ }
+    ensures { λ r. ⌜ ReadsPoints (tables Coded (now (bits .entry)) (now (gains .entry)) (now (tones .entry))) (points (now (xs .entry)) (now (ys .entry))) register (now (frame .entry)) r (now (frame .exit)) ⌝ }
+{
+    let t =
+        mapper::collect::read_labels(bits, gains, order, entries, xs, ys, register, labels);
+    let offgrid = t.offgrid;
+    let monitor = t.monitor;
+    let after = t.register;
+    if let Found::At(k) = offgrid {
+        return Answer::Refused {
+            refusal: Refusal::Offgrid(Place(k)),
+            register,
+        };
+    }
+    if let Found::At(k) = monitor {
+        return Answer::Refused {
+            refusal: Refusal::Monitor(Place(k)),
+            register,
+        };
+    }
+    let broken = trellis::read::read_labels(labels, entries, held);
+    if let Found::At(k) = broken {
+        return Answer::Refused {
+            refusal: Refusal::Trellis(k),
+            register,
+        };
+    }
+    frame::copy(held, frame);
+    Answer::Done {
+        size,
+        register: after,
+    }
+}
+
+// Reads the points of tables in order.
+fn read_symbol(
+    mode: Mode,
+    bits: &[u8],
+    gains: &[u16],
+    tones: &[u16],
+    xs: &[i16],
+    ys: &[i16],
+    register: u32,
+    size: usize,
+    frame: &mut [u8],
+    order: &[u16],
+    entries: &[u8],
+    labels: &mut [u16],
+    held: &mut [u8],
+) -> Answer
+    requires { ⌜ PointsReady (tables mode (now bits) (now gains) (now tones)) size (now xs) (now ys) (now frame) (now order) (now entries) (now labels) (now held) ⌝ }
+    ensures { λ r. ⌜ ReadsPoints (tables mode (now (bits .entry)) (now (gains .entry)) (now (tones .entry))) (points (now (xs .entry)) (now (ys .entry))) register (now (frame .entry)) r (now (frame .exit)) ⌝ }
+{
+    match mode {
+        Mode::Uncoded => {
+            read_plain(
+                bits, gains, tones, xs, ys, register, size, frame, order, held,
+            )
+        }
+        Mode::Coded => {
+            let start = first_entry(entries);
+            read_coded(
+                bits,
+                gains,
+                tones,
+                xs,
+                ys,
+                register,
+                size,
+                frame,
+                order,
+                &entries[start..],
+                labels,
+                held,
+            )
+        }
+    }
+}
+
+// Reads through four lent arrays: t', b', the labels of its entries, and the frame before it is known to be whole. Called by proved
+// code only.
 pub fn read_through(
     mode: Mode,
     bits: &[u8],
@@ -134,10 +188,10 @@ pub fn read_through(
     frame: &mut [u8],
     order: &mut [u16],
     entries: &mut [u8],
-    sent: &mut [u8],
-    undone: &mut [u8],
+    labels: &mut [u16],
+    held: &mut [u8],
 ) -> Answer
-    requires { ⌜ Arrays (now order) (now entries) × ((length (now sent) ≡ 7688) × (length (now undone) ≡ 7688)) ⌝ }
+    requires { ⌜ Arrays (now order) (now entries) × ((length (now labels) ≡ 4096) × (length (now held) ≡ 7688)) ⌝ }
     ensures { λ r. ⌜ Reads (tables mode (now (bits .entry)) (now (gains .entry)) (now (tones .entry))) (now (xs .entry)) (now (ys .entry)) register (now (frame .entry)) r (now (frame .exit)) ⌝ }
 {
     let n = tones.len();
@@ -161,8 +215,8 @@ pub fn read_through(
                         frame,
                         &order[..n],
                         &entries[..n],
-                        sent,
-                        undone,
+                        labels,
+                        held,
                     )
                 }
             }
