@@ -1,0 +1,23 @@
+use native.Mathlib.Omega.{arith}
+use lib.ListN.{List·getD-eq-default}
+use mathlib.Core.Path.{sym}
+use borrow.Author.Needs.{needs}
+use Rattle.mapper.proofs.labels.label_at.Statement.{statement}
+use Rattle.mapper.proofs.labels.label_at.Tie as tie
+use Rattle.mapper.proofs.labels.label_at.Reads as reads
+use Rattle.mapper.proofs.labels.label_at.Lts as lts
+
+mul-result : tie.Need-mul-result
+mul-result c = search needs
+
+shared-slice-read-result : tie.Need-shared-slice-read-result
+shared-slice-read-result c = search needs
+
+returns : tie.Need-returns
+returns c = search needs
+
+returns-2 : tie.Need-returns-2
+returns-2 c = sym (List·getD-eq-default (c .before .args .source .now) 0 (omega arith))
+
+pub label-at-spec : {M : Type 1} → statement M
+label-at-spec = tie.close (tie.spec mul-result shared-slice-read-result returns returns-2)
