@@ -5,13 +5,37 @@ use mathlib.Core.List.{List, [], _∷_}
 use Prim.Native.Nat.{ℕ, zero, suc, _+_, _/_, _%_, _^_, _≤_, _<_}
 use native.Mathlib.Nat.{add-zero, min-eq-right}
 use native.Mathlib.Omega.{arith}
+use borrow.Author.Tests.{le-ltb}
 use lib.ListN.{length, take, drop, getD, length-drop}
-use lib.Seq.{drop-drop, getD-drop, take-at, drop-at}
-use Rattle.frame.specs.Spelled.{spell, Within, Fits, none, empty, own, shared}
-use Rattle.g9932.proofs.Words.{length-bits}
+use lib.Seq.{take-length, drop-drop, getD-drop, take-at, drop-at}
+use Rattle.constellation.specs.Shaped.{StandsFor}
+use Rattle.constellation.specs.Shapes.{shapeList}
+use Rattle.constellation.specs.Widened.{oddLabel}
+use Rattle.frame.specs.Spelled.{spell, Within, Fits, empty, own, shared}
+use Rattle.g9932.proofs.Words.{length-bits, bits-mod}
 use Rattle.g9932.specs.Bits.{bits}
+use Rattle.g9932.specs.Points.{pointOf}
 use Rattle.g9932.specs.Sizes.{entry}
 use Rattle.mapper.specs.Mapping.{halves, labelFrom, OwnEntry}
+use Rattle.mapper.proofs.OneTone.{table-stands}
+
+-- ---- one tone, from the label of its entry
+
+pub own-bits : (b l : ℕ) → take b (bits b l) ≡ bits b l
+own-bits b l = rw (length-bits b l) at (take-length (bits b l))
+
+-- a label of its own
+pub own-stands : (table : List ℕ) (b l : ℕ) → table ≡ shapeList → 2 ≤ b → b ≤ 15 → l < 2 ^ b → StandsFor (getD table b 0) l (pointOf b (take b (bits b l)))
+own-stands table b l t h k s = rw (own-bits b l) (table-stands table b l l t (omega arith) k s (rw (le-ltb b 2 h)))
+
+-- the lowest bit of what is left
+pub one-stands : (table : List ℕ) (l label : ℕ) → table ≡ shapeList → label ≡ oddLabel 1 (l % 2) → StandsFor (getD table 1 0) label (pointOf 1 (take 1 (bits 1 l)))
+one-stands table l label t e = rw (own-bits 1 l, ← (bits-mod 1 l)) (table-stands table 1 (l % 2) label t (omega arith) (omega arith) (omega arith) e)
+
+pub label-whole : (label at : ℕ) → at % 2 ≡ 0 → labelFrom label at ≡ label
+label-whole label at p = rw p (omega arith)
+
+-- ---- the entries left
 
 -- the bits left, `at` being in halves of an entry
 abbrev pub bitsLeft : List ℕ → List ℕ → ℕ → List Bool
@@ -29,15 +53,13 @@ pub record Takes (es ls : List ℕ) (n : ℕ) (bs : List ℕ) (at : ℕ) : Type 
   pub leftAfter : bitsLeft es ls (at + halves n) ≡ drop n (bitsLeft es ls at)
   pub fits : FitsFrom es bs (at + halves n)
 
-pub label-whole : (label at : ℕ) → at % 2 ≡ 0 → labelFrom label at ≡ label
-label-whole label at p = rw p (omega arith)
-
 -- ---- the first entry of a list, and the first label
 
 none-first : {bs e : List ℕ} → Fits (0 ∷ bs) e → Fits bs e
 none-first (empty f) = f
 none-first (own h f) = absurd (omega arith)
 
+-- a count of at least 2: the entry is its own
 record Own (n : ℕ) (bs e l : List ℕ) : Type 0 where
   small : getD l 0 0 < 2 ^ n
   here : take n (spell e l) ≡ bits n (getD l 0 0)
@@ -46,7 +68,7 @@ record Own (n : ℕ) (bs e l : List ℕ) : Type 0 where
 
 own-first : (n : ℕ) (bs e l : List ℕ) → 2 ≤ n → length e ≤ length l → (0 < length e → getD l 0 0 < 2 ^ getD e 0 0) → Fits (n ∷ bs) e → Own n bs e l
 own-first n bs e [] h k w (own g f) = absurd (omega arith)
-own-first n bs e (x ∷ l) h k w (own {b = b} {es = es} g f) =
+own-first n bs e (x ∷ l) h k w (own {es = es} g f) =
     record {
       small = w (omega arith);
       here = take-at (bits n x) (spell es l) n (length-bits n x);
@@ -56,12 +78,14 @@ own-first n bs e (x ∷ l) h k w (own {b = b} {es = es} g f) =
 own-first n bs e l h k w (empty f) = absurd (omega arith)
 own-first n bs e l h k w (shared f) = absurd (omega arith)
 
+-- the first count of 1 takes the lower bit of the entry of 2,
 one-first : (bs e l : List ℕ) → length e ≤ length l → Fits (1 ∷ bs) e → take 1 (spell e l) ≡ bits 1 (getD l 0 0)
 unfolding bits
 one-first bs e [] k (shared f) = absurd (omega arith)
 one-first bs e (x ∷ l) k (shared f) = refl
 one-first bs e l k (own g f) = absurd (omega arith)
 
+-- and the count after it is the second, which takes the upper
 record Second (n : ℕ) (bs e l : List ℕ) : Type 0 where
   isOne : n ≡ 1
   here : take 1 (drop 1 (spell e l)) ≡ bits 1 (getD l 0 0 / 2)
@@ -99,6 +123,7 @@ module _ (es ls : List ℕ) (enough : length es ≤ length ls) (within : Within 
     first-half : at % 2 ≡ 1 → labelFrom (entry ls (at / 2)) at ≡ getD l 0 0 / 2
     first-half p = rw (p, first-entry ls)
 
+    -- the entry is taken whole: the next one is as new
     next-entry : (n : ℕ) → (at + n) % 2 ≡ 0 → (at + n) / 2 ≡ at / 2 + 1 → bitsLeft es ls (at + n) ≡ spell (drop 1 e) (drop 1 l)
     next-entry n p q = rw (p, q, drop-drop 1 (at / 2) es, drop-drop 1 (at / 2) ls)
 

@@ -6,7 +6,6 @@ use Prim.Native.Nat.{ℕ, _+_, _*_, _/_, _≤_, _<_}
 use native.Mathlib.Nat.{min-le-right}
 use native.Mathlib.Omega.{arith}
 use lib.ListN.{length, take, drop, getD, set}
-use Rattle.constellation.specs.Shaped.{StandsFor}
 use Rattle.frame.specs.Spelled.{spell}
 use Rattle.g9932.specs.Bits.{bits}
 use Rattle.g9932.specs.Points.{pointOf}
@@ -17,9 +16,8 @@ use Rattle.g9932.specs.declared.Class.the-variants.{Data, Monitored, Silent}
 use Rattle.g9932.specs.declared.Tone.{Tone}
 use Rattle.mapper.specs.Mapping.{classesBy, Carries, Lays, halves, labelFrom, OwnEntry, LabelsFit}
 use Rattle.mapper.specs.declared.Laid.{Laid}
-use Rattle.mapper.proofs.OneTone.{own-bits}
 use Rattle.mapper.proofs.Tones.{carries-at, drop-class}
-use Rattle.mapper.proofs.EntryBits.{bitsLeft, FitsFrom, whole, Takes, tone-takes}
+use Rattle.mapper.proofs.EntryBits.{own-bits, bitsLeft, FitsFrom, whole, Takes, tone-takes}
 use Rattle.mapper.proofs.MapLoop.{Laying, laying-start, laying-step, place-there, class-is}
 
 -- a tone's point is that of the bits that it takes

@@ -1,4 +1,5 @@
-// The labels of the entries of b' to points.
+// The labels of the entries of b' to points. Two tones of 1 bit share an entry, a tone of more bits has its own, so `at`, where the
+// next tone's bits start, counts halves of an entry.
 ghost use mathlib.Core.Path.{_≡_};
 ghost use Prim.Native.Nat.{_+_, _≤_};
 ghost use lib.ListN.{length};
@@ -20,8 +21,8 @@ fn label_at(source: &[u16], j: usize) -> u16
     if j < source.len() { source[j] } else { 0 }
 }
 
-// Lays out a data tone: two tones of 1 bit share an entry, the first takes the lower bit of its label; others take the whole label.
-// `at` counts halves of an entry.
+// Lays out a data tone, from the label of the next entry: the first of two tones of 1 bit takes its lower bit, the second its upper,
+// a tone of more bits all of it.
 fn lay_bits(b: u8, shapes: &[u16; 16], label: u16, at: usize, register: u32) -> Laid
     requires { ⌜ (1 ≤ b) × (b ≤ 15) × OwnEntry b label at × (at ≤ 8192) × (now shapes ≡ shapeList) ⌝ }
     ensures { λ r. ⌜ Lays (Class.Data b) register (bitsOf b (labelFrom label at)) (at + halves b) r ⌝ }

@@ -1,11 +1,10 @@
+-- `mapper::labels::label_at` meets its contract: the entry, or 0 past the end.
+use mathlib.Core.Path.{sym}
 use native.Mathlib.Omega.{arith}
 use lib.ListN.{List·getD-eq-default}
-use mathlib.Core.Path.{sym}
 use borrow.Author.Needs.{needs}
 use Rattle.mapper.proofs.labels.label_at.Statement.{statement}
 use Rattle.mapper.proofs.labels.label_at.Tie as tie
-use Rattle.mapper.proofs.labels.label_at.Reads as reads
-use Rattle.mapper.proofs.labels.label_at.Lts as lts
 
 mul-result : tie.Need-mul-result
 mul-result c = search needs

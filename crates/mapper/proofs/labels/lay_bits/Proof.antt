@@ -1,16 +1,13 @@
-use Rattle.mapper.proofs.OneTone.{own-stands, one-stands}
-use Rattle.mapper.proofs.EntryBits.{label-whole}
-use Rattle.mapper.specs.Mapping.{labelFrom}
+-- `mapper::labels::lay_bits` meets its contract: a tone of 1 bit takes the lowest bit left, others the label itself.
+use mathlib.Core.Path.{_≡_, refl, sym, ap}
 use native.Mathlib.Nat.{min-eq-right}
 use native.Mathlib.Omega.{arith}
-use mathlib.Core.Path.{_≡_, refl, sym, ap}
 use Prim.Native.Nat.{ℕ, _+_, _≤_}
+use Rattle.mapper.specs.Mapping.{labelFrom}
+use Rattle.mapper.proofs.EntryBits.{own-stands, one-stands, label-whole}
 use borrow.Author.Needs.{needs}
 use Rattle.mapper.proofs.labels.lay_bits.Statement.{statement}
 use Rattle.mapper.proofs.labels.lay_bits.Tie as tie
-use Rattle.mapper.proofs.labels.lay_bits.Reads as reads
-use Rattle.mapper.proofs.labels.lay_bits.Lts as lts
-use Rattle.constellation.proofs.odd_label.Reads as odd-label-reads
 
 cast-bit : tie.Need-cast-bit
 cast-bit c = search needs

@@ -1,19 +1,14 @@
+-- `mapper::labels::lay_labels` meets its contract. The invariant: the places before i stand for the symbol's points, and the tones left
+-- give its other points from the bits left of the labels and the register left. The measure is the tones left.
+use native.Mathlib.Omega.{arith}
+use lib.ListN.{length}
+use Prim.Native.Nat.{_-_}
 use Rattle.mapper.proofs.LabelLoop.{LabelsLeft, labels-start, label-room, labels-step}
 use Rattle.mapper.proofs.MapLoop.{laying-end}
 use Rattle.mapper.proofs.Tones.{length-classes}
-use Prim.Native.Nat.{_-_}
-use native.Mathlib.Omega.{arith}
-use lib.ListN.{length}
-use borrow.Author.Needs.{needs}
 use borrow.Author.Needs.{needs}
 use Rattle.mapper.proofs.labels.lay_labels.Statement.{statement}
 use Rattle.mapper.proofs.labels.lay_labels.Tie as tie
-use Rattle.mapper.proofs.labels.lay_labels.Reads as reads
-use Rattle.mapper.proofs.labels.lay_labels.Lts as lts
-use Rattle.constellation.proofs.shape_table.Reads as shape-table-reads
-use Rattle.mapper.proofs.labels.label_at.Reads as label-at-reads
-use Rattle.mapper.proofs.labels.lay_label.Reads as lay-label-reads
-use Rattle.tables.proofs.tone_of_place.Reads as tone-of-place-reads
 
 abbrev Inv-loop : tie.InvT-loop
 Inv-loop bits gains order entries source register labels₀ shapes₀ table at₀ next₀ i₀ labels shapes at next i =
