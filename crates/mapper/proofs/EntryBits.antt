@@ -3,15 +3,39 @@ use mathlib.Core.Path.{_≡_, refl, sym, ap, _∙_}
 use mathlib.Core.Bool.{Bool}
 use mathlib.Core.List.{List, [], _∷_}
 use Prim.Native.Nat.{ℕ, zero, suc, _+_, _/_, _%_, _^_, _≤_, _<_}
-use native.Mathlib.Nat.{add-zero, zero-div, min-eq-right}
+use native.Mathlib.Nat.{add-zero, min-eq-right}
 use native.Mathlib.Omega.{arith}
-use lib.ListN.{length, take, drop, getD, length-drop, List·getD-eq-default}
-use lib.Seq.{drop-drop, getD-drop, take-at, drop-at}
-use Rattle.frame.specs.Spelled.{spell, Within, Fits, none, empty, own, shared}
-use Rattle.g9932.proofs.Words.{length-bits}
+use borrow.Author.Tests.{le-ltb}
+use lib.ListN.{length, take, drop, getD, length-drop}
+use lib.Seq.{take-length, drop-drop, getD-drop, take-at, drop-at}
+use Rattle.constellation.specs.Shaped.{StandsFor}
+use Rattle.constellation.specs.Shapes.{shapeList}
+use Rattle.constellation.specs.Widened.{oddLabel}
+use Rattle.frame.specs.Spelled.{spell, Within, Fits, empty, own, shared}
+use Rattle.g9932.proofs.Words.{length-bits, bits-mod}
 use Rattle.g9932.specs.Bits.{bits}
+use Rattle.g9932.specs.Points.{pointOf}
 use Rattle.g9932.specs.Sizes.{entry}
-use Rattle.mapper.specs.Mapping.{halves, labelLeft}
+use Rattle.mapper.specs.Mapping.{halves, labelFrom, OwnEntry}
+use Rattle.mapper.proofs.OneTone.{table-stands}
+
+-- ---- one tone, from the label of its entry
+
+pub own-bits : (b l : ℕ) → take b (bits b l) ≡ bits b l
+own-bits b l = rw (length-bits b l) at (take-length (bits b l))
+
+-- a label of its own
+pub own-stands : (table : List ℕ) (b l : ℕ) → table ≡ shapeList → 2 ≤ b → b ≤ 15 → l < 2 ^ b → StandsFor (getD table b 0) l (pointOf b (take b (bits b l)))
+own-stands table b l t h k s = rw (own-bits b l) (table-stands table b l l t (omega arith) k s (rw (le-ltb b 2 h)))
+
+-- the lowest bit of what is left
+pub one-stands : (table : List ℕ) (l label : ℕ) → table ≡ shapeList → label ≡ oddLabel 1 (l % 2) → StandsFor (getD table 1 0) label (pointOf 1 (take 1 (bits 1 l)))
+one-stands table l label t e = rw (own-bits 1 l, ← (bits-mod 1 l)) (table-stands table 1 (l % 2) label t (omega arith) (omega arith) (omega arith) e)
+
+pub label-whole : (label at : ℕ) → at % 2 ≡ 0 → labelFrom label at ≡ label
+label-whole label at p = rw p (omega arith)
+
+-- ---- the entries left
 
 -- the bits left, `at` being in halves of an entry
 abbrev pub bitsLeft : List ℕ → List ℕ → ℕ → List Bool
@@ -24,14 +48,10 @@ pub data FitsFrom (es bs : List ℕ) (at : ℕ) : Type 0 where
 
 -- a tone of n bits, and the tones after it
 pub record Takes (es ls : List ℕ) (n : ℕ) (bs : List ℕ) (at : ℕ) : Type 0 where
-  pub small : 2 ≤ n → labelLeft ls at < 2 ^ n
-  pub bitsAre : take n (bitsLeft es ls at) ≡ bits n (labelLeft ls at)
+  pub owns : OwnEntry n (entry ls (at / 2)) at
+  pub bitsAre : take n (bitsLeft es ls at) ≡ bits n (labelFrom (entry ls (at / 2)) at)
   pub leftAfter : bitsLeft es ls (at + halves n) ≡ drop n (bitsLeft es ls at)
   pub fits : FitsFrom es bs (at + halves n)
-
--- nothing is left past the last label
-pub past-last : (ls : List ℕ) (at : ℕ) → length ls ≤ at / 2 → 0 ≡ labelLeft ls at
-past-last ls at h = rw (List·getD-eq-default ls 0 h) (sym (zero-div (2 ^ (at % 2))))
 
 -- ---- the first entry of a list, and the first label
 
@@ -39,6 +59,7 @@ none-first : {bs e : List ℕ} → Fits (0 ∷ bs) e → Fits bs e
 none-first (empty f) = f
 none-first (own h f) = absurd (omega arith)
 
+-- a count of at least 2: the entry is its own
 record Own (n : ℕ) (bs e l : List ℕ) : Type 0 where
   small : getD l 0 0 < 2 ^ n
   here : take n (spell e l) ≡ bits n (getD l 0 0)
@@ -47,7 +68,7 @@ record Own (n : ℕ) (bs e l : List ℕ) : Type 0 where
 
 own-first : (n : ℕ) (bs e l : List ℕ) → 2 ≤ n → length e ≤ length l → (0 < length e → getD l 0 0 < 2 ^ getD e 0 0) → Fits (n ∷ bs) e → Own n bs e l
 own-first n bs e [] h k w (own g f) = absurd (omega arith)
-own-first n bs e (x ∷ l) h k w (own {b = b} {es = es} g f) =
+own-first n bs e (x ∷ l) h k w (own {es = es} g f) =
     record {
       small = w (omega arith);
       here = take-at (bits n x) (spell es l) n (length-bits n x);
@@ -57,12 +78,14 @@ own-first n bs e (x ∷ l) h k w (own {b = b} {es = es} g f) =
 own-first n bs e l h k w (empty f) = absurd (omega arith)
 own-first n bs e l h k w (shared f) = absurd (omega arith)
 
+-- the first count of 1 takes the lower bit of the entry of 2,
 one-first : (bs e l : List ℕ) → length e ≤ length l → Fits (1 ∷ bs) e → take 1 (spell e l) ≡ bits 1 (getD l 0 0)
 unfolding bits
 one-first bs e [] k (shared f) = absurd (omega arith)
 one-first bs e (x ∷ l) k (shared f) = refl
 one-first bs e l k (own g f) = absurd (omega arith)
 
+-- and the count after it is the second, which takes the upper
 record Second (n : ℕ) (bs e l : List ℕ) : Type 0 where
   isOne : n ≡ 1
   here : take 1 (drop 1 (spell e l)) ≡ bits 1 (getD l 0 0 / 2)
@@ -94,12 +117,13 @@ module _ (es ls : List ℕ) (enough : length es ≤ length ls) (within : Within 
     within-left : 0 < length e → getD l 0 0 < 2 ^ getD e 0 0
     within-left h = let n = length-drop (at / 2) es in rw (first-entry ls, first-entry es) (within (at / 2) (omega arith))
 
-    label-whole : at % 2 ≡ 0 → labelLeft ls at ≡ getD l 0 0
-    label-whole p = rw (p, first-entry ls) (omega arith)
+    first-whole : at % 2 ≡ 0 → labelFrom (entry ls (at / 2)) at ≡ getD l 0 0
+    first-whole p = label-whole (entry ls (at / 2)) at p ∙ sym (first-entry ls)
 
-    label-half : at % 2 ≡ 1 → labelLeft ls at ≡ getD l 0 0 / 2
-    label-half p = rw (p, first-entry ls)
+    first-half : at % 2 ≡ 1 → labelFrom (entry ls (at / 2)) at ≡ getD l 0 0 / 2
+    first-half p = rw (p, first-entry ls)
 
+    -- the entry is taken whole: the next one is as new
     next-entry : (n : ℕ) → (at + n) % 2 ≡ 0 → (at + n) / 2 ≡ at / 2 + 1 → bitsLeft es ls (at + n) ≡ spell (drop 1 e) (drop 1 l)
     next-entry n p q = rw (p, q, drop-drop 1 (at / 2) es, drop-drop 1 (at / 2) ls)
 
@@ -110,7 +134,7 @@ module _ (es ls : List ℕ) (enough : length es ≤ length ls) (within : Within 
   unfolding bits
   tone-takes zero bs at (whole p f) =
       record {
-        small = λ h. absurd (omega arith);
+        owns = λ h. absurd (omega arith);
         bitsAre = refl;
         leftAfter = rw (add-zero at);
         fits = rw (add-zero at) (whole p (none-first f));
@@ -119,8 +143,8 @@ module _ (es ls : List ℕ) (enough : length es ≤ length ls) (within : Within 
       let q : (at + 1) / 2 ≡ at / 2 = omega arith in
       let s : (at + 1) % 2 ≡ 1 = omega arith in
       record {
-        small = λ h. absurd (omega arith);
-        bitsAre = rw (label-whole at p, p) (one-first bs (drop (at / 2) es) (drop (at / 2) ls) (enough-left at) f);
+        owns = λ h. absurd (omega arith);
+        bitsAre = rw (first-whole at p, p) (one-first bs (drop (at / 2) es) (drop (at / 2) ls) (enough-left at) f);
         leftAfter = rw (q, s, p);
         fits = half s (rw q f);
       }
@@ -128,16 +152,16 @@ module _ (es ls : List ℕ) (enough : length es ≤ length ls) (within : Within 
       let g = own-first (suc (suc n)) bs (drop (at / 2) es) (drop (at / 2) ls) (omega arith) (enough-left at) (within-left at) f in
       let two : halves (suc (suc n)) ≡ 2 = min-eq-right (omega arith) in
       record {
-        small = λ h. rw (label-whole at p) (g .small);
-        bitsAre = rw (label-whole at p, p) (g .here);
+        owns = λ h. (p, rw (← (first-entry at ls)) (g .small));
+        bitsAre = rw (first-whole at p, p) (g .here);
         leftAfter = rw two (next-entry at 2 (omega arith) (omega arith) ∙ rw p (sym (g .after)));
         fits = rw two (next-fits at bs 2 (omega arith) (omega arith) (g .fits));
       }
   tone-takes n bs at (half p f) =
       let g = one-second n bs (drop (at / 2) es) (drop (at / 2) ls) (enough-left at) f in
       rw (g .isOne) (record {
-        small = λ h. absurd (omega arith);
-        bitsAre = rw (label-half at p, p) (g .here);
+        owns = λ h. absurd (omega arith);
+        bitsAre = rw (first-half at p, p) (g .here);
         leftAfter = next-entry at 1 (omega arith) (omega arith) ∙ rw p (sym (g .after));
         fits = next-fits at bs 1 (omega arith) (omega arith) (g .fits);
       })

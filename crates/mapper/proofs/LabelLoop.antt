@@ -2,11 +2,10 @@
 use mathlib.Core.Path.{_≡_, refl, sym, ap, _∙_}
 use mathlib.Core.Bool.{Bool}
 use mathlib.Core.List.{List, map}
-use Prim.Native.Nat.{ℕ, _+_, _*_, _^_, _≤_, _<_}
+use Prim.Native.Nat.{ℕ, _+_, _*_, _/_, _≤_, _<_}
 use native.Mathlib.Nat.{min-le-right}
 use native.Mathlib.Omega.{arith}
 use lib.ListN.{length, take, drop, getD, set}
-use Rattle.constellation.specs.Shaped.{StandsFor}
 use Rattle.frame.specs.Spelled.{spell}
 use Rattle.g9932.specs.Bits.{bits}
 use Rattle.g9932.specs.Points.{pointOf}
@@ -15,11 +14,10 @@ use Rattle.g9932.specs.Symbol.{load, tonePoint}
 use Rattle.g9932.specs.declared.Class.{Class}
 use Rattle.g9932.specs.declared.Class.the-variants.{Data, Monitored, Silent}
 use Rattle.g9932.specs.declared.Tone.{Tone}
-use Rattle.mapper.specs.Mapping.{classesBy, Carries, Lays, halves, labelLeft, LabelsFit}
+use Rattle.mapper.specs.Mapping.{classesBy, Carries, Lays, halves, labelFrom, OwnEntry, LabelsFit}
 use Rattle.mapper.specs.declared.Laid.{Laid}
-use Rattle.mapper.proofs.OneTone.{own-bits}
 use Rattle.mapper.proofs.Tones.{carries-at, drop-class}
-use Rattle.mapper.proofs.EntryBits.{bitsLeft, FitsFrom, whole, Takes, tone-takes}
+use Rattle.mapper.proofs.EntryBits.{own-bits, bitsLeft, FitsFrom, whole, Takes, tone-takes}
 use Rattle.mapper.proofs.MapLoop.{Laying, laying-start, laying-step, place-there, class-is}
 
 -- a tone's point is that of the bits that it takes
@@ -42,9 +40,9 @@ module _ (b g order es ls : List ℕ) (room : LabelsFit b g order es ls) (r : �
         atMost = omega arith;
       }
 
-  -- the tone t at place i, and the label left for it
+  -- the tone t at place i, and the label of the next entry
   module _ (labels shapes : List ℕ) (at register i : ℕ) (going : LabelsLeft b g order es ls r labels shapes at register i) (t : Tone)
-      (h : i < length order) (is : t ≡ toneOf (entry b (entry order i)) (entry g (entry order i))) (label : ℕ) (isLeft : label ≡ labelLeft ls at) where
+      (h : i < length order) (is : t ≡ toneOf (entry b (entry order i)) (entry g (entry order i))) (label : ℕ) (isNext : label ≡ entry ls (at / 2)) where
     abbrev c : Class
     c = getD (classesBy b g order) i Silent
 
@@ -59,18 +57,19 @@ module _ (b g order es ls : List ℕ) (room : LabelsFit b g order es ls) (r : �
         tone-takes es ls (room .enough) (room .within) (load c) (map load (drop (i + 1) (classesBy b g order))) at
         (rw (drop-class (classesBy b g order) i there) at (going .fits))
 
-    pub label-room : Carries (t .class) × (2 ≤ load (t .class) → label < 2 ^ load (t .class)) × (at ≤ 8192)
+    pub label-room : Carries (t .class) × OwnEntry (load (t .class)) label at × (at ≤ 8192)
     label-room = (
       rw class (carries-at b g order (room .bitsMost) i h),
-      rw (class, isLeft) (takes .small),
+      rw (class, isNext) (takes .owns),
       omega (arith, going .atMost, room .orderMost),
     )
 
-    pub labels-step : (m : Laid) → Lays (t .class) register (bits (load (t .class)) label) (at + halves (load (t .class))) m
+    pub labels-step : (m : Laid) → Lays (t .class) register (bits (load (t .class)) (labelFrom label at)) (at + halves (load (t .class))) m
         → LabelsLeft b g order es ls r (set labels i (m .label)) (set shapes i (m .shape)) (m .at) (m .register) (i + 1)
     labels-step m laid =
-        let lays : Lays c register (bits (load c) (labelLeft ls at)) (at + halves (load c)) m = rw (class, isLeft) at laid in
-        let same = same-point register c (bits (load c) (labelLeft ls at)) (bitsLeft es ls at) (own-bits (load c) (labelLeft ls at) ∙ sym (takes .bitsAre)) in
+        let own = bits (load c) (labelFrom (entry ls (at / 2)) at) in
+        let lays : Lays c register own (at + halves (load c)) m = rw (class, isNext) at laid in
+        let same = same-point register c own (bitsLeft es ls at) (own-bits (load c) (labelFrom (entry ls (at / 2)) at) ∙ sym (takes .bitsAre)) in
         let stands = rw same at (lays .stands) in
         record {
           laying = laying-step (classesBy b g order) r (spell es ls) (bitsLeft es ls at) register i (at + halves (load c)) m there

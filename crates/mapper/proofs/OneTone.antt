@@ -1,16 +1,16 @@
 -- One tone, in numbers: a label got from the source, and a label found for a point.
-use Prim.Native.Nat.{ℕ, _+_, _*_, _%_, _^_, _≤_, _<_}
+use Prim.Native.Nat.{ℕ, _+_, _*_, _^_, _≤_, _<_}
 use mathlib.Core.Bool.{Bool, true, false, _&&_, true≢false, false≢true}
 use mathlib.Core.List.{List}
 use mathlib.Core.Option.{Option, some}
 use mathlib.Core.Path.{_≡_, refl, sym, ap, _∙_}
 use native.Mathlib.Nat.{lt-of-lt-of-le}
 use native.Mathlib.Omega.{arith}
-use borrow.Author.Tests.{le-ltb, eq-eqb, ne-eqb, eqb-true, eqb-false}
+use borrow.Author.Tests.{eq-eqb, ne-eqb, eqb-true, eqb-false}
 use lib.Dec.{eqb}
 use lib.ListN.{length, take, drop, getD, length-drop}
 use lib.Pow.{pow-mono}
-use lib.Seq.{take-length, length-take-le}
+use lib.Seq.{length-take-le}
 use Rattle.constellation.specs.Reading.{SoughtIs}
 use Rattle.constellation.specs.Shaped.{StandsFor}
 use Rattle.constellation.specs.Shapes.{shapeList}
@@ -22,7 +22,7 @@ use Rattle.constellation.proofs.Sizes.{label-lt, label-16}
 use Rattle.g9932.proofs.Constellations.{samePoint-self, point-inj}
 use Rattle.g9932.proofs.Labels.{label-point, label-back}
 use Rattle.g9932.proofs.Packed.{length-unpack}
-use Rattle.g9932.proofs.Words.{length-bits, num-lt, num-inj, bits-num, bits-mod}
+use Rattle.g9932.proofs.Words.{num-lt, num-inj, bits-num}
 use Rattle.g9932.specs.Bits.{bits, num}
 use Rattle.g9932.specs.Filler.{drawn}
 use Rattle.g9932.specs.Points.{pointOf, samePoint, labelOf, isLabel, labelBits}
@@ -64,17 +64,6 @@ pub filler-stands : (table : List ℕ) (r label : ℕ) → table ≡ shapeList �
 filler-stands table r label t e =
     let a = filler-at r label e in
     rw (← (a .0)) (table-stands table 2 label label t (omega arith) (omega arith) (a .1) refl)
-
--- the bits of the label itself are those taken
-pub own-bits : (b l : ℕ) → take b (bits b l) ≡ bits b l
-own-bits b l = rw (length-bits b l) at (take-length (bits b l))
-
-pub own-stands : (table : List ℕ) (b l : ℕ) → table ≡ shapeList → 2 ≤ b → b ≤ 15 → l < 2 ^ b → StandsFor (getD table b 0) l (pointOf b (take b (bits b l)))
-own-stands table b l t h k s = rw (own-bits b l) (table-stands table b l l t (omega arith) k s (rw (le-ltb b 2 h)))
-
--- the lowest bit of a label, tripled
-pub one-stands : (table : List ℕ) (l label : ℕ) → table ≡ shapeList → label ≡ oddLabel 1 (l % 2) → StandsFor (getD table 1 0) label (pointOf 1 (take 1 (bits 1 l)))
-one-stands table l label t e = rw (own-bits 1 l, ← (bits-mod 1 l)) (table-stands table 1 (l % 2) label t (omega arith) (omega arith) (omega arith) e)
 
 -- ---- reading
 

@@ -72,14 +72,18 @@ pub record MapsAll (cs : List Class) (r : ℕ) (d : List Bool) (after : ℕ) (xs
   pub registerIs : after ≡ registerAfter r cs
 
 -- ---- all tones, from the labels of the entries of b'
+-- Where the next tone's bits start is counted in halves of an entry: two tones of 1 bit share an entry, a tone of more bits has its own.
 
--- Where the next tone's bits start is counted in halves of an entry: a tone of 1 bit takes one, a tone of more bits a whole entry.
 abbrev pub halves : ℕ → ℕ
 halves n = min n 2
 
--- what is left of the label of the next entry
-abbrev pub labelLeft : List ℕ → ℕ → ℕ
-labelLeft ls at = entry ls (at / 2) / 2 ^ (at % 2)
+-- what is left of an entry's label, from one of its halves on
+abbrev pub labelFrom : ℕ → ℕ → ℕ
+labelFrom label at = label / 2 ^ (at % 2)
+
+-- a tone of n bits from 2 has an entry of its own, none of it taken
+abbrev pub OwnEntry : ℕ → ℕ → ℕ → Type 0
+OwnEntry n label at = 2 ≤ n → (at % 2 ≡ 0) × (label < 2 ^ n)
 
 -- the labels of the entries that the tones' bit counts fit
 pub record LabelsFit (b g order es ls : List ℕ) : Type 0 where

@@ -1,34 +1,36 @@
-// The labels of the entries of b' to points.
+// The labels of the entries of b' to points. Two tones of 1 bit share an entry, a tone of more bits has its own, so `at`, where the
+// next tone's bits start, counts halves of an entry.
 ghost use mathlib.Core.Path.{_≡_};
-ghost use Prim.Native.Nat.{_+_, _^_, _≤_, _<_};
+ghost use Prim.Native.Nat.{_+_, _≤_};
 ghost use lib.ListN.{length};
 ghost use Rattle.constellation.specs.Shapes.{shapeList};
 ghost use Rattle.frame.specs.Spelled.{spell};
 ghost use Rattle.g9932.specs.Bits.{bits as bitsOf};
+ghost use Rattle.g9932.specs.Sizes.{entry};
 ghost use Rattle.g9932.specs.Symbol.{load};
-ghost use Rattle.mapper.specs.Mapping.{classesBy, Carries, Lays, LaysAll, MapsAll, halves, labelLeft, LabelsFit, LabelRoom};
+ghost use Rattle.mapper.specs.Mapping.{classesBy, Carries, Lays, LaysAll, MapsAll, halves, labelFrom, OwnEntry, LabelsFit, LabelRoom};
+use super::Laid;
 use g9932::Class;
 use g9932::Place;
 use g9932::Tone;
-use super::Laid;
 
-// What is left of the label of the next entry, `at` being in halves of an entry; 0 past the last.
-fn label_left(source: &[u16], at: usize) -> u16
-    ensures { λ r. ⌜ r ≡ labelLeft (now (source .entry)) at ⌝ }
+// The label of an entry, 0 past the last.
+fn label_at(source: &[u16], j: usize) -> u16
+    ensures { λ r. ⌜ r ≡ entry (now (source .entry)) j ⌝ }
 {
-    let j = at / 2;
-    if j < source.len() { source[j] >> (at % 2) } else { 0 }
+    if j < source.len() { source[j] } else { 0 }
 }
 
-// Lays out a data tone: a tone of 1 bit takes the lowest bit left of an entry that two share, others the whole label.
+// Lays out a data tone, from the label of the next entry: the first of two tones of 1 bit takes its lower bit, the second its upper,
+// a tone of more bits all of it.
 fn lay_bits(b: u8, shapes: &[u16; 16], label: u16, at: usize, register: u32) -> Laid
-    requires { ⌜ (1 ≤ b) × (b ≤ 15) × (2 ≤ b → label < 2 ^ b) × (at ≤ 8192) × (now shapes ≡ shapeList) ⌝ }
-    ensures { λ r. ⌜ Lays (Class.Data b) register (bitsOf b label) (at + halves b) r ⌝ }
+    requires { ⌜ (1 ≤ b) × (b ≤ 15) × OwnEntry b label at × (at ≤ 8192) × (now shapes ≡ shapeList) ⌝ }
+    ensures { λ r. ⌜ Lays (Class.Data b) register (bitsOf b (labelFrom label at)) (at + halves b) r ⌝ }
 {
     if b < 2 {
-        let bit = constellation::odd_label(1, (label % 2) as u32) as u16;
+        let bit = (label >> (at % 2)) % 2;
         return Laid {
-            label: bit,
+            label: constellation::odd_label(1, bit as u32) as u16,
             shape: shapes[1],
             at: at + 1,
             register,
@@ -42,10 +44,10 @@ fn lay_bits(b: u8, shapes: &[u16; 16], label: u16, at: usize, register: u32) -> 
     }
 }
 
-// Lays out a tone, from what is left of the label of the next entry.
+// Lays out a tone, from the label of the next entry.
 fn lay_label(tone: Tone, shapes: &[u16; 16], label: u16, at: usize, register: u32) -> Laid
-    requires { ⌜ Carries (tone .class) × (2 ≤ load (tone .class) → label < 2 ^ load (tone .class)) × (at ≤ 8192) × (now shapes ≡ shapeList) ⌝ }
-    ensures { λ r. ⌜ Lays (tone .class) register (bitsOf (load (tone .class)) label) (at + halves (load (tone .class))) r ⌝ }
+    requires { ⌜ Carries (tone .class) × OwnEntry (load (tone .class)) label at × (at ≤ 8192) × (now shapes ≡ shapeList) ⌝ }
+    ensures { λ r. ⌜ Lays (tone .class) register (bitsOf (load (tone .class)) (labelFrom label at)) (at + halves (load (tone .class))) r ⌝ }
 {
     let class = tone.class;
     match class {
@@ -82,7 +84,7 @@ fn lay_labels(
         let m = lay_label(
             tables::tone_of_place(bits, gains, order, Place(i)),
             &table,
-            label_left(source, at),
+            label_at(source, at / 2),
             at,
             next,
         );

@@ -37,7 +37,7 @@ fn lay_data(b: u8, shapes: &[u16; 16], source: &[u8], at: usize, register: u32) 
     }
 }
 
-// Lays out a monitored tone: its label is the next two filler bits.
+// Lays out a monitored tone: its label is the next two filler bits, and it takes none of the bits left.
 fn lay_filler(shapes: &[u16; 16], at: usize, register: u32) -> Laid
     requires { ⌜ now shapes ≡ shapeList ⌝ }
     ensures { λ r. ⌜ Lays Class.Monitored register [] at r ⌝ }

@@ -1,13 +1,10 @@
-use Rattle.constellation.proofs.Shaped.{silent-stands}
-use native.Mathlib.Omega.{arith}
+-- `mapper::labels::lay_label` meets its contract, by the class: bits of a label, two filler bits, or (0, 0).
 use mathlib.Core.Path.{refl}
+use native.Mathlib.Omega.{arith}
+use Rattle.constellation.proofs.Shaped.{silent-stands}
 use borrow.Author.Needs.{needs}
 use Rattle.mapper.proofs.labels.lay_label.Statement.{statement}
 use Rattle.mapper.proofs.labels.lay_label.Tie as tie
-use Rattle.mapper.proofs.labels.lay_label.Reads as reads
-use Rattle.mapper.proofs.labels.lay_label.Lts as lts
-use Rattle.mapper.proofs.labels.lay_bits.Reads as lay-bits-reads
-use Rattle.mapper.proofs.lay_filler.Reads as lay-filler-reads
 
 enum-known-class : tie.Need-enum-known-class
 enum-known-class c = search needs

@@ -1,19 +1,14 @@
+-- `mapper::labels::lay_labels` meets its contract. The invariant: the places before i stand for the symbol's points, and the tones left
+-- give its other points from the bits left of the labels and the register left. The measure is the tones left.
+use native.Mathlib.Omega.{arith}
+use lib.ListN.{length}
+use Prim.Native.Nat.{_-_}
 use Rattle.mapper.proofs.LabelLoop.{LabelsLeft, labels-start, label-room, labels-step}
 use Rattle.mapper.proofs.MapLoop.{laying-end}
 use Rattle.mapper.proofs.Tones.{length-classes}
-use Prim.Native.Nat.{_-_}
-use native.Mathlib.Omega.{arith}
-use lib.ListN.{length}
-use borrow.Author.Needs.{needs}
 use borrow.Author.Needs.{needs}
 use Rattle.mapper.proofs.labels.lay_labels.Statement.{statement}
 use Rattle.mapper.proofs.labels.lay_labels.Tie as tie
-use Rattle.mapper.proofs.labels.lay_labels.Reads as reads
-use Rattle.mapper.proofs.labels.lay_labels.Lts as lts
-use Rattle.constellation.proofs.shape_table.Reads as shape-table-reads
-use Rattle.mapper.proofs.labels.label_left.Reads as label-left-reads
-use Rattle.mapper.proofs.labels.lay_label.Reads as lay-label-reads
-use Rattle.tables.proofs.tone_of_place.Reads as tone-of-place-reads
 
 abbrev Inv-loop : tie.InvT-loop
 Inv-loop bits gains order entries source register labels₀ shapes₀ table at₀ next₀ i₀ labels shapes at next i =
@@ -34,15 +29,15 @@ loop-holds c =
 tone-of-place-requires : tie.Need-tone-of-place-requires Inv-loop μ-loop
 tone-of-place-requires c κs = search needs
 
-label-left-requires : tie.Need-label-left-requires Inv-loop μ-loop
-label-left-requires c κs = search needs
+label-at-requires : tie.Need-label-at-requires Inv-loop μ-loop
+label-at-requires c κs = search needs
 
 lay-label-requires : tie.Need-lay-label-requires Inv-loop μ-loop
 lay-label-requires c κs =
     let s = c .before .before .before .before .before .before .before .before .before .before .before in
     let l = c .before .before .before .before .loop in
     let p = c .before .before .tone-of-place in
-    let k = c .label-left in
+    let k = c .label-at in
     let r = label-room (s .args .bits .now) (s .args .gains .now) (s .args .order .now) (s .args .entries .now) (s .args .source .now) (s .pre .0) (s .args .register)
     (l .labels) (l .shapes) (l .at) (l .next) (l .i) (l .inv) (p .result) (omega arith) (p .ensures) (k .result) (k .ensures) in
     (r .0, r .1, r .2, c .before .before .before .before .before .shape-table .ensures)
@@ -70,7 +65,7 @@ loop-again c =
     let s = c .before .before .before .before .before .before .before .before .before .before .before .before in
     let l = c .before .before .before .before .before .loop in
     let p = c .before .before .before .tone-of-place in
-    let k = c .before .label-left in
+    let k = c .before .label-at in
     labels-step (s .args .bits .now) (s .args .gains .now) (s .args .order .now) (s .args .entries .now) (s .args .source .now) (s .pre .0) (s .args .register)
     (l .labels) (l .shapes) (l .at) (l .next) (l .i) (l .inv) (p .result) (omega arith) (p .ensures) (k .result) (k .ensures) (c .lay-label .result) (c .lay-label .ensures)
 
@@ -88,7 +83,7 @@ lay-labels-spec =
     shape-table-requires
     loop-holds
     tone-of-place-requires
-    label-left-requires
+    label-at-requires
     lay-label-requires
     mul-labels
     element-write-labels

@@ -1,16 +1,13 @@
+-- `mapper::labels::map_labels` meets its contract: all tones laid out, then their points.
+use mathlib.Core.Path.{_≡_, _∙_, sym}
+use lib.ListN.{length}
+use Rattle.frame.specs.Spelled.{spell}
+use Rattle.mapper.specs.Mapping.{classesBy}
 use Rattle.mapper.proofs.MapLoop.{put-room, maps-all}
 use Rattle.mapper.proofs.Tones.{length-classes}
-use Rattle.mapper.specs.Mapping.{classesBy}
-use Rattle.frame.specs.Spelled.{spell}
-use lib.ListN.{length}
-use mathlib.Core.Path.{_≡_, _∙_, sym}
 use borrow.Author.Needs.{needs}
 use Rattle.mapper.proofs.labels.map_labels.Statement.{statement}
 use Rattle.mapper.proofs.labels.map_labels.Tie as tie
-use Rattle.mapper.proofs.labels.map_labels.Reads as reads
-use Rattle.mapper.proofs.labels.map_labels.Lts as lts
-use Rattle.mapper.proofs.labels.lay_labels.Reads as lay-labels-reads
-use Rattle.mapper.proofs.put_points.Reads as put-points-reads
 
 lay-labels-requires : tie.Need-lay-labels-requires
 lay-labels-requires c κs = search needs
