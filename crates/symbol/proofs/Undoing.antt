@@ -11,7 +11,7 @@ use Rattle.frame.specs.Written.{Framed, written}
 use Rattle.frame.proofs.Stores.{finished}
 use Rattle.g9932.specs.Bits.{bits, first}
 use Rattle.g9932.specs.Sizes.{Tables, unpack, pack, bytesFor, points}
-use Rattle.g9932.specs.Order.{sum, bitsOf, entries, pairsOf, reorderedTones}
+use Rattle.g9932.specs.Order.{Pair, sum, bitsOf, entries, pairsOf, reorderedTones}
 use Rattle.g9932.specs.Trellis.{Reading, frame, breaks, zeroState, readPairs, readingOf}
 use Rattle.g9932.specs.Symbol.{load, orderOf, classesOf, pairsIn, sizeOf, offgridTest, gatherBits, readingIn}
 use Rattle.g9932.specs.Answers.{breakIn, frameIn}
@@ -37,7 +37,7 @@ use Rattle.symbol.specs.Encoding.{leadingZeros}
 use Rattle.symbol.specs.Reading.{PlainReady, CodedReady, PointsReady}
 use Rattle.symbol.proofs.Fitting.{fit-entries}
 use Rattle.symbol.proofs.Points.{Heard, framed-bytes}
-use Rattle.symbol.proofs.Writing.{starts, from-start}
+use Rattle.symbol.proofs.Writing.{starts, from-start, entries-most}
 
 found-not : {k : ℕ} → _≡_ {A = Found} (At k) Nothing → ⊥
 found-not z = let o : _≡_ {A = ℕ} 0 1 = cc in omega arith
@@ -121,11 +121,7 @@ module _ (T : Tables) (size : ℕ) (xs ys : List ℤ) (f order es labels held : 
   cs = facts .coded coded
 
   es-most : length es ≤ 4096
-  es-most =
-      let a = ap length (s .entriesAre) in
-      let b = cs .entriesLength in
-      let c = known T size xs ys f order held (s .plain) in
-      ?
+  es-most = omega (arith, ap length (s .entriesAre), entries-most T coded (s .plain .tables))
 
   counts-fit : Fits (map load (classesBy (T .bits) (T .gains) order)) es
   counts-fit =
@@ -173,18 +169,23 @@ module _ (T : Tables) (size : ℕ) (xs ys : List ℤ) (f order es labels held : 
       bits-are : spell es heard ≡ gatherBits (classesOf T) (points xs ys)
       bits-are = m .gathered on ∙ rw (classes-are T size xs ys f order held (s .plain))
 
-      reading-coded : readingOfAll es heard ≡ readingIn T (points xs ys)
+      reading-is : readPairs zeroState (pairsIn T) (gatherBits (classesOf T) (points xs ys)) ≡ readingIn T (points xs ys)
       unfolding readingIn readingOf
-      reading-coded = rw (s .entriesAre at bits-are, coded)
+      reading-is = rw coded
+
+      reading-coded : readingOfAll es heard ≡ readingIn T (points xs ys)
+      reading-coded =
+          ap (readPairs zeroState (pairsOf es)) bits-are
+          ∙ ap (λ (ps : List Pair). readPairs zeroState ps (gatherBits (classesOf T) (points xs ys))) (ap pairsOf (s .entriesAre) ∙ sym (cs .pairs))
+          ∙ reading-is
 
       module _ (b : Found) (after : List ℕ) (reads : ReadsLabelled es heard b after) where
         pub breaks-at : b ≡ breakIn (readingIn T (points xs ys))
         breaks-at = reads .broken ∙ ap breakIn reading-coded
 
         size-read : (R : Reading) → readingIn T (points xs ys) ≡ R → breakIn R ≡ Nothing → length (frameIn R) ≡ sizeOf T
-        unfolding readingIn readingOf
         size-read (frame g) e n =
-            let d : readPairs zeroState (pairsIn T) (gatherBits (classesOf T) (points xs ys)) ≡ frame g = rw coded at e in
+            let d : readPairs zeroState (pairsIn T) (gatherBits (classesOf T) (points xs ys)) ≡ frame g = reading-is ∙ e in
             let l : length (gatherBits (classesOf T) (points xs ys)) ≡ sentTotal (pairsIn T) =
             gathered-length T size xs ys f order held (s .plain) (sym (coded-heard .offgridIs) ∙ on) ∙ sym (cs .widths) in
             length-read (pairsIn T) zeroState (gatherBits (classesOf T) (points xs ys)) g (formed-ok (pairsIn T) (cs .formed)) l d ∙ cs .taken

@@ -78,6 +78,13 @@ module _ (T : Tables) (coded : T .mode ≡ Coded) (ok : tableVerdict T .number �
       (drop-at (replicate (length (T .tones) - entryCount (T .bits) (T .tones)) 0) (entries (T .bits) (T .tones)) (length (T .tones) - entryCount (T .bits) (T .tones))
       (length-replicate (length (T .tones) - entryCount (T .bits) (T .tones)) 0)))
 
+  pub entries-most : length (entries (T .bits) (T .tones)) ≤ 4096
+  entries-most =
+      let a = facts .reorderedLength in
+      let b = ap length from-start in
+      let c = length-drop (leadingZeros (bitsIn T)) (bitsIn T) in
+      omega (arith, facts .tonesMost, facts .tableMost)
+
 -- ---- everything in order
 
 module _ (T : Tables) (f order ents : List ℕ) (xs ys : List ℤ) (labels : List ℕ) (s : SymbolReady T f order ents xs ys labels) where
@@ -150,13 +157,6 @@ module _ (T : Tables) (f order ents : List ℕ) (xs ys : List ℤ) (labels : Lis
         let z : leadingZeros ents ≡ length (T .tones) - entryCount (T .bits) (T .tones) = rw (s .entriesAre) (starts T coded (s .tables)) in
         omega arith
 
-    entries-most : length (entries (T .bits) (T .tones)) ≤ 4096
-    entries-most =
-        let a = ap length (s .entriesAre) ∙ known .reorderedLength in
-        let b = ap length part in
-        let c = length-drop (leadingZeros ents) ents in
-        omega (arith, known .tonesMost, known .tableMost)
-
     coded-ready : Ready (drop (leadingZeros ents) ents) f labels
     coded-ready =
         let n = frame-bytes in
@@ -166,10 +166,10 @@ module _ (T : Tables) (f order ents : List ℕ) (xs ys : List ℤ) (labels : Lis
         (record {
           wide = cs .entriesRange;
           few = cs .fewEntries;
-          many = entries-most;
+          many = entries-most T coded (s .tables);
           bits = omega arith;
           small = omega arith;
-          places = omega (arith, entries-most, s .labelsLength);
+          places = omega (arith, entries-most T coded (s .tables), s .labelsLength);
         })
 
     counts-fit : Fits (map load (classesBy (T .bits) (T .gains) order)) (drop (leadingZeros ents) ents)
