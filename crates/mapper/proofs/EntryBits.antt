@@ -1,26 +1,68 @@
 -- The labels of the entries of b', tone by tone: a tone takes half of an entry, all of it, or none, and what it takes is its bits.
 use mathlib.Core.Path.{_≡_, refl, sym, ap, _∙_}
 use mathlib.Core.Bool.{Bool}
-use mathlib.Core.List.{List, [], _∷_}
-use Prim.Native.Nat.{ℕ, zero, suc, _+_, _/_, _%_, _^_, _≤_, _<_}
+use mathlib.Core.List.{List, _∷_, _++_}
+use Prim.Native.Nat.{ℕ, _+_, _/_, _%_, _^_, _≤_, _<_}
 use native.Mathlib.Nat.{add-zero, zero-div, min-eq-right}
 use native.Mathlib.Omega.{arith}
 use lib.ListN.{length, take, drop, getD, length-drop, List·getD-eq-default}
 use lib.Seq.{drop-drop, getD-drop, take-at, drop-at}
+use Rattle.frame.proofs.Spelled.{spell-drop}
 use Rattle.frame.specs.Spelled.{spell, Within, Fits, none, empty, own, shared}
 use Rattle.g9932.proofs.Words.{length-bits}
 use Rattle.g9932.specs.Bits.{bits}
 use Rattle.g9932.specs.Sizes.{entry}
 use Rattle.mapper.specs.Mapping.{halves, labelLeft}
 
--- the bits left, `at` being in halves of an entry
-abbrev pub bitsLeft : List ℕ → List ℕ → ℕ → List Bool
-bitsLeft es ls at = drop (at % 2) (spell (drop (at / 2) es) (drop (at / 2) ls))
-
--- The bit counts left fit the entries left; where half of an entry is taken, a count of 1 before them does.
+-- The bit counts left fit the entries left, `at` being in halves of an entry; where half of an entry is taken, a count of 1 before
+-- them does.
 pub data FitsFrom (es bs : List ℕ) (at : ℕ) : Type 0 where
   whole : at % 2 ≡ 0 → Fits bs (drop (at / 2) es) → FitsFrom es bs at
   half : at % 2 ≡ 1 → Fits (1 ∷ bs) (drop (at / 2) es) → FitsFrom es bs at
+
+-- the entry at which a tone's label stands
+pub record Stands (es : List ℕ) (at n : ℕ) : Type 0 where
+  pub there : at / 2 < length es
+  pub entryIs : entry es (at / 2) ≡ n
+
+-- where a tone of n bits has its label, and the tones after it theirs
+pub data Placed (es bs : List ℕ) (at : ℕ) : ℕ → Type 0 where
+  nowhere : at % 2 ≡ 0 → FitsFrom es bs at → Placed es bs at 0
+  first : at % 2 ≡ 0 → Stands es at 2 → FitsFrom es bs (at + 1) → Placed es bs at 1
+  second : at % 2 ≡ 1 → Stands es at 2 → FitsFrom es bs (at + 1) → Placed es bs at 1
+  alone : {n : ℕ} → at % 2 ≡ 0 → 2 ≤ n → Stands es at n → FitsFrom es bs (at + 2) → Placed es bs at n
+
+module _ (es : List ℕ) (at : ℕ) where
+  stands : (n : ℕ) (t : List ℕ) → drop (at / 2) es ≡ n ∷ t → Stands es at n
+  stands n t q =
+      record {
+        there = let k : length (drop (at / 2) es) ≡ length (n ∷ t) = ap length q in omega (arith, length-drop (at / 2) es);
+        entryIs = sym (getD-drop (at / 2) es 0 0 ∙ ap (λ (k : ℕ). entry es k) (add-zero (at / 2))) ∙ ap (λ (l : List ℕ). getD l 0 0) q;
+      }
+
+  next-fits : (n k : ℕ) (t bs : List ℕ) → drop (at / 2) es ≡ n ∷ t → (at + k) % 2 ≡ 0 → (at + k) / 2 ≡ at / 2 + 1 → Fits bs t → FitsFrom es bs (at + k)
+  next-fits n k t bs q p e f = whole p (rw (e, ← (drop-drop 1 (at / 2) es), q) f)
+
+  of-whole : (n : ℕ) (bs e : List ℕ) → drop (at / 2) es ≡ e → at % 2 ≡ 0 → Fits (n ∷ bs) e → Placed es bs at n
+  of-whole n bs e q p (empty f) = nowhere p (whole p (rw q f))
+  of-whole n bs e q p (own {b = b} {es = t} h f) = alone p h (stands n t q) (next-fits n 2 t bs q (omega arith) (omega arith) f)
+  of-whole n bs e q p (shared {bs = cs} {es = t} f) =
+      let k : (at + 1) / 2 ≡ at / 2 = omega arith in
+      first p (stands 2 t q) (half (omega arith) (rw (k, q) (shared f)))
+
+  of-half : (n : ℕ) (bs e : List ℕ) → drop (at / 2) es ≡ e → at % 2 ≡ 1 → Fits (1 ∷ n ∷ bs) e → Placed es bs at n
+  of-half n bs e q p (own h f) = absurd (omega arith)
+  of-half n bs e q p (shared {es = t} f) = second p (stands 2 t q) (next-fits 2 1 t bs q (omega arith) (omega arith) f)
+
+  pub tone-placed : (n : ℕ) (bs : List ℕ) → FitsFrom es (n ∷ bs) at → Placed es bs at n
+  tone-placed n bs (whole p f) = of-whole n bs (drop (at / 2) es) refl p f
+  tone-placed n bs (half p f) = of-half n bs (drop (at / 2) es) refl p f
+
+-- ---- the labels taken
+
+-- the bits left
+abbrev pub bitsLeft : List ℕ → List ℕ → ℕ → List Bool
+bitsLeft es ls at = drop (at % 2) (spell (drop (at / 2) es) (drop (at / 2) ls))
 
 -- a tone of n bits, and the tones after it
 pub record Takes (es ls : List ℕ) (n : ℕ) (bs : List ℕ) (at : ℕ) : Type 0 where
@@ -33,111 +75,36 @@ pub record Takes (es ls : List ℕ) (n : ℕ) (bs : List ℕ) (at : ℕ) : Type 
 pub past-last : (ls : List ℕ) (at : ℕ) → length ls ≤ at / 2 → 0 ≡ labelLeft ls at
 past-last ls at h = rw (List·getD-eq-default ls 0 h) (sym (zero-div (2 ^ (at % 2))))
 
--- ---- the first entry of a list, and the first label
-
-none-first : {bs e : List ℕ} → Fits (0 ∷ bs) e → Fits bs e
-none-first (empty f) = f
-none-first (own h f) = absurd (omega arith)
-
-record Own (n : ℕ) (bs e l : List ℕ) : Type 0 where
-  small : getD l 0 0 < 2 ^ n
-  here : take n (spell e l) ≡ bits n (getD l 0 0)
-  after : drop n (spell e l) ≡ spell (drop 1 e) (drop 1 l)
-  fits : Fits bs (drop 1 e)
-
-own-first : (n : ℕ) (bs e l : List ℕ) → 2 ≤ n → length e ≤ length l → (0 < length e → getD l 0 0 < 2 ^ getD e 0 0) → Fits (n ∷ bs) e → Own n bs e l
-own-first n bs e [] h k w (own g f) = absurd (omega arith)
-own-first n bs e (x ∷ l) h k w (own {b = b} {es = es} g f) =
-    record {
-      small = w (omega arith);
-      here = take-at (bits n x) (spell es l) n (length-bits n x);
-      after = drop-at (bits n x) (spell es l) n (length-bits n x);
-      fits = f;
-    }
-own-first n bs e l h k w (empty f) = absurd (omega arith)
-own-first n bs e l h k w (shared f) = absurd (omega arith)
-
-one-first : (bs e l : List ℕ) → length e ≤ length l → Fits (1 ∷ bs) e → take 1 (spell e l) ≡ bits 1 (getD l 0 0)
-unfolding bits
-one-first bs e [] k (shared f) = absurd (omega arith)
-one-first bs e (x ∷ l) k (shared f) = refl
-one-first bs e l k (own g f) = absurd (omega arith)
-
-record Second (n : ℕ) (bs e l : List ℕ) : Type 0 where
-  isOne : n ≡ 1
-  here : take 1 (drop 1 (spell e l)) ≡ bits 1 (getD l 0 0 / 2)
-  after : drop 1 (drop 1 (spell e l)) ≡ spell (drop 1 e) (drop 1 l)
-  fits : Fits bs (drop 1 e)
-
-one-second : (n : ℕ) (bs e l : List ℕ) → length e ≤ length l → Fits (1 ∷ n ∷ bs) e → Second n bs e l
-unfolding bits
-one-second n bs e [] k (shared f) = absurd (omega arith)
-one-second n bs e (x ∷ l) k (shared f) = record { isOne = refl; here = refl; after = refl; fits = f }
-one-second n bs e l k (own g f) = absurd (omega arith)
-
--- ---- every tone
-
 module _ (es ls : List ℕ) (enough : length es ≤ length ls) (within : Within es ls (length es)) where
-  module _ (at : ℕ) where
-    abbrev e : List ℕ
-    e = drop (at / 2) es
+  here : (at n : ℕ) → Stands es at n
+      → spell (drop (at / 2) es) (drop (at / 2) ls) ≡ bits n (entry ls (at / 2)) ++ spell (drop (at / 2 + 1) es) (drop (at / 2 + 1) ls)
+  here at n s = rw (← (s .entryIs)) (spell-drop es ls (at / 2) (s .there) (omega (arith, s .there)))
 
-    abbrev l : List ℕ
-    l = drop (at / 2) ls
-
-    enough-left : length e ≤ length l
-    enough-left = simp length-drop (omega arith)
-
-    first-entry : (t : List ℕ) → getD (drop (at / 2) t) 0 0 ≡ entry t (at / 2)
-    first-entry t = getD-drop (at / 2) t 0 0 ∙ ap (λ (k : ℕ). entry t k) (add-zero (at / 2))
-
-    within-left : 0 < length e → getD l 0 0 < 2 ^ getD e 0 0
-    within-left h = let n = length-drop (at / 2) es in rw (first-entry ls, first-entry es) (within (at / 2) (omega arith))
-
-    label-whole : at % 2 ≡ 0 → labelLeft ls at ≡ getD l 0 0
-    label-whole p = rw (p, first-entry ls) (omega arith)
-
-    label-half : at % 2 ≡ 1 → labelLeft ls at ≡ getD l 0 0 / 2
-    label-half p = rw (p, first-entry ls)
-
-    next-entry : (n : ℕ) → (at + n) % 2 ≡ 0 → (at + n) / 2 ≡ at / 2 + 1 → bitsLeft es ls (at + n) ≡ spell (drop 1 e) (drop 1 l)
-    next-entry n p q = rw (p, q, drop-drop 1 (at / 2) es, drop-drop 1 (at / 2) ls)
-
-    next-fits : (bs : List ℕ) (n : ℕ) → (at + n) % 2 ≡ 0 → (at + n) / 2 ≡ at / 2 + 1 → Fits bs (drop 1 e) → FitsFrom es bs (at + n)
-    next-fits bs n p q f = whole p (rw (q, ← (drop-drop 1 (at / 2) es)) f)
+  takes : (n : ℕ) (bs : List ℕ) (at : ℕ) → Placed es bs at n → Takes es ls n bs at
+  unfolding bits
+  takes n bs at (nowhere p f) = record { small = λ h. absurd (omega arith); bitsAre = refl; leftAfter = rw (add-zero at); fits = rw (add-zero at) f }
+  takes n bs at (first p s f) =
+      let q : (at + 1) / 2 ≡ at / 2 = omega arith in
+      let r : (at + 1) % 2 ≡ 1 = omega arith in
+      let l : entry ls (at / 2) / 2 ^ 0 ≡ entry ls (at / 2) = omega arith in
+      record { small = λ h. absurd (omega arith); bitsAre = rw (p, l, here at 2 s); leftAfter = rw (q, r, p); fits = f }
+  takes n bs at (second p s f) =
+      let q : (at + 1) / 2 ≡ at / 2 + 1 = omega arith in
+      let r : (at + 1) % 2 ≡ 0 = omega arith in
+      record { small = λ h. absurd (omega arith); bitsAre = rw (p, here at 2 s); leftAfter = rw (q, r, p, here at 2 s); fits = f }
+  takes n bs at (alone p h s f) =
+      let two : halves n ≡ 2 = min-eq-right h in
+      let q : (at + 2) / 2 ≡ at / 2 + 1 = omega arith in
+      let r : (at + 2) % 2 ≡ 0 = omega arith in
+      let x : ℕ = entry ls (at / 2) in
+      let l : x / 2 ^ 0 ≡ x = omega arith in
+      let rest : List Bool = spell (drop (at / 2 + 1) es) (drop (at / 2 + 1) ls) in
+      record {
+        small = λ _. rw (p, l, ← (s .entryIs)) (within (at / 2) (s .there));
+        bitsAre = rw (p, l, here at n s) (take-at (bits n x) rest n (length-bits n x));
+        leftAfter = rw (two, q, r, p, here at n s) (sym (drop-at (bits n x) rest n (length-bits n x)));
+        fits = rw two f;
+      }
 
   pub tone-takes : (n : ℕ) (bs : List ℕ) (at : ℕ) → FitsFrom es (n ∷ bs) at → Takes es ls n bs at
-  unfolding bits
-  tone-takes zero bs at (whole p f) =
-      record {
-        small = λ h. absurd (omega arith);
-        bitsAre = refl;
-        leftAfter = rw (add-zero at);
-        fits = rw (add-zero at) (whole p (none-first f));
-      }
-  tone-takes (suc zero) bs at (whole p f) =
-      let q : (at + 1) / 2 ≡ at / 2 = omega arith in
-      let s : (at + 1) % 2 ≡ 1 = omega arith in
-      record {
-        small = λ h. absurd (omega arith);
-        bitsAre = rw (label-whole at p, p) (one-first bs (drop (at / 2) es) (drop (at / 2) ls) (enough-left at) f);
-        leftAfter = rw (q, s, p);
-        fits = half s (rw q f);
-      }
-  tone-takes (suc (suc n)) bs at (whole p f) =
-      let g = own-first (suc (suc n)) bs (drop (at / 2) es) (drop (at / 2) ls) (omega arith) (enough-left at) (within-left at) f in
-      let two : halves (suc (suc n)) ≡ 2 = min-eq-right (omega arith) in
-      record {
-        small = λ h. rw (label-whole at p) (g .small);
-        bitsAre = rw (label-whole at p, p) (g .here);
-        leftAfter = rw two (next-entry at 2 (omega arith) (omega arith) ∙ rw p (sym (g .after)));
-        fits = rw two (next-fits at bs 2 (omega arith) (omega arith) (g .fits));
-      }
-  tone-takes n bs at (half p f) =
-      let g = one-second n bs (drop (at / 2) es) (drop (at / 2) ls) (enough-left at) f in
-      rw (g .isOne) (record {
-        small = λ h. absurd (omega arith);
-        bitsAre = rw (label-half at p, p) (g .here);
-        leftAfter = next-entry at 1 (omega arith) (omega arith) ∙ rw p (sym (g .after));
-        fits = next-fits at bs 1 (omega arith) (omega arith) (g .fits);
-      })
+  tone-takes n bs at f = takes n bs at (tone-placed es at n bs f)

@@ -5,3 +5,4 @@ pub mod EntryBits
 pub mod LabelLoop
 pub mod ReadLoop
 pub mod Labelled
+pub mod CollectLoop

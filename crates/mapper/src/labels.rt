@@ -7,17 +7,21 @@ ghost use Rattle.frame.specs.Spelled.{spell};
 ghost use Rattle.g9932.specs.Bits.{bits as bitsOf};
 ghost use Rattle.g9932.specs.Symbol.{load};
 ghost use Rattle.mapper.specs.Mapping.{classesBy, Carries, Lays, LaysAll, MapsAll, halves, labelLeft, LabelsFit, LabelRoom};
+use super::Laid;
 use g9932::Class;
 use g9932::Place;
 use g9932::Tone;
-use super::Laid;
 
 // What is left of the label of the next entry, `at` being in halves of an entry; 0 past the last.
 fn label_left(source: &[u16], at: usize) -> u16
     ensures { λ r. ⌜ r ≡ labelLeft (now (source .entry)) at ⌝ }
 {
     let j = at / 2;
-    if j < source.len() { source[j] >> (at % 2) } else { 0 }
+    if j < source.len() {
+        source[j] >> (at % 2)
+    } else {
+        0
+    }
 }
 
 // Lays out a data tone: a tone of 1 bit takes the lowest bit left of an entry that two share, others the whole label.
