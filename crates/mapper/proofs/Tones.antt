@@ -1,4 +1,4 @@
--- The classes of the tones, place by place.
+-- The classes and the points of the tones, place by place.
 use mathlib.Core.Path.{_≡_, refl, sym, ap, _∙_}
 use mathlib.Core.Bool.{Bool, true, false}
 use mathlib.Core.List.{List, [], _∷_, map}
@@ -7,10 +7,11 @@ use native.Mathlib.Numerals.{add-one}
 use native.Mathlib.Omega.{arith}
 use borrow.Author.Tests.{ltb-true}
 use lib.Dec.{ltb}
+use lib.IntN.{ℤ, pos}
 use lib.ListN.{length, drop, getD, length-map}
 use lib.Seq.{drop-cons}
 use Rattle.g9932.proofs.Symbols.{loads}
-use Rattle.g9932.specs.Sizes.{entry, classOf, classBy, toneOf}
+use Rattle.g9932.specs.Sizes.{entry, classOf, classBy, toneOf, point, origin, points}
 use Rattle.g9932.specs.Symbol.{load}
 use Rattle.g9932.specs.declared.Class.{Class}
 use Rattle.g9932.specs.declared.Class.the-variants.{Data, Monitored, Silent}
@@ -65,3 +66,17 @@ pub load-most : (c : Class) → Carries c → load c ≤ 15
 load-most (Data n) h = h .1
 load-most Monitored h = omega arith
 load-most Silent h = omega arith
+
+-- the point at a place of two lists
+pub point-at : (xs ys : List ℤ) (i : ℕ) → i < length xs → i < length ys → getD (points xs ys) i origin ≡ point (getD xs i (pos 0)) (getD ys i (pos 0))
+unfolding points
+point-at [] ys i h k = absurd (omega arith)
+point-at (x ∷ xs) [] i h k = absurd (omega arith)
+point-at (x ∷ xs) (y ∷ ys) zero h k = refl
+point-at (x ∷ xs) (y ∷ ys) (suc i) h k = point-at xs ys i (omega arith) (omega arith)
+
+pub length-points : (xs ys : List ℤ) → length xs ≡ length ys → length (points xs ys) ≡ length xs
+unfolding points
+length-points [] ys h = refl
+length-points (x ∷ xs) [] h = absurd (omega arith)
+length-points (x ∷ xs) (y ∷ ys) h = ap suc (length-points xs ys (omega arith))

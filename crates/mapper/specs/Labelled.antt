@@ -7,9 +7,13 @@ use lib.IntN.{ℤ, pos}
 use lib.ListN.{length, getD}
 use Rattle.constellation.specs.Shapes.{shapeOf}
 use Rattle.constellation.specs.Labels.{silentShape, Shaped, SeenBy}
+use Rattle.g9932.specs.Bits.{first}
 use Rattle.g9932.specs.Sizes.{entry, Point, point, points}
+use Rattle.g9932.specs.Symbol.{offgridTest}
 use Rattle.g9932.specs.declared.Class.{Class}
 use Rattle.g9932.specs.declared.Class.the-variants.{Data, Monitored, Silent}
+use Rattle.g9932.specs.declared.Found.{Found}
+use Rattle.g9932.specs.declared.Found.the-variants.{Nothing}
 use Rattle.mapper.specs.Mapping.{classesBy}
 use Rattle.mapper.specs.Reading.{ReadsTone, ReadRoom, ReadsAll}
 use Rattle.mapper.specs.declared.read.ToneRead.{ToneRead}
@@ -27,7 +31,7 @@ abbrev pub Told : ℕ → Point → ℕ → Type 0
 Told shape p l = SeenBy shape p (record { on = true; label = l })
 
 abbrev pub TellsTone : Class → ℕ → ℕ → ToneRead → Type 0
-TellsTone c l r t = (p : Point) → Told (classShape c) p l → ReadsTone c r p t × (t .on ≡ true)
+TellsTone c l r t = (p : Point) → Told (classShape c) p l → ReadsTone c r p t
 
 -- ---- all tones
 
@@ -55,6 +59,11 @@ pub record SeesAll (kinds : List ℕ) (xs ys : List ℤ) (labels : List ℕ) (n 
 
 abbrev pub Labelled : List Class → List ℤ → List ℤ → List ℕ → Type 0
 Labelled cs xs ys labels = (i : ℕ) → i < length cs → Told (classShape (getD cs i Silent)) (pointAt xs ys i) (getD labels i 0)
+
+-- the first place that 13 refuses, and the labels of the points where there is none
+pub record SeesPoints (cs : List Class) (xs ys : List ℤ) (labels : List ℕ) (r : Found) : Type 0 where
+  pub offgridIs : r ≡ first (offgridTest cs (points xs ys)) (length cs)
+  pub labelled : r ≡ Nothing → Labelled cs xs ys labels
 
 -- there are points with these labels
 abbrev pub GatherRoom : List ℕ → List ℕ → List ℕ → List ℕ → List ℕ → Type 0

@@ -1,3 +1,4 @@
 pub mod Mapping
 pub mod Reading
 pub mod Labelled
+pub mod Collecting

@@ -1,4 +1,5 @@
-// The loops over the tones in t' order: sent bits or the labels of the entries to points, and points back to sent bits.
+// The loops over the tones in t' order: sent bits or the labels of the entries to points, and points back to either.
+pub mod collect;
 pub mod labels;
 pub mod read;
 

@@ -1,16 +1,15 @@
--- `mapper::read::gather` meets its contract. The invariant is that of `read_each`, for all points that have these labels. The measure is the
--- tones left.
-use Rattle.mapper.proofs.ReadLoop.{Listening, listening-start, listening-end, put-room, tone-on}
-use Rattle.mapper.proofs.Labelled.{told-at}
+-- `mapper::read::gather` meets its contract. The invariant, for all points that have these labels: `monitor` is the first place before
+-- i that 14 refuses, and the bits put, with those of the tones left, are all sent bits. The measure is the tones left.
+use Rattle.mapper.proofs.ReadLoop.{read-at, Listening, listening-start, listening-end, put-room, listening-step, points-room}
 use Rattle.mapper.proofs.Tones.{length-classes, tone-carries}
-use Rattle.mapper.specs.Labelled.{pointAt, Labelled}
+use Rattle.mapper.specs.Labelled.{Labelled}
 use Rattle.mapper.specs.Reading.{ReadRoom}
 use Rattle.mapper.specs.Mapping.{classesBy}
 use Rattle.g9932.specs.Sizes.{points}
 use lib.ListN.{length}
 use lib.IntN.{ℤ}
 use mathlib.Core.List.{List}
-use Prim.Native.Nat.{_-_}
+use Prim.Native.Nat.{_-_, _<_}
 use native.Mathlib.Omega.{arith}
 use borrow.Author.Needs.{needs}
 use Rattle.mapper.proofs.read.gather.Statement.{statement}
@@ -53,10 +52,9 @@ put-requires c κs =
     let l = c .before .before .before .before .before .loop in
     let t = c .before .before .before .tone-of-place in
     let u = c .before .tell-tone in
-    let told = told-at (a .bits .now) (a .gains .now) (a .order .now) (a .labels .now) (p .0) (p .1) (p .3) (l .i) (omega arith) (t .result) (t .ensures) in
-    let reads = u .ensures (pointAt (p .0) (p .1) (l .i)) told in
-    put-room (a .bits .now) (a .gains .now) (a .order .now) (p .0) (p .1) (a .sent .now) (p .2) (a .register) (l .sent) (l .monitor) (l .next) (l .writer) (l .i)
-    (l .inv (p .0) (p .1) (p .2) (p .3)) (t .result) (omega arith) (t .ensures) (u .result) (reads .0) (reads .1)
+    let n = length-classes (a .bits .now) (a .gains .now) (a .order .now) in
+    let reads = read-at (a .bits .now) (a .gains .now) (a .order .now) (a .labels .now) (p .0) (p .1) (points-room (p .2)) (p .3) (l .i) (omega arith) (t .result) (t .ensures) (l .next) (u .result) (u .ensures) in
+    put-room (l .inv (p .0) (p .1) (p .2) (p .3)) (u .result) reads (omega (arith, p .2 .orderMost)) (p .2 .sentLength)
 
 or-here-requires : tie.Need-or-here-requires Inv-loop μ-loop
 or-here-requires c κs = search needs
@@ -73,12 +71,11 @@ loop-again c =
     let l = c .before .before .before .before .before .before .before .before .before .loop in
     let t = c .before .before .before .before .before .before .before .tone-of-place in
     let u = c .before .before .before .before .before .tell-tone in
+    let w = c .before .before .before .put in
+    let h : l .i < length (a .order .now) = omega (arith, c .before .before .before .before .before .before .before .before .loop-test .taken) in
     λ xs ys room are.
-    let told = told-at (a .bits .now) (a .gains .now) (a .order .now) (a .labels .now) xs ys are (l .i) (omega arith) (t .result) (t .ensures) in
-    let reads = u .ensures (pointAt xs ys (l .i)) told in
-    rw (c .or-here .ensures)
-    (tone-on (a .bits .now) (a .gains .now) (a .order .now) xs ys (a .sent .now) room (a .register) (l .sent) (l .monitor) (l .next) (l .writer) (l .i)
-    (l .inv xs ys room are) (t .result) (omega arith) (t .ensures) (u .result) (reads .0) (c .before .before .before .put .result) (c .before .before .before .put .last .1 .0) (reads .1) (c .before .before .before .put .kept .1 .0) (c .before .before .before .put .ensures))
+    let reads = read-at (a .bits .now) (a .gains .now) (a .order .now) (a .labels .now) xs ys (points-room room) are (l .i) h (t .result) (t .ensures) (l .next) (u .result) (u .ensures) in
+    rw (c .or-here .ensures) (listening-step (l .inv xs ys room are) (u .result) reads (w .result) (w .last .1 .0) (w .kept .1 .0) (w .ensures))
 
 same-length : tie.Need-same-length Inv-loop μ-loop
 same-length c =

@@ -1,62 +1,55 @@
--- `mapper::read::read_tones` meets its contract: the labels are gathered where every point has one, and else the tones are read one by one.
-use Rattle.mapper.proofs.Labelled.{all-shaped, labelled}
-use Rattle.mapper.specs.Mapping.{classesBy}
-use Rattle.mapper.specs.Labelled.{Labelled}
 use mathlib.Core.Path.{refl, sym, _∙_}
-use native.Mathlib.Omega.{arith}
+use Rattle.g9932.specs.Sizes.{points}
+use Rattle.mapper.specs.Mapping.{classesBy}
+use Rattle.mapper.proofs.ReadLoop.{listening-off, points-room}
 use borrow.Author.Needs.{needs}
 use Rattle.mapper.proofs.read.read_tones.Statement.{statement}
 use Rattle.mapper.proofs.read.read_tones.Tie as tie
 
--- every point has a label, and these are the labels
-told : (c : tie.Then1) → Labelled (classesBy (c .before .before .before .before .before .before .before .before .before .before .args .bits .now) (c .before .before .before .before .before .before .before .before .before .before .args .gains .now) (c .before .before .before .before .before .before .before .before .before .before .args .order .now)) (c .before .before .before .before .before .before .before .before .before .before .args .xs .now) (c .before .before .before .before .before .before .before .before .before .before .args .ys .now) (c .before .see-all .last .1 .1 .1 .0)
-told c =
-    let a = c .before .before .before .before .before .before .before .before .before .before .args in
-    labelled (a .bits .now) (a .gains .now) (a .order .now) (c .before .before .before .before .shape-all .last .1 .1 .1 .0) (c .before .see-all .last .1 .1 .1 .0) (a .xs .now) (a .ys .now)
-    (c .before .before .before .before .before .before .before .before .before .before .pre .xsLength) (c .before .before .before .before .shape-all .ensures) (rw (c .if1 .taken) at (c .before .see-all .ensures))
+see-points-requires : tie.Need-see-points-requires
+see-points-requires c κs = (points-room (c .before .before .before .before .before .pre), refl)
 
-shape-all-requires : tie.Need-shape-all-requires
-shape-all-requires c κs = search needs
+enum-known-offgrid : tie.Need-enum-known-offgrid
+enum-known-offgrid c = search needs
 
-see-all-requires : tie.Need-see-all-requires
-see-all-requires c κs =
-    let a = c .before .before .before .before .before .before .before .before .args in
-    let p = c .before .before .before .before .before .before .before .before .pre in
-    let s = c .before .before .shape-all in
-    record {
-      xsMost = omega (arith, p .xsLength, p .orderMost);
-      ysLength = p .ysLength ∙ sym (p .xsLength);
-      labelsLength = refl;
-      shaped = λ i h. all-shaped (a .bits .now) (a .gains .now) (a .order .now) (s .last .1 .1 .1 .0) (p .bitsMost) (s .ensures) i (omega (arith, p .xsLength));
-    }
+new-requires : tie.Need-new-requires
+new-requires c κs = search needs
+
+enum-told : tie.Need-enum-told
+enum-told c = search needs
 
 gather-requires : tie.Need-gather-requires
-gather-requires c κs = (_, _, c .before .before .before .before .before .before .before .before .before .before .before .before .pre, told (c .before .before))
+gather-requires c κs =
+    let s = c .before .before .before .before .before .before .before .before .before .before in
+    let e = c .before .before .before .before .see-points in
+    (s .args .xs .now, s .args .ys .now, s .pre, e .ensures .labelled (c .before .before .enum-told .given .1))
+
+returns : tie.Need-returns
+returns c =
+    let s = c .before .before .before .before .before .before .before .before .before .before in
+    let a = s .args in
+    let e = c .before .before .before .before .see-points in
+    rw (c .new .ensures) (listening-off (classesBy (a .bits .now) (a .gains .now) (a .order .now)) (a .register) (points (a .xs .now) (a .ys .now)) (c .before .before .offgrid .given .0 .0) (a .sent .now)
+    (sym (c .before .before .offgrid .given .1) ∙ e .ensures .offgridIs))
 
 same-length : tie.Need-same-length
 same-length c = search needs
 
-returns : tie.Need-returns
-returns c = c .before .before .gather .ensures (c .before .before .before .before .before .before .before .before .before .before .before .before .before .before .before .args .xs .now) (c .before .before .before .before .before .before .before .before .before .before .before .before .before .before .before .args .ys .now) (c .before .before .before .before .before .before .before .before .before .before .before .before .before .before .before .pre) (told (c .before .before .before .before .before))
-
-read-each-requires : tie.Need-read-each-requires
-read-each-requires c κs = search needs
-
-same-length-2 : tie.Need-same-length-2
-same-length-2 c = search needs
-
 returns-2 : tie.Need-returns-2
-returns-2 c = search needs
+returns-2 c =
+    let s = c .before .before .before .before .before .before .before .before .before .before .before .before .before in
+    let e = c .before .before .before .before .before .before .before .see-points in
+    c .before .before .gather .ensures (s .args .xs .now) (s .args .ys .now) (s .pre) (e .ensures .labelled (c .before .before .before .before .before .enum-told .given .1))
 
 pub read-tones-spec : {M : Type 1} → statement M
 read-tones-spec =
     tie.close
     (tie.spec
-    shape-all-requires
-    see-all-requires
+    see-points-requires
+    enum-known-offgrid
+    new-requires
+    enum-told
     gather-requires
-    same-length
     returns
-    read-each-requires
-    same-length-2
+    same-length
     returns-2)

@@ -1,0 +1,51 @@
+use mathlib.Core.Path.{refl, sym, _∙_}
+use Rattle.g9932.specs.Sizes.{points}
+use Rattle.mapper.specs.Mapping.{classesBy}
+use Rattle.mapper.proofs.CollectLoop.{collecting-off, points-room}
+use borrow.Author.Needs.{needs}
+use Rattle.mapper.proofs.collect.read_labels.Statement.{statement}
+use Rattle.mapper.proofs.collect.read_labels.Tie as tie
+
+see-points-requires : tie.Need-see-points-requires
+see-points-requires c κs = (points-room (c .before .before .before .before .before .before .pre), refl)
+
+enum-known-offgrid : tie.Need-enum-known-offgrid
+enum-known-offgrid c = search needs
+
+enum-told : tie.Need-enum-told
+enum-told c = search needs
+
+collect-requires : tie.Need-collect-requires
+collect-requires c κs =
+    let s = c .before .before .before .before .before .before .before .before .before .before .before in
+    let e = c .before .before .before .before .see-points in
+    (s .args .xs .now, s .args .ys .now, s .pre, e .ensures .labelled (c .before .before .enum-told .given .1))
+
+returns : tie.Need-returns
+returns c =
+    let s = c .before .before .before .before .before .before .before .before .before .before in
+    let a = s .args in
+    let e = c .before .before .before .see-points in
+    collecting-off (classesBy (a .bits .now) (a .gains .now) (a .order .now)) (a .register) (points (a .xs .now) (a .ys .now)) (a .entries .now) (a .labels .now) (c .before .offgrid .given .0 .0)
+    (sym (c .before .offgrid .given .1) ∙ e .ensures .offgridIs)
+
+same-length : tie.Need-same-length
+same-length c = search needs
+
+returns-2 : tie.Need-returns-2
+returns-2 c =
+    let s = c .before .before .before .before .before .before .before .before .before .before .before .before .before .before in
+    let e = c .before .before .before .before .before .before .before .see-points in
+    c .before .before .collect .ensures (s .args .xs .now) (s .args .ys .now) (s .pre) (e .ensures .labelled (c .before .before .before .before .before .enum-told .given .1))
+
+pub read-labels-spec : {M : Type 1} → statement M
+read-labels-spec =
+    tie.close
+    (tie.spec
+    see-points-requires
+    enum-known-offgrid
+    enum-told
+    collect-requires
+    returns
+    same-length
+    returns-2)
