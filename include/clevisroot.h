@@ -4,7 +4,7 @@
  * It checks bit, gain and tone tables, re-orders them, turns a frame of bits into one integer
  * point per tone, and turns points back into the frame: with trellis coding or without.
  *
- * Link with libclevisroot.a. The library uses some 33 KiB of stack at most, no heap and no global
+ * Link with libclevisroot.a. The library uses some 56 KiB of stack at most, no heap and no global
  * state; it is re-entrant. It keeps no pointer after a call. A pointer must not be null, even if
  * its length is 0, and an output must not overlap any other argument. All lengths count entries.
  *
@@ -29,7 +29,7 @@
  *
  * The points of a symbol are two lists, x and y, of NSC entries each. They are in the order of the
  * re-ordered tone table t', which clevisroot_reorder writes: x[p] and y[p] belong to tone t'[p].
- * Uncoded, t' is t. Coded, the 1-bit tones go to the end and all else keeps its order.
+ * Uncoded, t' is t. Coded, the 1-bit tones go to the end; they and all others keep their order in t.
  *
  * THE REGISTER
  *
@@ -40,10 +40,10 @@
  * ANSWERS AND REFUSALS
  *
  * Every answer has a number: 0 if the call is done, else the number below. If several refusals
- * apply, the smallest number is given. So in reading all places pass 13 before any is tested for
- * 14, and all 14 before any pair is tested for 15. A refused call writes nothing to any buffer,
- * has size 0 and hands the register back as it was given. A call that is done writes the whole of
- * each lent buffer.
+ * apply, the smallest number is given (clevisroot_read_point alone tests 16 before 13). So in
+ * reading all places pass 13 before any is tested for 14, and all 14 before any pair is tested for
+ * 15. A refused call writes nothing to any buffer, has size 0 and hands the register back as it was
+ * given. A call that is done writes the whole of each output.
  *
  *   no.  given exactly when                                              place
  *   1    G is not 1 to 4096, gains_len is not G, NSC is 0 or above G     0
@@ -60,19 +60,20 @@
  *   12   the register is 0 or above 8388607                              0
  *   13   a point is not one that its tone can have                       first place in t'
  *   14   a monitored tone's point is not the one its filler bits give    first place in t'
- *   15   a pair of tones breaks the trellis code                         number of the first pair
+ *   15   a pair of entries breaks the trellis code                       number of the first pair
  *   16   one-tone calls: bits not 1 to 15, or label not below 2^bits     0
  *
  * Places, sub-carriers and pairs count from 0. For 13 a monitored tone can have the points of 2
  * bits, a silent one (0, 0) only. Pairs are cut from the non-zero entries of b' in order; if their
- * count is odd, the first entry makes pair 0 on its own.
+ * count is odd, the first entry makes pair 0 on its own. A pair breaks the trellis code if no frame
+ * gives its two labels in the state that the pairs before it leave.
  *
  * HALF A TURN
  *
- * If the clips are the wrong way round, every point (X, Y) arrives as (-X, -Y). Coded, reading
- * refuses such a symbol with 14 if any tone is monitored, and with 15 if none is and the count of
- * non-zero entries in b' is odd. If none is monitored and the count is even, the turned symbol is
- * read as another frame, and nothing tells. Uncoded, only a monitored tone tells.
+ * If the two wires of the pair are exchanged (the clips are the wrong way round), every point
+ * (X, Y) arrives as (-X, -Y). Coded, reading refuses such a symbol with 14 if any tone is monitored,
+ * and with 15 if none is and the count of non-zero entries in b' is odd. If none is monitored and the
+ * count is even, the turned symbol is read as another frame, and nothing tells.
  */
 #ifndef CLEVISROOT_H
 #define CLEVISROOT_H
@@ -138,8 +139,9 @@ clevisroot_answer clevisroot_check(
 
 /*
  * Writes the re-ordered tables: t' to tones_out and b' to bits_out, NSC entries each.
- * Uncoded, b' has the bits in t order. Coded, it has zeros first, then the counts of at least 2 in
- * t' order, then a 2 for each two neighbouring 1-bit tones.
+ * Uncoded, b' has the bits in t order. Coded, it has zeros first, as many as NSC is above the number
+ * of the others, then the counts of at least 2 in t' order, then a 2 for each two 1-bit tones that
+ * follow each other in t'.
  * Refusals 1 to 9, then 10 if an output has not NSC entries.
  */
 clevisroot_answer clevisroot_reorder(

@@ -99,20 +99,20 @@ fn read_coded(
     requires { ⌜ CodedReady (tables Coded (now bits) (now gains) (now tones)) size (now xs) (now ys) (now frame) (now order) (now entries) (now labels) (now held) ⌝ }
     ensures { λ r. ⌜ ReadsPoints (tables Coded (now (bits .entry)) (now (gains .entry)) (now (tones .entry))) (points (now (xs .entry)) (now (ys .entry))) register (now (frame .entry)) r (now (frame .exit)) ⌝ }
 {
-    let t =
+    let heard =
         mapper::collect::read_labels(bits, gains, order, entries, xs, ys, register, labels);
-    let offgrid = t.offgrid;
-    let monitor = t.monitor;
-    let after = t.register;
-    if let Found::At(k) = offgrid {
+    let offgrid = heard.offgrid;
+    let monitor = heard.monitor;
+    let drawn = heard.register;
+    if let Found::At(place) = offgrid {
         return Answer::Refused {
-            refusal: Refusal::Offgrid(Place(k)),
+            refusal: Refusal::Offgrid(Place(place)),
             register,
         };
     }
-    if let Found::At(k) = monitor {
+    if let Found::At(place) = monitor {
         return Answer::Refused {
-            refusal: Refusal::Monitor(Place(k)),
+            refusal: Refusal::Monitor(Place(place)),
             register,
         };
     }
@@ -126,7 +126,7 @@ fn read_coded(
     frame::copy(held, frame);
     Answer::Done {
         size,
-        register: after,
+        register: drawn,
     }
 }
 
