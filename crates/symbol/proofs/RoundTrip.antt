@@ -1,12 +1,13 @@
--- What a user sees of an operation that encodes and one that reads, by their promises alone.
+-- What a user sees of an operation that encodes and one that reads, by their promises alone. The theorems are marked `pub`:
+-- `encode-done`, `read-exactly`, `read-back`, `turned-read` with `turned-monitored` and `turned-odd`, and `same-lists`.
 use Prim.Native.Nat.{ℕ, _%_, _<_}
 use mathlib.Core.Bool.{false, cond, true≢false}
 use mathlib.Core.List.{List, map}
 use mathlib.Core.Logic.{_↔_, _≢_}
 use mathlib.Core.Path.{_≡_, refl, sym, ap, ap₂, _∙_, subst}
 use lib.Dec.{eqb}
-use lib.IntN.{ℤ, negℤ}
-use lib.ListN.{length, getD, length-map}
+use lib.IntN.{ℤ}
+use lib.ListN.{length, getD}
 use Rattle.g9932.specs.Sizes.{Tables, bytesFor}
 use Rattle.g9932.specs.Refusals.{refused, tableVerdict}
 use Rattle.g9932.specs.Filler.{registerAfter}
@@ -20,8 +21,8 @@ use Rattle.g9932.specs.declared.Refusal.{Refusal}
 use Rattle.g9932.proofs.Packed.{frame-length}
 use Rattle.g9932.proofs.Verdicts.{number-some, test-none, and-none}
 use Rattle.guarantees.specs.Words.{AcceptedFrame, RightLength, Ready, firstMonitored, nonZero, turned}
-use Rattle.guarantees.proofs.RoundTrip.{encoded-right}
 use Rattle.guarantees.proofs.Guarantees as Guarantees
+use Rattle.guarantees.proofs.HalfTurn as HalfTurn
 use Rattle.symbol.proofs.Answers.{no-room}
 use Rattle.symbol.specs.Encoding.{encodeLate}
 
@@ -30,17 +31,21 @@ same-done : (a : Answer) (l s : ℕ) → reportOf a ≡ reportOf (Done l s) → 
 same-done (Done k n) l s e = ap₂ Done (ap (λ (p : Report). p .verdict .size) e) (ap (λ (p : Report). p .register) e)
 same-done (NotDone x n) l s e = absurd (true≢false (sym (ap (λ (p : Report). eqb (p .verdict .number) 0) e) ∙ number-some x))
 
--- ---- points that are read
+-- ---- everything in order
 
--- With accepted tables, a valid register and lent buffers xs, ys and f₀ of exact lengths, some operation reads X and Y: it answers
--- a and leaves g in f₀.
+-- With accepted tables, a valid register and lent buffers xs, ys and f₀ of exact lengths:
 module _ (T : Tables) (r : ℕ) (xs ys : List ℤ) (f₀ : List ℕ) (ready : Ready T r xs ys f₀) (X Y : List ℤ) where
-  -- by the definitions
+  -- An accepted frame is encoded: the answer is DONE with L and the register after the draws.
+  pub encode-done : (f : List ℕ) (a : Answer) → AcceptedFrame T f → Encodes T f r xs ys a X Y
+      → a ≡ Done (sizeOf T) (registerAfter r (classesOf T))
+  encode-done f a ok e = same-done a _ _ (e .answer ∙ ap (λ (x : Encoded). x .report) (Guarantees.encoded T r xs ys f₀ ready f ok))
+
   as-answered : (f : List ℕ) → AcceptedFrame T f → encodeOf T f r xs ys .xs ≡ X → encodeOf T f r xs ys .ys ≡ Y
       → readOf T X Y r f₀ ≡ record { report = encodeOf T f r xs ys .report; frame = f }
   as-answered f ok x y =
       ap₂ (λ (A B : List ℤ). readOf T A B r f₀) (sym x) (sym y) ∙ Guarantees.answered T r xs ys f₀ ready f ok
 
+  -- Some operation reads X and Y; it answers a and leaves g in the buffer.
   module _ (a : Answer) (g : List ℕ) (h : Reads T X Y r f₀ a g) where
     only : RightLength T X Y → reportOf a .verdict .number ≡ 0 → AcceptedFrame T g × Encodes T g r xs ys a X Y
     only right z =
@@ -55,13 +60,12 @@ module _ (T : Tables) (r : ℕ) (xs ys : List ℤ) (f₀ : List ℕ) (ready : Re
         → (a ≡ Done (sizeOf T) (registerAfter r (classesOf T))) × (g ≡ f)
     if f b ok e =
         let is = as-answered f ok (sym (e .xsHold)) (sym (e .ysHold)) in (
-          same-done a _ _
-              (h .answer ∙ ap (λ (x : Read). x .report) is ∙ ap (λ (x : Encoded). x .report) (Guarantees.encoded T r xs ys f₀ ready f ok)),
+          encode-done f a ok (record { answer = h .answer ∙ ap (λ (x : Read). x .report) is; xsHold = e .xsHold; ysHold = e .ysHold }),
           h .frameHolds ∙ ap (λ (x : Read). x .frame) is,
         )
 
-    -- Where X and Y have the right length: DONE leaves an accepted frame, and one that is encoded as X and Y; and an accepted frame
-    -- that is encoded as X and Y has DONE answered, with L, the register after the draws and that frame.
+    -- Points of the right length are read exactly when some accepted frame gives them: if the answer is DONE, g is such a frame;
+    -- and if f is such a frame, the answer is DONE with L and the register after the draws, and g is f.
     pub read-exactly : RightLength T X Y
         → ((l s : ℕ) → a ≡ Done l s → AcceptedFrame T g × Encodes T g r xs ys a X Y)
         × ((f : List ℕ) (b : Answer) → AcceptedFrame T f → Encodes T f r xs ys b X Y
@@ -73,7 +77,8 @@ module _ (T : Tables) (r : ℕ) (xs ys : List ℤ) (f₀ : List ℕ) (ready : Re
 -- Some operation encoded the bytes f with register r, answered L and a register s, and left X and Y in its lists.
 module _ (T : Tables) (f : List ℕ) (r : ℕ) (xs ys : List ℤ) (l s : ℕ) (X Y : List ℤ)
     (bytes : (k : ℕ) → k < length f → getD f k 0 < 256) (e : Encodes T f r xs ys (Done l s) X Y) where
-  -- nothing was refused, so tables, register, lists and frame are as the guarantees suppose, and L is that of the tables
+  -- nothing was refused, so tables, register, lists and frame are as the guarantees suppose, L is that of the tables, and s is the
+  -- register after the draws
   none : (tableVerdict T .number ≡ 0) × (encodeLate (sizeOf T) (length (T .tones)) (length xs) (length ys) f r .number ≡ 0)
   unfolding encodeVerdict encodeLate reportBy
   none = and-none (tableVerdict T) _ (ap (λ (p : Report). p .verdict .number) (sym (e .answer)))
@@ -98,7 +103,7 @@ module _ (T : Tables) (f : List ℕ) (r : ℕ) (xs ys : List ℤ) (l s : ℕ) (X
   own = sized f (frame-length (sizeOf T) f (ok .passes))
 
   told : Done l s ≡ Done (sizeOf T) (registerAfter r (classesOf T))
-  told = same-done (Done l s) _ _ (e .answer ∙ ap (λ (x : Encoded). x .report) (Guarantees.encoded T r xs ys f own f ok))
+  told = encode-done T r xs ys f own X Y f (Done l s) ok e
 
   lists : (X ≡ map (λ p. p .px) (writtenPoints T r f)) × (Y ≡ map (λ p. p .py) (writtenPoints T r f))
   lists =
@@ -119,62 +124,45 @@ module _ (T : Tables) (f : List ℕ) (r : ℕ) (xs ys : List ℤ) (l s : ℕ) (X
 
     -- Coded, of the lists turned by half a turn:
     module _ (coded : T .mode ≡ Coded) (h : Reads T (turned X) (turned Y) r f₀ a g) where
+      here : Reads T (turned (encodeOf T f r xs ys .xs)) (turned (encodeOf T f r xs ys .ys)) r f₀ a g
+      here = rw (e .xsHold, e .ysHold) at h
+
       abbrev read : Read
       read = readOf T (turned (encodeOf T f r xs ys .xs)) (turned (encodeOf T f r xs ys .ys)) r f₀
 
-      turned-lists : readOf T (turned X) (turned Y) r f₀ ≡ read
-      turned-lists = ap₂ (λ (A B : List ℤ). readOf T (turned A) (turned B) r f₀) (e .xsHold) (e .ysHold)
+      number-is : reportOf a .verdict .number ≡ read .report .verdict .number
+      number-is = ap (λ (p : Report). p .verdict .number) (here .answer)
 
-      reported : reportOf a ≡ read .report
-      reported = h .answer ∙ ap (λ (x : Read). x .report) turned-lists
-
-      holds : g ≡ read .frame
-      holds = h .frameHolds ∙ ap (λ (x : Read). x .frame) turned-lists
-
-      right : RightLength T (turned X) (turned Y)
-      right =
-          let p = encoded-right T r xs ys f₀ ready f ok in
-          record {
-            xsLength = length-map X negℤ ∙ ap length (e .xsHold) ∙ p .xsLength;
-            ysLength = length-map Y negℤ ∙ ap length (e .ysHold) ∙ p .ysLength;
-          }
-
-      another : (firstMonitored T ≡ Nothing) × (nonZero T % 2 ≡ 0) → (a ≡ Done l s) × AcceptedFrame T g × (g ≢ f)
-      another even =
-          let w = Guarantees.half-turn T r xs ys f₀ ready coded f ok .1 even in
-          let q = only T r xs ys f₀ ready (turned X) (turned Y) a g h right (ap (λ (p : Report). p .verdict .number) reported ∙ w .0) in (
-            if T r xs ys f₀ ready (turned X) (turned Y) a g h g a (q .0) (q .1) .0 ∙ sym told,
-            q .0,
-            λ same. w .2 (sym holds ∙ same),
+      even : (a ≡ Done l s) × AcceptedFrame T g × (g ≢ f) → (firstMonitored T ≡ Nothing) × (nonZero T % 2 ≡ 0)
+      even w =
+          Guarantees.half-turn T r xs ys f₀ ready coded f ok .0 (
+            sym number-is ∙ ap (λ (x : Answer). reportOf x .verdict .number) (w .0),
+            subst (λ (z : List ℕ). AcceptedFrame T z) (here .frameHolds) (w .1),
+            λ same. w .2 (here .frameHolds ∙ same),
           )
 
-      kept : read .report .verdict .number ≢ 0 → (x : Refusal) × (a ≡ NotDone x r) × (g ≡ f₀)
-      kept some = go a reported
-        where
-          go : (b : Answer) → reportOf b ≡ read .report → (x : Refusal) × (b ≡ NotDone x r) × (g ≡ f₀)
-          go (Done k n) is = absurd (some (ap (λ (p : Report). p .verdict .number) (sym is)))
-          go (NotDone x n) is =
-              let k = Guarantees.refused-kept T _ _ r f₀ some in
-              (x, ap (NotDone x) (ap (λ (p : Report). p .register) is ∙ k .0), holds ∙ k .1)
+      another : (firstMonitored T ≡ Nothing) × (nonZero T % 2 ≡ 0) → (a ≡ Done l s) × AcceptedFrame T g × (g ≢ f)
+      another n =
+          let w = Guarantees.half-turn T r xs ys f₀ ready coded f ok .1 n in
+          let q = only T r xs ys f₀ ready _ _ a g here (HalfTurn.right T r xs ys f₀ ready coded f ok) (number-is ∙ w .0) in
+          (if T r xs ys f₀ ready _ _ a g here g a (q .0) (q .1) .0 ∙ sym told, q .0, λ same. w .2 (sym (here .frameHolds) ∙ same))
+
+      kept : (b : Answer) → reportOf b ≡ read .report → read .report .verdict .number ≢ 0 → (x : Refusal) × (b ≡ NotDone x r) × (g ≡ f₀)
+      kept (Done k n) is some = absurd (some (ap (λ (p : Report). p .verdict .number) (sym is)))
+      kept (NotDone x n) is some =
+          let k = Guarantees.refused-kept T _ _ r f₀ some in
+          (x, ap (NotDone x) (ap (λ (p : Report). p .register) is ∙ k .0), here .frameHolds ∙ k .1)
 
       -- it is read, as another frame, exactly when no tone is monitored and the count of non-zero re-ordered entries is even;
       -- otherwise it is refused, with the register and the buffer as they came:
       pub turned-read : (((a ≡ Done l s) × AcceptedFrame T g × (g ≢ f)) ↔ ((firstMonitored T ≡ Nothing) × (nonZero T % 2 ≡ 0)))
           × (((firstMonitored T ≡ Nothing) × (nonZero T % 2 ≡ 0) → ⊥) → (x : Refusal) × (a ≡ NotDone x r) × (g ≡ f₀))
-      turned-read = ((even, another), λ other. kept (Guarantees.half-turn-refused T r xs ys f₀ ready coded f ok other))
-        where
-          even : (a ≡ Done l s) × AcceptedFrame T g × (g ≢ f) → (firstMonitored T ≡ Nothing) × (nonZero T % 2 ≡ 0)
-          even w =
-              Guarantees.half-turn T r xs ys f₀ ready coded f ok .0 (
-                ap (λ (p : Report). p .verdict .number) (sym reported ∙ ap reportOf (w .0)),
-                subst (λ (z : List ℕ). AcceptedFrame T z) holds (w .1),
-                λ same. w .2 (holds ∙ same),
-              )
+      turned-read = ((even, another), λ other. kept a (here .answer) (Guarantees.half-turn-refused T r xs ys f₀ ready coded f ok other))
 
       as-refused : (n k : ℕ) → eqb n 0 ≡ false → read .report .verdict ≡ refused n k
           → (reportOf a ≡ record { verdict = refused n k; register = r }) × (g ≡ f₀)
       unfolding reportBy onDone
-      as-refused n k some v = (reported ∙ rw (v, some), holds ∙ rw (v, some))
+      as-refused n k some v = (here .answer ∙ rw (v, some), here .frameHolds ∙ rw (v, some))
 
       -- with MONITOR at the first monitored tone,
       pub turned-monitored : (k : ℕ) → firstMonitored T ≡ At k
@@ -187,8 +175,8 @@ module _ (T : Tables) (f : List ℕ) (r : ℕ) (xs ys : List ℤ) (l s : ℕ) (X
       turned-odd m n =
           as-refused 15 (cond (eqb (length (pairsIn T)) 3) 1 2) refl (Guarantees.half-turn-odd T r xs ys f₀ ready coded f ok m n)
 
--- Two frames encoded with the same tables and register, whatever the lists held before, gave the same X and Y exactly when they are
--- the same frame.
+-- Two accepted frames encoded with the same tables and register, in any lent lists, give the same X and Y exactly when they are the
+-- same frame.
 pub same-lists : (T : Tables) (r : ℕ) (f f′ : List ℕ) (xs ys xs′ ys′ : List ℤ) (l s l′ s′ : ℕ) (X Y X′ Y′ : List ℤ)
     → AcceptedFrame T f → Encodes T f r xs ys (Done l s) X Y → AcceptedFrame T f′ → Encodes T f′ r xs′ ys′ (Done l′ s′) X′ Y′
     → ((X ≡ X′) × (Y ≡ Y′)) ↔ (f ≡ f′)
