@@ -2,7 +2,7 @@
 -- The words are those of specs/Words.antt and of crate g9932.
 use Prim.Native.Nat.{ℕ, _+_, _-_, _/_, _%_, _^_, _≤_, _<_}
 use mathlib.Core.Bool.{Bool, true, cond, not}
-use mathlib.Core.List.{List, [], _∷_}
+use mathlib.Core.List.{List, [], _∷_, map}
 use mathlib.Core.Logic.{_↔_, _≢_}
 use mathlib.Core.Path.{_≡_}
 use lib.Dec.{eqb}
@@ -10,7 +10,7 @@ use lib.IntN.{ℤ}
 use lib.ListN.{length, take, drop, getD}
 use Rattle.g9932.specs.Bits.{_⊕_, bits, bit, odd}
 use Rattle.g9932.specs.Sizes.{Tables, unpack, Point}
-use Rattle.g9932.specs.Refusals.{refused}
+use Rattle.g9932.specs.Refusals.{accepted, refused}
 use Rattle.g9932.specs.Order.{sum, count, bitsOf, entryCount, pairCount}
 use Rattle.g9932.specs.Trellis.{Word, lowBitsOf, sentBits}
 use Rattle.g9932.specs.Points.{pointOf}
@@ -27,6 +27,7 @@ use Rattle.g9932.proofs.Reordering as Reordering
 use Rattle.guarantees.specs.Words.{AcceptedTables, AcceptedFrame, ValidRegister, RightLength, Ready, firstMonitored, nonZero, negated, secondBit, fillerBit, turned}
 use Rattle.guarantees.proofs.HalfTurn as HalfTurn
 use Rattle.guarantees.proofs.Mapping as Mapping
+use Rattle.guarantees.proofs.Operations as Operations
 use Rattle.guarantees.proofs.RoundTrip as RoundTrip
 use Rattle.guarantees.proofs.Totals as Totals
 
@@ -34,6 +35,16 @@ use Rattle.guarantees.proofs.Totals as Totals
 
 -- In any accepted tables, with a valid register and lent buffers xs, ys and f₀ of exact lengths:
 module _ (T : Tables) (r : ℕ) (xs ys : List ℤ) (f₀ : List ℕ) (ready : Ready T r xs ys f₀) where
+  -- An accepted frame is encoded: DONE, L, the register after the draws, and X and Y of its points.
+  pub encoded : (f : List ℕ) → AcceptedFrame T f
+      → encodeOf T f r xs ys
+      ≡ record {
+        report = record { verdict = accepted (sizeOf T); register = registerAfter r (classesOf T) };
+        xs = map (λ p. p .px) (writtenPoints T r f);
+        ys = map (λ p. p .py) (writtenPoints T r f);
+      }
+  encoded = Operations.encoded T r xs ys f₀ ready
+
   -- Two accepted frames give the same points exactly when they are the same frame.
   pub distinct : (f g : List ℕ) → AcceptedFrame T f → AcceptedFrame T g
       → ((encodeOf T f r xs ys .xs ≡ encodeOf T g r xs ys .xs) × (encodeOf T f r xs ys .ys ≡ encodeOf T g r xs ys .ys)) ↔ (f ≡ g)
@@ -75,9 +86,15 @@ module _ (T : Tables) (r : ℕ) (xs ys : List ℤ) (f₀ : List ℕ) (ready : Re
       → turnedRead f .report .verdict ≡ refused 15 (cond (eqb (length (pairsIn T)) 3) 1 2)
   half-turn-odd = HalfTurn.half-turn-odd T r xs ys f₀ ready
 
+-- Reading that is refused, here or anywhere, returns the given register and leaves the lent buffer as it came.
+pub refused-kept : (T : Tables) (X Y : List ℤ) (r : ℕ) (f₀ : List ℕ) → readOf T X Y r f₀ .report .verdict .number ≢ 0
+    → (readOf T X Y r f₀ .report .register ≡ r) × (readOf T X Y r f₀ .frame ≡ f₀)
+refused-kept = Operations.refused-kept
+
 -- ---- how many bits
 
--- Coded, the bits on the tones number the frame's bits, one per coded pair, and four; uncoded, the frame's bits alone.
+-- Coded, the bits on the tones number the frame's bits, one per coded pair, and four (sum of bits = L + P + 4);
+-- uncoded, the frame's bits alone.
 module _ (T : Tables) (ok : AcceptedTables T) where
   pub bits-coded : T .mode ≡ Coded → sum (bitsOf (T .bits) (orderOf T)) ≡ sizeOf T + length (pairsIn T) + 4
   bits-coded = Totals.bits-coded T ok
@@ -132,8 +149,7 @@ read-mapped = Mapping.read-mapped
 pub labels-below : (b l : ℕ) (p : Point) → readPoint b p ≡ toneDone l → l < 2 ^ b
 labels-below = Mapping.labels-below
 
--- From 2 bits on the two lowest bits of a label are the second lowest bits of its coordinates: v1 of X, v0 of Y.
--- What a turn does to the two lowest bits can be read off the coordinates' signs.
+-- From 2 bits on, bit 1 of X in two's complement is bit 1 of the label (v1), and bit 1 of Y is bit 0 of the label (v0).
 pub low-bits : (b l : ℕ) (p : Point) → 2 ≤ b → mapLabel b l ≡ toneDone p
     → (secondBit (p .px) ≡ bit (bits b l) 1) × (secondBit (p .py) ≡ bit (bits b l) 0)
 low-bits = Mapping.low-bits

@@ -141,7 +141,7 @@ module _ (T : Tables) (r : ℕ) (xs ys : List ℤ) (f₀ : List ℕ) (ready : Re
     abbrev Y′ : List ℤ
     Y′ = turned (Y-of T r xs ys f₀ ready f)
 
-    right : RightLength T X′ Y′
+    pub right : RightLength T X′ Y′
     right =
         let e = encoded-right T r xs ys f₀ ready f ok in
         record {
