@@ -1,6 +1,6 @@
 // Constellations of 1 to 15 bits: one label to a point, one point to a label, without a search.
-pub mod points;
 pub mod labels;
+pub mod points;
 
 ghost use mathlib.Core.Path.{_≡_};
 ghost use Prim.Native.Nat.{_+_, _*_, _/_, _%_, _^_, _<_, _≤_};

@@ -1,12 +1,12 @@
 -- The bit counts along t' fit the entries of b'.
-use Prim.Native.Nat.{ℕ, zero, suc, _+_, _*_, _/_, _%_, _≤_}
+use Prim.Native.Nat.{ℕ, zero, suc, _+_, _*_, _/_, _%_}
 use mathlib.Core.Bool.{Bool, true, false, not}
 use mathlib.Core.List.{List, [], _∷_, _++_}
 use mathlib.Core.Path.{_≡_, refl}
 use native.Mathlib.Omega.{arith}
 use borrow.Author.Tests.{eqb-true, eqb-false, leb-true, leb-false}
 use lib.Dec.{leb}
-use lib.ListN.{length, replicate}
+use lib.ListN.{replicate}
 use Rattle.frame.specs.Spelled.{Fits, none, empty, own, shared}
 use Rattle.g9932.proofs.Reordering.{bits-order, entries-law}
 use Rattle.g9932.specs.Order.{consIf, filter, isOne, bitsOf, ones, reorderedTones, entries}

@@ -6,7 +6,7 @@ use mathlib.Core.Path.{_≡_, refl, sym, ap, _∙_}
 use native.Mathlib.Omega.{arith}
 use lib.IntN.{ℤ}
 use lib.ListN.{length, take, drop}
-use Rattle.frame.specs.Spelled.{Fits, Within, spell}
+use Rattle.frame.specs.Spelled.{Fits, spell}
 use Rattle.frame.specs.Written.{Framed, written}
 use Rattle.frame.proofs.Stores.{finished}
 use Rattle.g9932.specs.Bits.{bits, first}

@@ -6,7 +6,7 @@ use mathlib.Core.Path.{_≡_}
 use lib.IntN.{ℤ}
 use lib.ListN.{length}
 use Rattle.frame.specs.Spelled.{Fits}
-use Rattle.g9932.specs.Sizes.{Tables, Point, entry}
+use Rattle.g9932.specs.Sizes.{Tables, entry}
 use Rattle.g9932.specs.Refusals.{Verdict, accepted, refuseIf, roomTest, frameTest, seedTest, tableVerdict}
 use Rattle.g9932.specs.Filler.{registerAfter}
 use Rattle.g9932.specs.Symbol.{load, orderOf, bitsIn, classesOf, sizeOf, writtenPoints}

@@ -99,8 +99,7 @@ fn read_coded(
     requires { ⌜ CodedReady (tables Coded (now bits) (now gains) (now tones)) size (now xs) (now ys) (now frame) (now order) (now entries) (now labels) (now held) ⌝ }
     ensures { λ r. ⌜ ReadsPoints (tables Coded (now (bits .entry)) (now (gains .entry)) (now (tones .entry))) (points (now (xs .entry)) (now (ys .entry))) register (now (frame .entry)) r (now (frame .exit)) ⌝ }
 {
-    let heard =
-        mapper::collect::read_labels(bits, gains, order, entries, xs, ys, register, labels);
+    let heard = mapper::collect::read_labels(bits, gains, order, entries, xs, ys, register, labels);
     let offgrid = heard.offgrid;
     let monitor = heard.monitor;
     let drawn = heard.register;
@@ -152,7 +151,16 @@ fn read_symbol(
     match mode {
         Mode::Uncoded => {
             read_plain(
-                bits, gains, tones, xs, ys, register, size, frame, order, held,
+                bits,
+                gains,
+                tones,
+                xs,
+                ys,
+                register,
+                size,
+                frame,
+                order,
+                held,
             )
         }
         Mode::Coded => {

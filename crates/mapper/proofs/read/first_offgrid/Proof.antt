@@ -1,3 +1,4 @@
+-- `mapper::read::first_offgrid` meets its contract. The invariant: no place before i is off its constellation. The measure is the places left.
 use Rattle.mapper.proofs.Labelled.{off-at}
 use Rattle.mapper.proofs.Tones.{tone-class, tone-carries}
 use Rattle.mapper.specs.Mapping.{classesBy}
@@ -26,8 +27,8 @@ abbrev μ-loop : tie.MeasureT-loop
 
 loop-holds : tie.Need-loop-holds Inv-loop μ-loop
 loop-holds c =
-  let a = c .before .before .before .args in
-  (omega arith, first-none (offgridTest (classesBy (a .bits .now) (a .gains .now) (a .order .now)) (points (a .xs .now) (a .ys .now))))
+    let a = c .before .before .before .args in
+    (omega arith, first-none (offgridTest (classesBy (a .bits .now) (a .gains .now) (a .order .now)) (points (a .xs .now) (a .ys .now))))
 
 tone-of-place-requires : tie.Need-tone-of-place-requires Inv-loop μ-loop
 tone-of-place-requires c κs = search needs
@@ -46,9 +47,9 @@ shared-slice-copy-out-on-grid-2 c = omega (arith, c .before .before .before .bef
 
 on-grid-requires : tie.Need-on-grid-requires Inv-loop μ-loop
 on-grid-requires c κs =
-  let s = c .before .before .before .before .before .before .before .before in
-  let t = c .before .before .tone-of-place in
-  tone-carries (s .args .bits .now) (s .args .gains .now) (s .args .order .now) (c .before .before .before .before .loop .i) (omega arith) (t .result) (t .ensures) (s .pre .bitsMost)
+    let s = c .before .before .before .before .before .before .before .before in
+    let t = c .before .before .tone-of-place in
+    tone-carries (s .args .bits .now) (s .args .gains .now) (s .args .order .now) (c .before .before .before .before .loop .i) (omega arith) (t .result) (t .ensures) (s .pre .bitsMost)
 
 -- the test at this place is what the code tells of its point
 off-here : (c : tie.After-on-grid Inv-loop μ-loop) → offgridTest (classesBy (c .before .before .before .before .before .before .before .before .before .args .bits .now) (c .before .before .before .before .before .before .before .before .before .args .gains .now) (c .before .before .before .before .before .before .before .before .before .args .order .now)) (points (c .before .before .before .before .before .before .before .before .before .args .xs .now) (c .before .before .before .before .before .before .before .before .before .args .ys .now)) (c .before .before .before .before .before .loop .i) ≡ not (c .on-grid .result)
@@ -62,8 +63,8 @@ off-here c =
 
 returns : tie.Need-returns Inv-loop μ-loop
 returns c =
-  let a = c .before .before .before .before .before .before .before .before .before .before .args in
-  first-at (offgridTest (classesBy (a .bits .now) (a .gains .now) (a .order .now)) (points (a .xs .now) (a .ys .now))) (c .before .before .before .before .before .before .loop .i) (length (a .order .now)) (c .before .before .before .before .before .before .loop .inv .1) (off-here (c .before) ∙ c .if1 .taken) (omega arith)
+    let a = c .before .before .before .before .before .before .before .before .before .before .args in
+    first-at (offgridTest (classesBy (a .bits .now) (a .gains .now) (a .order .now)) (points (a .xs .now) (a .ys .now))) (c .before .before .before .before .before .before .loop .i) (length (a .order .now)) (c .before .before .before .before .before .before .loop .inv .1) (off-here (c .before) ∙ c .if1 .taken) (omega arith)
 
 add-i : tie.Need-add-i Inv-loop μ-loop
 add-i c = omega (arith, c .before .before .before .before .before .before .before .before .before .before .pre .orderMost)
@@ -73,13 +74,13 @@ loop-less c = omega arith
 
 loop-again : tie.Need-loop-again Inv-loop μ-loop
 loop-again c =
-  let a = c .before .before .before .before .before .before .before .before .before .before .args in
-  (omega arith, first-more (offgridTest (classesBy (a .bits .now) (a .gains .now) (a .order .now)) (points (a .xs .now) (a .ys .now))) (c .before .before .before .before .before .before .loop .i) (c .before .before .before .before .before .before .loop .inv .1) (off-here (c .before) ∙ c .if1 .left))
+    let a = c .before .before .before .before .before .before .before .before .before .before .args in
+    (omega arith, first-more (offgridTest (classesBy (a .bits .now) (a .gains .now) (a .order .now)) (points (a .xs .now) (a .ys .now))) (c .before .before .before .before .before .before .loop .i) (c .before .before .before .before .before .before .loop .inv .1) (off-here (c .before) ∙ c .if1 .left))
 
 returns-2 : tie.Need-returns-2 Inv-loop μ-loop
 returns-2 c =
-  let a = c .before .before .before .before .before .args in
-  first-end (offgridTest (classesBy (a .bits .now) (a .gains .now) (a .order .now)) (points (a .xs .now) (a .ys .now))) (c .before .loop .i) (length (a .order .now)) (c .before .loop .inv .1) (omega arith) (omega arith)
+    let a = c .before .before .before .before .before .args in
+    first-end (offgridTest (classesBy (a .bits .now) (a .gains .now) (a .order .now)) (points (a .xs .now) (a .ys .now))) (c .before .loop .i) (length (a .order .now)) (c .before .loop .inv .1) (omega arith) (omega arith)
 
 pub first-offgrid-spec : {M : Type 1} → statement M
 first-offgrid-spec =

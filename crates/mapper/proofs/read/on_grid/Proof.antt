@@ -1,3 +1,4 @@
+-- `mapper::read::on_grid` meets its contract: by the class.
 use mir.ValLaws.{toZ-ofZ}
 use mir.Syntax.{w16}
 use borrow.Author.Needs.{needs}
@@ -12,8 +13,8 @@ cast-label-of c = search needs
 
 label-of-requires : tie.Need-label-of-requires
 label-of-requires c κs =
-  let t = c .before .before .before in
-  rw (c .before .class .given .1) at (t .pre)
+    let t = c .before .before .before in
+    rw (c .before .class .given .1) at (t .pre)
 
 enum-told : tie.Need-enum-told
 enum-told c = search needs
@@ -29,18 +30,18 @@ is-origin-requires c κs = search needs
 
 returns : tie.Need-returns
 returns c =
-  let t = c .before .before .before .before in
-  rw (c .before .before .class .given .1) (rw (toZ-ofZ w16 (t .args .x) (t .fits .x), toZ-ofZ w16 (t .args .y) (t .fits .y)) at (c .label-of .ensures .found))
+    let t = c .before .before .before .before in
+    rw (c .before .before .class .given .1) (rw (toZ-ofZ w16 (t .args .x) (t .fits .x), toZ-ofZ w16 (t .args .y) (t .fits .y)) at (c .label-of .ensures .found))
 
 returns-2 : tie.Need-returns-2
 returns-2 c =
-  let t = c .before .before .before in
-  rw (c .before .enum-told .given .1) (rw (toZ-ofZ w16 (t .args .x) (t .fits .x), toZ-ofZ w16 (t .args .y) (t .fits .y)) at (c .label-of2 .ensures .found))
+    let t = c .before .before .before in
+    rw (c .before .enum-told .given .1) (rw (toZ-ofZ w16 (t .args .x) (t .fits .x), toZ-ofZ w16 (t .args .y) (t .fits .y)) at (c .label-of2 .ensures .found))
 
 returns-3 : tie.Need-returns-3
 returns-3 c =
-  let t = c .before .before .before in
-  rw (c .before .enum-told2 .given .1) (rw (toZ-ofZ w16 (t .args .x) (t .fits .x), toZ-ofZ w16 (t .args .y) (t .fits .y)) at (c .is-origin .ensures))
+    let t = c .before .before .before in
+    rw (c .before .enum-told2 .given .1) (rw (toZ-ofZ w16 (t .args .x) (t .fits .x), toZ-ofZ w16 (t .args .y) (t .fits .y)) at (c .is-origin .ensures))
 
 pub on-grid-spec : {M : Type 1} → statement M
 on-grid-spec =

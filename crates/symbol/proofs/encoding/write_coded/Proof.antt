@@ -1,12 +1,8 @@
-use native.Mathlib.Omega.{arith}
+-- `write_coded` meets its contract: the labels spell the sent bits, and the points are those of the labels.
 use Rattle.symbol.proofs.Writing.{label-room}
 use borrow.Author.Needs.{needs}
 use Rattle.symbol.proofs.encoding.write_coded.Statement.{statement}
 use Rattle.symbol.proofs.encoding.write_coded.Tie as tie
-use Rattle.symbol.proofs.encoding.write_coded.Reads as reads
-use Rattle.symbol.proofs.encoding.write_coded.Lts as lts
-use Rattle.mapper.proofs.labels.map_labels.Reads as map-labels-reads
-use Rattle.trellis.proofs.encode_labels.Reads as encode-labels-reads
 
 encode-labels-requires : tie.Need-encode-labels-requires
 encode-labels-requires c κs = c .before .before .before .before .before .before .before .pre .ready

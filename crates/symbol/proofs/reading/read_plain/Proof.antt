@@ -1,3 +1,4 @@
+-- `read_plain` meets its contract: 13 at every place, then 14 at every place; past them the frame is the sent bits.
 use native.Mathlib.Omega.{arith}
 use mathlib.Core.Path.{refl}
 use Rattle.symbol.proofs.Undoing.{plain-room, plain-heard, store-room, plain-whole, plain-fits, plain-frame}
@@ -7,16 +8,11 @@ use Rattle.g9932.specs.Sizes.{tables}
 use borrow.Author.Needs.{needs}
 use Rattle.symbol.proofs.reading.read_plain.Statement.{statement}
 use Rattle.symbol.proofs.reading.read_plain.Tie as tie
-use Rattle.symbol.proofs.reading.read_plain.Reads as reads
-use Rattle.symbol.proofs.reading.read_plain.Lts as lts
-use Rattle.frame.proofs.BitWriter.finish.Reads as finish-reads
-use Rattle.frame.proofs.copy.Reads as copy-reads
-use Rattle.mapper.proofs.read.read_tones.Reads as read-tones-reads
 
 read-tones-requires : tie.Need-read-tones-requires
 read-tones-requires c κs =
-  let a = c .before .before .before .before .before .before .before .args in
-  plain-room (tables Uncoded (a .bits .now) (a .gains .now) (a .tones .now)) (a .size) (a .xs .now) (a .ys .now) (a .frame .now) (a .order .now) (a .held .now) (c .before .before .before .before .before .before .before .pre)
+    let a = c .before .before .before .before .before .before .before .args in
+    plain-room (tables Uncoded (a .bits .now) (a .gains .now) (a .tones .now)) (a .size) (a .xs .now) (a .ys .now) (a .frame .now) (a .order .now) (a .held .now) (c .before .before .before .before .before .before .before .pre)
 
 enum-known-offgrid : tie.Need-enum-known-offgrid
 enum-known-offgrid c = search needs
@@ -26,10 +22,10 @@ same-length c = search needs
 
 returns : tie.Need-returns
 returns c =
-  let a = c .before .before .before .before .before .before .before .before .before .before .before .before .before .before .args in
-  let t = c .before .before .before .before .before .before .read-tones in
-  let h = plain-heard (tables Uncoded (a .bits .now) (a .gains .now) (a .tones .now)) (a .size) (a .xs .now) (a .ys .now) (a .frame .now) (a .order .now) (a .held .now) (c .before .before .before .before .before .before .before .before .before .before .before .before .before .before .pre) (t .ensures) in
-  points-refused _ _ _ _ _ (offgrid-found h _ (c .before .offgrid .given .1))
+    let a = c .before .before .before .before .before .before .before .before .before .before .before .before .before .before .args in
+    let t = c .before .before .before .before .before .before .read-tones in
+    let h = plain-heard (tables Uncoded (a .bits .now) (a .gains .now) (a .tones .now)) (a .size) (a .xs .now) (a .ys .now) (a .frame .now) (a .order .now) (a .held .now) (c .before .before .before .before .before .before .before .before .before .before .before .before .before .before .pre) (t .ensures) in
+    points-refused _ _ _ _ _ (offgrid-found h _ (c .before .offgrid .given .1))
 
 enum-told : tie.Need-enum-told
 enum-told c = search needs
@@ -42,25 +38,25 @@ same-length-2 c = search needs
 
 returns-2 : tie.Need-returns-2
 returns-2 c =
-  let a = c .before .before .before .before .before .before .before .before .before .before .before .before .before .before .before .before .args in
-  let t = c .before .before .before .before .before .before .before .before .read-tones in
-  let h = plain-heard (tables Uncoded (a .bits .now) (a .gains .now) (a .tones .now)) (a .size) (a .xs .now) (a .ys .now) (a .frame .now) (a .order .now) (a .held .now) (c .before .before .before .before .before .before .before .before .before .before .before .before .before .before .before .before .pre) (t .ensures) in
-  points-refused _ _ _ _ _ (monitor-found h (c .before .before .before .enum-told .given .1) _ (c .before .monitor .given .1))
+    let a = c .before .before .before .before .before .before .before .before .before .before .before .before .before .before .before .before .args in
+    let t = c .before .before .before .before .before .before .before .before .read-tones in
+    let h = plain-heard (tables Uncoded (a .bits .now) (a .gains .now) (a .tones .now)) (a .size) (a .xs .now) (a .ys .now) (a .frame .now) (a .order .now) (a .held .now) (c .before .before .before .before .before .before .before .before .before .before .before .before .before .before .before .before .pre) (t .ensures) in
+    points-refused _ _ _ _ _ (monitor-found h (c .before .before .before .enum-told .given .1) _ (c .before .monitor .given .1))
 
 enum-told-2 : tie.Need-enum-told-2
 enum-told-2 c = search needs
 
 finish-requires : tie.Need-finish-requires
 finish-requires c κs =
-  let a = c .before .before .before .before .before .before .before .before .before .before .before .before .before .before .before .before .args in
-  let t = c .before .before .before .before .before .before .before .before .read-tones in
-  (store-room (tables Uncoded (a .bits .now) (a .gains .now) (a .tones .now)) (a .size) (a .xs .now) (a .ys .now) (a .frame .now) (a .order .now) (a .held .now) (c .before .before .before .before .before .before .before .before .before .before .before .before .before .before .before .before .pre) (t .ensures) (t .kept .1 .1 .1 .1 .1 .1 .0), t .ensures .waits)
+    let a = c .before .before .before .before .before .before .before .before .before .before .before .before .before .before .before .before .args in
+    let t = c .before .before .before .before .before .before .before .before .read-tones in
+    (store-room (tables Uncoded (a .bits .now) (a .gains .now) (a .tones .now)) (a .size) (a .xs .now) (a .ys .now) (a .frame .now) (a .order .now) (a .held .now) (c .before .before .before .before .before .before .before .before .before .before .before .before .before .before .before .before .pre) (t .ensures) (t .kept .1 .1 .1 .1 .1 .1 .0), t .ensures .waits)
 
 copy-requires : tie.Need-copy-requires
 copy-requires c κs =
-  let a = c .before .before .before .before .before .before .before .before .before .before .before .before .before .before .before .before .before .before .before .before .before .args in
-  let t = c .before .before .before .before .before .before .before .before .before .before .before .before .before .read-tones in
-  plain-fits (tables Uncoded (a .bits .now) (a .gains .now) (a .tones .now)) (a .size) (a .xs .now) (a .ys .now) (a .frame .now) (a .order .now) (a .held .now) (c .before .before .before .before .before .before .before .before .before .before .before .before .before .before .before .before .before .before .before .before .before .pre) (t .ensures) refl (c .before .before .before .before .before .before .before .before .enum-told .given .1) (c .before .before .before .before .finish .last .1 .0) (t .kept .1 .1 .1 .1 .1 .1 .0) (c .before .before .before .before .finish .kept .1 .0) (c .before .before .before .before .finish .ensures)
+    let a = c .before .before .before .before .before .before .before .before .before .before .before .before .before .before .before .before .before .before .before .before .before .args in
+    let t = c .before .before .before .before .before .before .before .before .before .before .before .before .before .read-tones in
+    plain-fits (tables Uncoded (a .bits .now) (a .gains .now) (a .tones .now)) (a .size) (a .xs .now) (a .ys .now) (a .frame .now) (a .order .now) (a .held .now) (c .before .before .before .before .before .before .before .before .before .before .before .before .before .before .before .before .before .before .before .before .before .pre) (t .ensures) refl (c .before .before .before .before .before .before .before .before .enum-told .given .1) (c .before .before .before .before .finish .last .1 .0) (t .kept .1 .1 .1 .1 .1 .1 .0) (c .before .before .before .before .finish .kept .1 .0) (c .before .before .before .before .finish .ensures)
 
 same-length-3 : tie.Need-same-length-3
 same-length-3 c = search needs
@@ -70,13 +66,13 @@ same-length-4 c = search needs
 
 returns-3 : tie.Need-returns-3
 returns-3 c =
-  let a = c .before .before .before .before .before .before .before .before .before .before .before .before .before .before .before .before .before .before .before .before .before .before .before .before .args in
-  let t = c .before .before .before .before .before .before .before .before .before .before .before .before .before .before .before .before .read-tones in
-  let on = c .before .before .before .before .before .before .before .before .before .before .before .enum-told .given .1 in
-  let h = plain-heard (tables Uncoded (a .bits .now) (a .gains .now) (a .tones .now)) (a .size) (a .xs .now) (a .ys .now) (a .frame .now) (a .order .now) (a .held .now) (c .before .before .before .before .before .before .before .before .before .before .before .before .before .before .before .before .before .before .before .before .before .before .before .before .pre) (t .ensures) in
-  let w = plain-whole (tables Uncoded (a .bits .now) (a .gains .now) (a .tones .now)) (a .size) (a .xs .now) (a .ys .now) (a .frame .now) (a .order .now) (a .held .now) (c .before .before .before .before .before .before .before .before .before .before .before .before .before .before .before .before .before .before .before .before .before .before .before .before .pre) (t .ensures) refl on in
-  let f = plain-frame (tables Uncoded (a .bits .now) (a .gains .now) (a .tones .now)) (a .size) (a .xs .now) (a .ys .now) (a .frame .now) (a .order .now) (a .held .now) (c .before .before .before .before .before .before .before .before .before .before .before .before .before .before .before .before .before .before .before .before .before .before .before .before .pre) (t .ensures) refl on (c .before .before .before .before .before .before .before .finish .last .1 .0) (t .kept .1 .1 .1 .1 .1 .1 .0) (c .before .before .before .before .before .before .before .finish .kept .1 .0) (c .before .before .before .before .before .before .before .finish .ensures) (λ k i. omega (arith, c .before .before .before .before .before .slice-known4 .given k)) (c .before .before .copy .last .1 .0) (c .before .before .copy .ensures) in
-  points-done h on (c .before .before .before .before .before .before .before .before .before .enum-told2 .given .1) (a .size) (c .before .before .before .before .before .before .before .before .before .before .before .before .before .before .before .before .before .before .before .before .before .before .before .before .pre .sizeIs) w (a .frame .now) (c .before .before .copy .last .1 .0) f
+    let a = c .before .before .before .before .before .before .before .before .before .before .before .before .before .before .before .before .before .before .before .before .before .before .before .before .args in
+    let t = c .before .before .before .before .before .before .before .before .before .before .before .before .before .before .before .before .read-tones in
+    let on = c .before .before .before .before .before .before .before .before .before .before .before .enum-told .given .1 in
+    let h = plain-heard (tables Uncoded (a .bits .now) (a .gains .now) (a .tones .now)) (a .size) (a .xs .now) (a .ys .now) (a .frame .now) (a .order .now) (a .held .now) (c .before .before .before .before .before .before .before .before .before .before .before .before .before .before .before .before .before .before .before .before .before .before .before .before .pre) (t .ensures) in
+    let w = plain-whole (tables Uncoded (a .bits .now) (a .gains .now) (a .tones .now)) (a .size) (a .xs .now) (a .ys .now) (a .frame .now) (a .order .now) (a .held .now) (c .before .before .before .before .before .before .before .before .before .before .before .before .before .before .before .before .before .before .before .before .before .before .before .before .pre) (t .ensures) refl on in
+    let f = plain-frame (tables Uncoded (a .bits .now) (a .gains .now) (a .tones .now)) (a .size) (a .xs .now) (a .ys .now) (a .frame .now) (a .order .now) (a .held .now) (c .before .before .before .before .before .before .before .before .before .before .before .before .before .before .before .before .before .before .before .before .before .before .before .before .pre) (t .ensures) refl on (c .before .before .before .before .before .before .before .finish .last .1 .0) (t .kept .1 .1 .1 .1 .1 .1 .0) (c .before .before .before .before .before .before .before .finish .kept .1 .0) (c .before .before .before .before .before .before .before .finish .ensures) (λ k i. omega (arith, c .before .before .before .before .before .slice-known4 .given k)) (c .before .before .copy .last .1 .0) (c .before .before .copy .ensures) in
+    points-done h on (c .before .before .before .before .before .before .before .before .before .enum-told2 .given .1) (a .size) (c .before .before .before .before .before .before .before .before .before .before .before .before .before .before .before .before .before .before .before .before .before .before .before .before .pre .sizeIs) w (a .frame .now) (c .before .before .copy .last .1 .0) f
 
 pub read-plain-spec : {M : Type 1} → statement M
 read-plain-spec =

@@ -1,3 +1,4 @@
+-- `read_symbol` meets its contract: by the mode.
 use native.Mathlib.Omega.{arith}
 use Rattle.symbol.proofs.Writing.{lent-part}
 use Rattle.symbol.proofs.Undoing.{read-start, coded-ready}
@@ -5,11 +6,6 @@ use Rattle.g9932.specs.Sizes.{tables}
 use borrow.Author.Needs.{needs}
 use Rattle.symbol.proofs.reading.read_symbol.Statement.{statement}
 use Rattle.symbol.proofs.reading.read_symbol.Tie as tie
-use Rattle.symbol.proofs.reading.read_symbol.Reads as reads
-use Rattle.symbol.proofs.reading.read_symbol.Lts as lts
-use Rattle.symbol.proofs.encoding.first_entry.Reads as first-entry-reads
-use Rattle.symbol.proofs.reading.read_coded.Reads as read-coded-reads
-use Rattle.symbol.proofs.reading.read_plain.Reads as read-plain-reads
 
 enum-told : tie.Need-enum-told
 enum-told c = search needs
@@ -25,22 +21,22 @@ first-entry-requires c κs = search needs
 
 sub-read-coded : tie.Need-sub-read-coded
 sub-read-coded c =
-  let a = c .before .before .before .before .before .before .before .before .before .before .before .before .args in
-  omega (arith, c .before .first-entry .ensures, read-start (tables (a .mode) (a .bits .now) (a .gains .now) (a .tones .now)) (a .size) (a .xs .now) (a .ys .now) (a .frame .now) (a .order .now) (a .entries .now) (a .labels .now) (a .held .now) (c .before .before .before .before .before .before .before .before .before .before .before .before .pre) (c .before .before .enum-told2 .given .1))
+    let a = c .before .before .before .before .before .before .before .before .before .before .before .before .args in
+    omega (arith, c .before .first-entry .ensures, read-start (tables (a .mode) (a .bits .now) (a .gains .now) (a .tones .now)) (a .size) (a .xs .now) (a .ys .now) (a .frame .now) (a .order .now) (a .entries .now) (a .labels .now) (a .held .now) (c .before .before .before .before .before .before .before .before .before .before .before .before .pre) (c .before .before .enum-told2 .given .1))
 
 part-read-coded-start : tie.Need-part-read-coded-start
 part-read-coded-start c =
-  let a = c .before .before .before .before .before .before .before .before .before .before .before .before .args in
-  omega (arith, c .before .first-entry .ensures, read-start (tables (a .mode) (a .bits .now) (a .gains .now) (a .tones .now)) (a .size) (a .xs .now) (a .ys .now) (a .frame .now) (a .order .now) (a .entries .now) (a .labels .now) (a .held .now) (c .before .before .before .before .before .before .before .before .before .before .before .before .pre) (c .before .before .enum-told2 .given .1))
+    let a = c .before .before .before .before .before .before .before .before .before .before .before .before .args in
+    omega (arith, c .before .first-entry .ensures, read-start (tables (a .mode) (a .bits .now) (a .gains .now) (a .tones .now)) (a .size) (a .xs .now) (a .ys .now) (a .frame .now) (a .order .now) (a .entries .now) (a .labels .now) (a .held .now) (c .before .before .before .before .before .before .before .before .before .before .before .before .pre) (c .before .before .enum-told2 .given .1))
 
 part-read-coded-end : tie.Need-part-read-coded-end
 part-read-coded-end c = omega arith
 
 read-coded-requires : tie.Need-read-coded-requires
 read-coded-requires c κs =
-  let a = c .before .before .before .before .before .before .before .before .before .before .before .before .before .before .before .args in
-  rw (lent-part (a .entries .now) (c .before .before .before .before .first-entry .result) (c .before .before .before .before .first-entry .ensures))
-  (rw (c .before .before .before .before .before .enum-told2 .given .1) at (coded-ready (tables (a .mode) (a .bits .now) (a .gains .now) (a .tones .now)) (a .size) (a .xs .now) (a .ys .now) (a .frame .now) (a .order .now) (a .entries .now) (a .labels .now) (a .held .now) (c .before .before .before .before .before .before .before .before .before .before .before .before .before .before .before .pre) (c .before .before .before .before .before .enum-told2 .given .1)))
+    let a = c .before .before .before .before .before .before .before .before .before .before .before .before .before .before .before .args in
+    rw (lent-part (a .entries .now) (c .before .before .before .before .first-entry .result) (c .before .before .before .before .first-entry .ensures))
+    (rw (c .before .before .before .before .before .enum-told2 .given .1) at (coded-ready (tables (a .mode) (a .bits .now) (a .gains .now) (a .tones .now)) (a .size) (a .xs .now) (a .ys .now) (a .frame .now) (a .order .now) (a .entries .now) (a .labels .now) (a .held .now) (c .before .before .before .before .before .before .before .before .before .before .before .before .before .before .before .pre) (c .before .before .before .before .before .enum-told2 .given .1)))
 
 same-length : tie.Need-same-length
 same-length c = search needs
