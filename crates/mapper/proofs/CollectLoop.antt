@@ -11,8 +11,7 @@ use lib.Pow.{pow-mono}
 use lib.Seq.{take-all, take-take, take-set-le, getD-set-same, getD-set-other}
 use Rattle.frame.proofs.Spelled.{spell-take, spell-set, within-set}
 use Rattle.frame.specs.Spelled.{spell, Within, Fits, none, own}
-use Rattle.g9932.specs.Bits.{bits, odd, orAt}
-use Rattle.g9932.specs.Bits.{first as first-place}
+use Rattle.g9932.specs.Bits.{bits, odd, orAt, first}
 use Rattle.g9932.specs.Sizes.{entry, Point}
 use Rattle.g9932.specs.Symbol.{load, offgridTest}
 use Rattle.g9932.specs.declared.Class.{Class}
@@ -23,7 +22,7 @@ use Rattle.mapper.specs.Reading.{PointsRoom}
 use Rattle.mapper.specs.Collecting.{KeepRoom, kept, LabelsRoom, ReadsLabels}
 use Rattle.mapper.specs.declared.read.ToneRead.{ToneRead}
 use Rattle.mapper.proofs.EntryBits.{FitsFrom, whole, half}
-use Rattle.mapper.proofs.EntryPlaces.{Placed, nowhere, first, second, alone, tone-placed}
+use Rattle.mapper.proofs.EntryPlaces.{Placed, nowhere, lower, upper, alone, tone-placed}
 use Rattle.mapper.proofs.ReadLoop.{Heard, heard-start, ReadAt, heard-step, heard-end, found-not}
 use Rattle.mapper.proofs.Tones.{drop-class}
 
@@ -37,6 +36,7 @@ pub record Stored (es ls : List ℕ) (at : ℕ) : Type 0 where
   pub within : Within es ls (at / 2)
   pub one : at % 2 ≡ 1 → entry ls (at / 2) < 2
 
+-- the label l of a tone of n bits stored, and the tones after it
 pub record Keeps (es ls : List ℕ) (n l : ℕ) (bs : List ℕ) (at : ℕ) : Type 0 where
   pub room : at ≤ 8192 → KeepRoom n l at ls
   pub bitsAre : bitsDone es (kept n l at ls) (at + halves n) ≡ bitsDone es ls at ++ bits n l
@@ -71,7 +71,7 @@ module _ (es ls : List ℕ) (l : ℕ) (bs : List ℕ) (at : ℕ) (before : Store
         stored = rw (add-zero at) before;
         fits = rw (add-zero at) f;
       }
-  keeps n small few (first p s f) =
+  keeps n small few (lower p s f) =
       let t : j < length ls = omega (arith, s .there, before .enough) in
       let same : kept 1 l at ls ≡ set ls j l = rw p in
       let q : (at + 1) / 2 ≡ j = omega arith in
@@ -86,7 +86,7 @@ module _ (es ls : List ℕ) (l : ℕ) (bs : List ℕ) (at : ℕ) (before : Store
         });
         fits = f;
       }
-  keeps n small few (second p s f) =
+  keeps n small few (upper p s f) =
       let t : j < length ls = omega (arith, s .there, before .enough) in
       let x : ℕ = entry ls j in
       let lt : x < 2 = before .one p in
@@ -111,7 +111,7 @@ module _ (es ls : List ℕ) (l : ℕ) (bs : List ℕ) (at : ℕ) (before : Store
       let r : (at + 2) % 2 ≡ 0 = omega arith in
       record {
         room = λ m. record { atMost = m; small = small-16 n small few; there = λ _. t; both = λ o. absurd (omega arith) };
-        bitsAre = rw (same, two, p, q, r, append-nil, append-nil, spell-set es ls j l (s .there) t, s .entryIs);
+        bitsAre = rw (same, two, p, q, r, append-nil (spell (take (j + 1) es) (take (j + 1) (set ls j l))), append-nil (spell (take j es) (take j ls)), spell-set es ls j l (s .there) t, s .entryIs);
         stored = rw (same, two) (record {
           enough = omega (arith, before .enough, length-set ls j l);
           within = rw q (within-set es ls j l t (before .within) (rw (s .entryIs) small));
@@ -189,7 +189,8 @@ module _ {cs : List Class} {r : ℕ} {q : List Point} {es ls : List ℕ} {at : �
           atMost = omega (arith, g .atMost, min-le-right (t .bits) 2);
         }
 
-pub collecting-off : (cs : List Class) (r : ℕ) (q : List Point) (es ls : List ℕ) (k : ℕ) → At k ≡ first-place (offgridTest cs q) (length cs)
+-- a place that is refused: nothing is stored
+pub collecting-off : (cs : List Class) (r : ℕ) (q : List Point) (es ls : List ℕ) (k : ℕ) → At k ≡ first (offgridTest cs q) (length cs)
     → ReadsLabels cs r q es (record { offgrid = At k; monitor = Nothing; register = r }) ls
 collecting-off cs r q es ls k is =
     record {

@@ -15,11 +15,12 @@ pub record Stands (es : List ℕ) (at n : ℕ) : Type 0 where
   pub there : at / 2 < length es
   pub entryIs : entry es (at / 2) ≡ n
 
--- where a tone of n bits has its label, and the tones after it theirs
+-- where a tone of n bits has its label: nowhere, the lower or the upper bit of an entry of 2, or an entry alone; and the tones after
+-- it theirs
 pub data Placed (es bs : List ℕ) (at : ℕ) : ℕ → Type 0 where
   nowhere : at % 2 ≡ 0 → FitsFrom es bs at → Placed es bs at 0
-  first : at % 2 ≡ 0 → Stands es at 2 → FitsFrom es bs (at + 1) → Placed es bs at 1
-  second : at % 2 ≡ 1 → Stands es at 2 → FitsFrom es bs (at + 1) → Placed es bs at 1
+  lower : at % 2 ≡ 0 → Stands es at 2 → FitsFrom es bs (at + 1) → Placed es bs at 1
+  upper : at % 2 ≡ 1 → Stands es at 2 → FitsFrom es bs (at + 1) → Placed es bs at 1
   alone : {n : ℕ} → at % 2 ≡ 0 → 2 ≤ n → Stands es at n → FitsFrom es bs (at + 2) → Placed es bs at n
 
 module _ (es : List ℕ) (at : ℕ) where
@@ -38,11 +39,11 @@ module _ (es : List ℕ) (at : ℕ) where
   of-whole n bs e q p (own {b = b} {es = t} h f) = alone p h (stands n t q) (next-fits n 2 t bs q (omega arith) (omega arith) f)
   of-whole n bs e q p (shared {bs = cs} {es = t} f) =
       let k : (at + 1) / 2 ≡ at / 2 = omega arith in
-      first p (stands 2 t q) (half (omega arith) (rw (k, q) (shared f)))
+      lower p (stands 2 t q) (half (omega arith) (rw (k, q) (shared f)))
 
   of-half : (n : ℕ) (bs e : List ℕ) → drop (at / 2) es ≡ e → at % 2 ≡ 1 → Fits (1 ∷ n ∷ bs) e → Placed es bs at n
   of-half n bs e q p (own h f) = absurd (omega arith)
-  of-half n bs e q p (shared {es = t} f) = second p (stands 2 t q) (next-fits 2 1 t bs q (omega arith) (omega arith) f)
+  of-half n bs e q p (shared {es = t} f) = upper p (stands 2 t q) (next-fits 2 1 t bs q (omega arith) (omega arith) f)
 
   pub tone-placed : (n : ℕ) (bs : List ℕ) → FitsFrom es (n ∷ bs) at → Placed es bs at n
   tone-placed n bs (whole p f) = of-whole n bs (drop (at / 2) es) refl p f

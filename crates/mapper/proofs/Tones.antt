@@ -61,12 +61,6 @@ drop-class cs i h = drop-cons cs i Silent h ∙ rw add-one
 pub loads-drop : (cs : List Class) (i : ℕ) → i < length cs → loads (drop i cs) ≡ load (getD cs i Silent) + loads (drop (i + 1) cs)
 loads-drop cs i h = rw (drop-class cs i h)
 
--- each carries at most 15 bits
-pub load-most : (c : Class) → Carries c → load c ≤ 15
-load-most (Data n) h = h .1
-load-most Monitored h = omega arith
-load-most Silent h = omega arith
-
 -- the point at a place of two lists
 pub point-at : (xs ys : List ℤ) (i : ℕ) → i < length xs → i < length ys → getD (points xs ys) i origin ≡ point (getD xs i (pos 0)) (getD ys i (pos 0))
 unfolding points

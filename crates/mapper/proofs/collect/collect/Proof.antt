@@ -1,3 +1,5 @@
+-- `mapper::collect::collect` meets its contract. The invariant, for all points that have these labels: `monitor` is the first place before
+-- i that 14 refuses, and the labels stored spell the bits of the tones before i. The measure is the tones left.
 use native.Mathlib.Omega.{arith}
 use Prim.Native.Nat.{_-_}
 use mathlib.Core.Path.{_≡_, refl, _∙_}

@@ -1,3 +1,4 @@
+-- `mapper::collect::keep` meets its contract, by the bit count and, for a tone of 1 bit, by the half of the entry.
 use Rattle.mapper.proofs.CollectLoop.{kept-alone}
 use Prim.Native.Nat.{ℕ, _+_, _%_, _≤_}
 use mathlib.Core.Path.{_≡_, refl, sym, ap}
@@ -69,7 +70,7 @@ add-labels : tie.Need-add-labels
 add-labels c =
     let s = c .before .before .before .before in
     let odd : s .args .at % 2 ≡ 1 = omega arith in
-    record { fits = s .pre .both odd }
+    record { fits = omega (arith, s .pre .both odd) }
 
 mul-labels-5 : tie.Need-mul-labels-5
 mul-labels-5 c = search needs

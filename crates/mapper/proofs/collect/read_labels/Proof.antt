@@ -1,4 +1,5 @@
-use mathlib.Core.Path.{refl, sym, _∙_}
+-- `mapper::collect::read_labels` meets its contract: the labels are collected where every point has one, and else a place is refused.
+use mathlib.Core.Path.{refl}
 use Rattle.g9932.specs.Sizes.{points}
 use Rattle.mapper.specs.Mapping.{classesBy}
 use Rattle.mapper.proofs.CollectLoop.{collecting-off, points-room}
@@ -27,7 +28,7 @@ returns c =
     let a = s .args in
     let e = c .before .before .before .see-points in
     collecting-off (classesBy (a .bits .now) (a .gains .now) (a .order .now)) (a .register) (points (a .xs .now) (a .ys .now)) (a .entries .now) (a .labels .now) (c .before .offgrid .given .0 .0)
-    (sym (c .before .offgrid .given .1) ∙ e .ensures .offgridIs)
+    (rw (c .before .offgrid .given .1) at (e .ensures .offgridIs))
 
 same-length : tie.Need-same-length
 same-length c = search needs

@@ -1,4 +1,5 @@
-use mathlib.Core.Path.{refl, sym, _∙_}
+-- `mapper::read::read_tones` meets its contract: the labels are gathered where every point has one, and else a place is refused.
+use mathlib.Core.Path.{refl}
 use Rattle.g9932.specs.Sizes.{points}
 use Rattle.mapper.specs.Mapping.{classesBy}
 use Rattle.mapper.proofs.ReadLoop.{listening-off, points-room}
@@ -30,7 +31,7 @@ returns c =
     let a = s .args in
     let e = c .before .before .before .before .see-points in
     rw (c .new .ensures) (listening-off (classesBy (a .bits .now) (a .gains .now) (a .order .now)) (a .register) (points (a .xs .now) (a .ys .now)) (c .before .before .offgrid .given .0 .0) (a .sent .now)
-    (sym (c .before .before .offgrid .given .1) ∙ e .ensures .offgridIs))
+    (rw (c .before .before .offgrid .given .1) at (e .ensures .offgridIs)))
 
 same-length : tie.Need-same-length
 same-length c = search needs

@@ -1,3 +1,4 @@
+-- `mapper::read::see_points` meets its contract: where not every point has a label, the search finds a place.
 use Rattle.mapper.proofs.Labelled.{see-room, sees-all, sees-some}
 use borrow.Author.Needs.{needs}
 use Rattle.mapper.proofs.read.see_points.Statement.{statement}
