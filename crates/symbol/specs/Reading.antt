@@ -6,12 +6,14 @@ use mathlib.Core.Path.{_≡_}
 use lib.IntN.{ℤ}
 use lib.ListN.{length}
 use Rattle.g9932.specs.Sizes.{Tables, bytesFor, pack, Point}
-use Rattle.g9932.specs.Refusals.{Verdict, accepted, refuseIf, roomTest, seedTest, tableVerdict}
+use Rattle.g9932.specs.Refusals.{Verdict, accepted, refused, refuseIf, roomTest, seedTest, tableVerdict}
 use Rattle.g9932.specs.Order.{entries}
 use Rattle.g9932.specs.Filler.{registerAfter}
 use Rattle.g9932.specs.Symbol.{orderOf, bitsIn, classesOf, sizeOf, readingIn}
 use Rattle.g9932.specs.Answers.{onDone, reportOf, reportBy, frameIn, pointsVerdict}
 use Rattle.g9932.specs.declared.Answer.{Answer}
+use Rattle.g9932.specs.declared.Found.{Found}
+use Rattle.g9932.specs.declared.Found.the-variants.{At, Nothing}
 
 -- refusals 10 and 12, for a frame of `size` bits and NSC tones
 unfoldable pub readLate : ℕ → ℕ → ℕ → ℕ → ℕ → ℕ → Verdict
@@ -19,6 +21,12 @@ readLate size nsc lentX lentY lentFrame r =
     refuseIf 10 (roomTest lentX nsc || roomTest lentY nsc || roomTest lentFrame (bytesFor size))
     (refuseIf 12 (seedTest r)
     (accepted size))
+
+-- 13 by the first place off its constellation, then 14 by the first whose filler bits it hasn't
+abbrev pub placesVerdict : Found → Found → Verdict
+placesVerdict (At k) m = refused 13 k
+placesVerdict Nothing (At k) = refused 14 k
+placesVerdict Nothing Nothing = accepted 0
 
 -- ---- everything in order but the points
 

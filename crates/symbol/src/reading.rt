@@ -5,7 +5,7 @@ ghost use Rattle.g9932.specs.Sizes.{tables, points};
 ghost use Rattle.g9932.specs.Answers.{verdictOf, Reads};
 ghost use Rattle.g9932.specs.declared.Mode.the-variants.{Uncoded, Coded};
 ghost use Rattle.tables.specs.Ordered.{Arrays};
-ghost use Rattle.symbol.specs.Reading.{readLate, PlainReady, CodedReady, PointsReady, ReadsPoints};
+ghost use Rattle.symbol.specs.Reading.{readLate, placesVerdict, PlainReady, CodedReady, PointsReady, ReadsPoints};
 use super::encoding::first_entry;
 use g9932::Answer;
 use g9932::Checked;
@@ -40,6 +40,19 @@ fn read_checks(
     Checked::Accepted(size)
 }
 
+// 13 at the first place off its constellation, or else 14 at the first whose filler bits it hasn't.
+fn refused_place(offgrid: Found, monitor: Found) -> Checked
+    ensures { λ r. ⌜ verdictOf r ≡ placesVerdict offgrid monitor ⌝ }
+{
+    if let Found::At(k) = offgrid {
+        return Checked::Refused(Refusal::Offgrid(Place(k)));
+    }
+    if let Found::At(k) = monitor {
+        return Checked::Refused(Refusal::Monitor(Place(k)));
+    }
+    Checked::Accepted(0)
+}
+
 // Uncoded: 13 at every place, 14 at every place; or else writes the frame, whose bits are the sent bits.
 fn read_plain(
     bits: &[u8],
@@ -57,27 +70,21 @@ fn read_plain(
     ensures { λ r. ⌜ ReadsPoints (tables Uncoded (now (bits .entry)) (now (gains .entry)) (now (tones .entry))) (points (now (xs .entry)) (now (ys .entry))) register (now (frame .entry)) r (now (frame .exit)) ⌝ }
 {
     let t = mapper::read::read_tones(bits, gains, order, xs, ys, register, held);
-    let offgrid = t.offgrid;
-    let monitor = t.monitor;
     let after = t.register;
     let writer = t.writer;
-    if let Found::At(k) = offgrid {
-        return Answer::Refused {
-            refusal: Refusal::Offgrid(Place(k)),
-            register,
-        };
-    }
-    if let Found::At(k) = monitor {
-        return Answer::Refused {
-            refusal: Refusal::Monitor(Place(k)),
-            register,
-        };
-    }
-    writer.finish(held);
-    frame::copy(held, frame);
-    Answer::Done {
-        size,
-        register: after,
+    let offgrid = t.offgrid;
+    let monitor = t.monitor;
+    let places = refused_place(offgrid, monitor);
+    match places {
+        Checked::Refused(refusal) => Answer::Refused { refusal, register },
+        Checked::Accepted(_) => {
+            writer.finish(held);
+            frame::copy(held, frame);
+            Answer::Done {
+                size,
+                register: after,
+            }
+        }
     }
 }
 
@@ -100,32 +107,28 @@ fn read_coded(
     ensures { λ r. ⌜ ReadsPoints (tables Coded (now (bits .entry)) (now (gains .entry)) (now (tones .entry))) (points (now (xs .entry)) (now (ys .entry))) register (now (frame .entry)) r (now (frame .exit)) ⌝ }
 {
     let heard = mapper::collect::read_labels(bits, gains, order, entries, xs, ys, register, labels);
+    let drawn = heard.register;
     let offgrid = heard.offgrid;
     let monitor = heard.monitor;
-    let drawn = heard.register;
-    if let Found::At(place) = offgrid {
-        return Answer::Refused {
-            refusal: Refusal::Offgrid(Place(place)),
-            register,
-        };
-    }
-    if let Found::At(place) = monitor {
-        return Answer::Refused {
-            refusal: Refusal::Monitor(Place(place)),
-            register,
-        };
-    }
-    let broken = trellis::read::read_labels(labels, entries, held);
-    if let Found::At(k) = broken {
-        return Answer::Refused {
-            refusal: Refusal::Trellis(k),
-            register,
-        };
-    }
-    frame::copy(held, frame);
-    Answer::Done {
-        size,
-        register: drawn,
+    let places = refused_place(offgrid, monitor);
+    match places {
+        Checked::Refused(refusal) => Answer::Refused { refusal, register },
+        Checked::Accepted(_) => {
+            let broken = trellis::read::read_labels(labels, entries, held);
+            match broken {
+                Found::At(k) => Answer::Refused {
+                    refusal: Refusal::Trellis(k),
+                    register,
+                },
+                Found::Nothing => {
+                    frame::copy(held, frame);
+                    Answer::Done {
+                        size,
+                        register: drawn,
+                    }
+                }
+            }
+        }
     }
 }
 
