@@ -12,6 +12,8 @@ use g9932::Labelled;
 use g9932::Mapped;
 use g9932::Mode;
 use g9932::Refusal;
+use g9932::number_of;
+use g9932::place_of;
 
 // What the calls with tables answer: 0 or the refusal, its place, L and the register.
 #[repr(C)]
@@ -53,54 +55,6 @@ fn mode_of(coded: u8) -> Mode
         return Mode::Uncoded;
     }
     Mode::Coded
-}
-
-// Document 01's number of a refusal.
-fn number_of(refusal: Refusal) -> u32
-    ensures { λ r. ⌜ r ≡ numberOf refusal ⌝ }
-{
-    match refusal {
-        Refusal::Size => 1,
-        Refusal::Tone(_) => 2,
-        Refusal::Twice(_) => 3,
-        Refusal::Bits(_) => 4,
-        Refusal::Stray(_) => 5,
-        Refusal::Gain(_) => 6,
-        Refusal::Odd => 7,
-        Refusal::Few => 8,
-        Refusal::Pair(_) => 9,
-        Refusal::Room => 10,
-        Refusal::Frame => 11,
-        Refusal::Seed => 12,
-        Refusal::Offgrid(_) => 13,
-        Refusal::Monitor(_) => 14,
-        Refusal::Trellis(_) => 15,
-        Refusal::Label => 16,
-    }
-}
-
-// Its place; 0 where it has none.
-fn place_of(refusal: Refusal) -> usize
-    ensures { λ r. ⌜ r ≡ placeOf refusal ⌝ }
-{
-    match refusal {
-        Refusal::Size => 0,
-        Refusal::Tone(p) => p.0,
-        Refusal::Twice(p) => p.0,
-        Refusal::Bits(k) => k.0,
-        Refusal::Stray(k) => k.0,
-        Refusal::Gain(k) => k.0,
-        Refusal::Odd => 0,
-        Refusal::Few => 0,
-        Refusal::Pair(n) => n,
-        Refusal::Room => 0,
-        Refusal::Frame => 0,
-        Refusal::Seed => 0,
-        Refusal::Offgrid(p) => p.0,
-        Refusal::Monitor(p) => p.0,
-        Refusal::Trellis(n) => n,
-        Refusal::Label => 0,
-    }
 }
 
 // A refusal, with the register as it came.

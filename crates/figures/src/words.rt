@@ -1,8 +1,9 @@
 // Numbers, points and refusals as text on standard output. Every word of a list has a space before it.
 ghost use mathlib.Core.Path.{_≡_};
 ghost use lib.IntN.{pos, _+ℤ_};
-ghost use Rattle.g9932.specs.Refusals.{numberOf, placeOf};
 use g9932::Refusal;
+use g9932::number_of;
+use g9932::place_of;
 use libc::STDOUT_FILENO;
 
 pub fn text(bytes: &[u8]) {
@@ -75,52 +76,6 @@ pub fn list16(list: &[u16]) {
     }
 }
 
-fn number_of(refusal: Refusal) -> u64
-    ensures { λ r. ⌜ r ≡ numberOf refusal ⌝ }
-{
-    match refusal {
-        Refusal::Size => 1,
-        Refusal::Tone(_) => 2,
-        Refusal::Twice(_) => 3,
-        Refusal::Bits(_) => 4,
-        Refusal::Stray(_) => 5,
-        Refusal::Gain(_) => 6,
-        Refusal::Odd => 7,
-        Refusal::Few => 8,
-        Refusal::Pair(_) => 9,
-        Refusal::Room => 10,
-        Refusal::Frame => 11,
-        Refusal::Seed => 12,
-        Refusal::Offgrid(_) => 13,
-        Refusal::Monitor(_) => 14,
-        Refusal::Trellis(_) => 15,
-        Refusal::Label => 16,
-    }
-}
-
-fn place_of(refusal: Refusal) -> usize
-    ensures { λ r. ⌜ r ≡ placeOf refusal ⌝ }
-{
-    match refusal {
-        Refusal::Tone(p) => p.0,
-        Refusal::Twice(p) => p.0,
-        Refusal::Bits(k) => k.0,
-        Refusal::Stray(k) => k.0,
-        Refusal::Gain(k) => k.0,
-        Refusal::Pair(n) => n,
-        Refusal::Offgrid(p) => p.0,
-        Refusal::Monitor(p) => p.0,
-        Refusal::Trellis(n) => n,
-        Refusal::Size => 0,
-        Refusal::Odd => 0,
-        Refusal::Few => 0,
-        Refusal::Room => 0,
-        Refusal::Frame => 0,
-        Refusal::Seed => 0,
-        Refusal::Label => 0,
-    }
-}
-
 fn name(refusal: Refusal) {
     match refusal {
         Refusal::Size => text(b" SIZE"),
@@ -145,7 +100,7 @@ fn name(refusal: Refusal) {
 // The number and the name of a refusal.
 pub fn refused(refusal: Refusal) {
     text(b" ");
-    number(number_of(refusal));
+    number(number_of(refusal) as u64);
     name(refusal);
 }
 
