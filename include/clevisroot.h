@@ -4,7 +4,7 @@
  * It checks bit, gain and tone tables, re-orders them, turns a frame of bits into one integer
  * point per tone, and turns points back into the frame: with trellis coding or without.
  *
- * Link with libclevisroot.a. The library uses some 56 KiB of stack at most, no heap and no global
+ * Link with libclevisroot.a. The library uses some 46 KiB of stack at most, no heap and no global
  * state; it is re-entrant. It keeps no pointer after a call. A pointer must not be null, even if
  * its length is 0, and an output must not overlap any other argument. All lengths count entries.
  *

@@ -1,6 +1,6 @@
 -- The shape table holds the shapes.
 use native.Mathlib.Omega.{arith}
-use Prim.Native.Nat.{ℕ, suc, zero, _+_, _≤_, _<_}
+use Prim.Native.Nat.{ℕ, suc, zero, _≤_, _<_}
 use mathlib.Core.Path.{_≡_, refl}
 use lib.ListN.{getD}
 use Rattle.g9932.specs.Bits.{first}

@@ -1,6 +1,6 @@
 -- `figures::bench::in_order` ends, and the list keeps its length.
 use borrow.Author.Needs.{needs}
-use Prim.Native.Nat.{ℕ, _-_}
+use Prim.Native.Nat.{_-_}
 use lib.ListN.{length}
 use mathlib.Core.Path.{_≡_}
 use Rattle.figures.proofs.bench.in_order.Statement.{statement}

@@ -1,13 +1,12 @@
 -- `figures::half_turn::opposite` meets its contract.
 use Prim.Native.Nat.{ℕ, zero, suc, _<_}
-use mathlib.Core.Bool.{Bool, true, false}
+use mathlib.Core.Bool.{true, false}
 use mathlib.Core.Path.{_≡_}
 use native.Mathlib.Omega.{arith}
 use borrow.Author.Tests.{ltb-true, ltb-false}
 use lib.IntN.{ℤ, pos, negsuc, negℤ, _-ℤ_, +ℤ-idl}
 use lib.Signed.{mag, ltZ}
 use mir.Syntax.{w16}
-use mir.Val.{SFits}
 use mir.ValLaws.{toZ-ofZ}
 use Rattle.figures.proofs.half_turn.opposite.Statement.{statement}
 use Rattle.figures.proofs.half_turn.opposite.Tie as tie

@@ -1,6 +1,6 @@
 -- `figures::words::list8` ends, and the list is read inside its length.
 use borrow.Author.Needs.{needs}
-use Prim.Native.Nat.{ℕ, _-_}
+use Prim.Native.Nat.{_-_}
 use lib.ListN.{length}
 use Rattle.figures.proofs.words.list8.Statement.{statement}
 use Rattle.figures.proofs.words.list8.Tie as tie

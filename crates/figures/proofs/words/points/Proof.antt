@@ -1,6 +1,6 @@
 -- `figures::words::points` ends, and both lists are read inside their lengths.
 use borrow.Author.Needs.{needs}
-use Prim.Native.Nat.{ℕ, _-_}
+use Prim.Native.Nat.{_-_}
 use lib.ListN.{length}
 use Rattle.figures.proofs.words.points.Statement.{statement}
 use Rattle.figures.proofs.words.points.Tie as tie
