@@ -14,7 +14,7 @@ use Rattle.g9932.specs.declared.Mode.{Mode}
 use Rattle.g9932.specs.declared.Mode.the-variants.{Coded}
 use Rattle.g9932.specs.declared.Checked.{Checked}
 use Rattle.g9932.specs.declared.Answer.{Answer}
-use Rattle.clevisroot.specs.Told.{modeOf, told, reported, Small, Reordering, Encoding, Reading}
+use Rattle.clevisroot.specs.CAnswers.{modeOf, answerOf, reported, Small, Reordering, Encoding, Reading}
 use Rattle.clevisroot.specs.declared.SymbolAnswer.{SymbolAnswer}
 use Rattle.clevisroot.specs.declared.PointAnswer.{PointAnswer}
 use Rattle.clevisroot.proofs.Places.{small-table, small-order, small-encode, small-read}
@@ -33,7 +33,7 @@ small-checked e s = rw e at s
 pub small-answer : {a b : Answer} → a ≡ b → Small (reportOf a .verdict) → Small (reportOf b .verdict)
 small-answer e s = rw e at s
 
-pub told-as : {a b : Checked} {v : SymbolAnswer} → a ≡ b → v ≡ told (verdictOf b) 0 → v ≡ told (verdictOf a) 0
+pub told-as : {a b : Checked} {v : SymbolAnswer} → a ≡ b → v ≡ answerOf (verdictOf b) 0 → v ≡ answerOf (verdictOf a) 0
 told-as e t = rw e t
 
 pub reported-as : {a b : Answer} {v : SymbolAnswer} → a ≡ b → v ≡ reported (reportOf b) → v ≡ reported (reportOf a)
@@ -53,15 +53,15 @@ module _ {m n : Mode} (b g t : List ℕ) (e : m ≡ n) where
   pub checked-small : (a : Checked) → verdictOf a ≡ tableVerdict (tables m b g t) → Small (verdictOf a)
   checked-small a h = rw h (small-table (tables m b g t))
 
-  pub checked-told : (a : Checked) {v : SymbolAnswer} → verdictOf a ≡ tableVerdict (tables m b g t) → v ≡ told (verdictOf a) 0 → v ≡ told (tableVerdict (tables n b g t)) 0
-  checked-told a h k = k ∙ ap (λ (w : Verdict). told w 0) h ∙ rw e
+  pub checked-told : (a : Checked) {v : SymbolAnswer} → verdictOf a ≡ tableVerdict (tables m b g t) → v ≡ answerOf (verdictOf a) 0 → v ≡ answerOf (tableVerdict (tables n b g t)) 0
+  checked-told a h k = k ∙ ap (λ (w : Verdict). answerOf w 0) h ∙ rw e
 
   pub order-small : {a : Checked} {order ents orderAfter entsAfter : List ℕ} → Reorders (tables m b g t) order ents a orderAfter entsAfter → Small (verdictOf a)
   order-small {order = order} {ents = ents} h = rw (h .answer) (small-order (tables m b g t) (length order) (length ents))
 
-  pub order-told : {a : Checked} {v : SymbolAnswer} {order ents orderAfter entsAfter : List ℕ} → Reorders (tables m b g t) order ents a orderAfter entsAfter → v ≡ told (verdictOf a) 0
+  pub order-told : {a : Checked} {v : SymbolAnswer} {order ents orderAfter entsAfter : List ℕ} → Reorders (tables m b g t) order ents a orderAfter entsAfter → v ≡ answerOf (verdictOf a) 0
       → Reordering (tables n b g t) order ents v orderAfter entsAfter
-  order-told h k = rw (sym e) (record { answer = k ∙ ap (λ (w : Verdict). told w 0) (h .answer); tonesHold = h .tonesHold; bitsHold = h .bitsHold })
+  order-told h k = rw (sym e) (record { answer = k ∙ ap (λ (w : Verdict). answerOf w 0) (h .answer); tonesHold = h .tonesHold; bitsHold = h .bitsHold })
 
   pub encode-small : {f : List ℕ} {r : ℕ} {xs ys xsAfter ysAfter : List ℤ} {a : Answer} → Encodes (tables m b g t) f r xs ys a xsAfter ysAfter → Small (reportOf a .verdict)
   unfolding reportBy

@@ -26,7 +26,7 @@ use Rattle.g9932.proofs.Accepted.{accepted-tables}
 use Rattle.g9932.proofs.Formed.{length-pairsOf}
 use Rattle.g9932.proofs.Identities.{or-false}
 use Rattle.g9932.proofs.Reordering.{length-order}
-use Rattle.clevisroot.specs.Told.{Small}
+use Rattle.clevisroot.specs.CAnswers.{Small}
 
 index : Found → ℕ
 index (At k) = k

@@ -4,7 +4,7 @@ ghost use Prim.Native.Nat.{_≤_};
 ghost use Rattle.g9932.specs.Sizes.{tables, point};
 ghost use Rattle.g9932.specs.Refusals.{numberOf, placeOf, refused, tableVerdict};
 ghost use Rattle.g9932.specs.Answers.{verdictOf, reportOf, mapLabel, readPoint, drawAnswer};
-ghost use Rattle.clevisroot.specs.Told.{modeOf, told, reported, pointTold, labelTold, drawTold, Small, Reordering, Encoding, Reading};
+ghost use Rattle.clevisroot.specs.CAnswers.{modeOf, answerOf, reported, pointAnswered, labelAnswered, drawAnswered, Small, Reordering, Encoding, Reading};
 use g9932::Answer;
 use g9932::Checked;
 use g9932::Drawn;
@@ -60,7 +60,7 @@ fn mode_of(coded: u8) -> Mode
 // A refusal, with the register as it came.
 fn refuse(refusal: Refusal, reg: u32) -> SymbolAnswer
     requires { ⌜ placeOf refusal ≤ 8192 ⌝ }
-    ensures { λ r. ⌜ r ≡ told (refused (numberOf refusal) (placeOf refusal)) reg ⌝ }
+    ensures { λ r. ⌜ r ≡ answerOf (refused (numberOf refusal) (placeOf refusal)) reg ⌝ }
 {
     SymbolAnswer {
         number: number_of(refusal),
@@ -73,7 +73,7 @@ fn refuse(refusal: Refusal, reg: u32) -> SymbolAnswer
 // The answer of checking and of re-ordering; no register was given.
 fn checked(answer: Checked) -> SymbolAnswer
     requires { ⌜ Small (verdictOf answer) ⌝ }
-    ensures { λ r. ⌜ r ≡ told (verdictOf answer) 0 ⌝ }
+    ensures { λ r. ⌜ r ≡ answerOf (verdictOf answer) 0 ⌝ }
 {
     match answer {
         Checked::Accepted(size) => SymbolAnswer {
@@ -109,7 +109,7 @@ pub extern "C" fn clevisroot_check(
     gains: &[u16],
     tones: &[u16],
 ) -> SymbolAnswer
-    ensures { λ r. ⌜ r ≡ told (tableVerdict (tables (modeOf coded) (now (bits .entry)) (now (gains .entry)) (now (tones .entry)))) 0 ⌝ }
+    ensures { λ r. ⌜ r ≡ answerOf (tableVerdict (tables (modeOf coded) (now (bits .entry)) (now (gains .entry)) (now (tones .entry)))) 0 ⌝ }
 {
     checked(tables::check_tables(mode_of(coded), bits, gains, tones))
 }
@@ -162,7 +162,7 @@ pub extern "C" fn clevisroot_read(
 
 #[no_mangle]
 pub extern "C" fn clevisroot_map_label(bits: u8, label: u32) -> PointAnswer
-    ensures { λ r. ⌜ r ≡ pointTold (mapLabel bits label) ⌝ }
+    ensures { λ r. ⌜ r ≡ pointAnswered (mapLabel bits label) ⌝ }
 {
     let mapped = constellation::map_label(bits, label);
     match mapped {
@@ -177,7 +177,7 @@ pub extern "C" fn clevisroot_map_label(bits: u8, label: u32) -> PointAnswer
 
 #[no_mangle]
 pub extern "C" fn clevisroot_read_point(bits: u8, x: i16, y: i16) -> LabelAnswer
-    ensures { λ r. ⌜ r ≡ labelTold (readPoint bits (point x y)) ⌝ }
+    ensures { λ r. ⌜ r ≡ labelAnswered (readPoint bits (point x y)) ⌝ }
 {
     let labelled = constellation::read_point(bits, x, y);
     match labelled {
@@ -191,7 +191,7 @@ pub extern "C" fn clevisroot_read_point(bits: u8, x: i16, y: i16) -> LabelAnswer
 
 #[no_mangle]
 pub extern "C" fn clevisroot_draw(reg: u32) -> DrawAnswer
-    ensures { λ r. ⌜ r ≡ drawTold (drawAnswer reg) ⌝ }
+    ensures { λ r. ⌜ r ≡ drawAnswered (drawAnswer reg) ⌝ }
 {
     let drawn = prbs::draw(reg);
     match drawn {

@@ -6,9 +6,9 @@ pub mod Tops
 pub mod Signed
 pub mod Grid
 pub mod Reading
-pub mod Shapes
-pub mod Shaped
+pub mod Layouts
+pub mod MapByLayout
 pub mod Origin
 pub mod Spread
 pub mod TopBits
-pub mod ByShape
+pub mod DemapByLayout

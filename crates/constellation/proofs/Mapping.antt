@@ -21,7 +21,7 @@ use Rattle.g9932.proofs.Coordinates.{three, five, coords, axisBits-pos, coords-
 use Rattle.g9932.proofs.Constellations.{point-coords}
 use Rattle.constellation.proofs.Lanes.{twice}
 use Rattle.constellation.proofs.Sizes.{own-bits, word-lt, bits-lt, half-le}
-use Rattle.constellation.specs.Widened.{pairs, topFive, topFour, widened, wordOf, xBits, yBits, axis, half}
+use Rattle.constellation.specs.Widened.{pairs, topFive, topFour, widened, wordOf, xBits, yBits, axis, signWeight}
 
 -- two functions of numbers agree below n, by a test of all of them
 pub rule : (f g : ℕ → ℕ) (n : ℕ) → first (λ k. not (eqb (f k) (g k))) n ≡ Nothing → (k : ℕ) → k < n → f k ≡ g k
@@ -47,17 +47,17 @@ axis-cons : (k e : ℕ) (a : Bool) (xs : List Bool) → 1 ≤ length xs → Axis
 unfolding num
 axis-cons k e a xs h ih = rw (sign-cons a xs h, twice-sign (signBit xs) (length xs)) (omega (arith, pow-suc 2 k))
 
-axis-value : (k e : ℕ) (xs : List Bool) → 1 ≤ length xs → Axis k xs e → twosComplement (true ∷ xs) ≡ axis (half k) e
+axis-value : (k e : ℕ) (xs : List Bool) → 1 ≤ length xs → Axis k xs e → twosComplement (true ∷ xs) ≡ axis (signWeight k) e
 unfolding num weight twosComplement
 axis-value k e xs h ih = go (signBit xs) refl ih
   where
-    go : (s : Bool) → signBit xs ≡ s → 2 * 2 ^ k + num xs ≡ e + cond s (2 ^ length xs) 0 → twosComplement (true ∷ xs) ≡ axis (half k) e
+    go : (s : Bool) → signBit xs ≡ s → 2 * 2 ^ k + num xs ≡ e + cond s (2 ^ length xs) 0 → twosComplement (true ∷ xs) ≡ axis (signWeight k) e
     go false p q =
-        let v : 1 + 2 * num xs ≡ 2 * e + 1 - half k = omega arith in
-        rw (sign-cons true xs h, p, le-ltb (2 * e + 1) (half k) (omega arith)) (ap pos v)
+        let v : 1 + 2 * num xs ≡ 2 * e + 1 - signWeight k = omega arith in
+        rw (sign-cons true xs h, p, le-ltb (2 * e + 1) (signWeight k) (omega arith)) (ap pos v)
     go true p q =
-        let v : 2 ^ suc (length xs) - (1 + 2 * num xs) ≡ suc (half k - suc (2 * e + 1)) = omega (arith, pow-suc 2 (length xs), num-lt xs) in
-        rw (sign-cons true xs h, p, lt-ltb (2 * e + 1) (half k) (omega (arith, num-lt xs)), v)
+        let v : 2 ^ suc (length xs) - (1 + 2 * num xs) ≡ suc (signWeight k - suc (2 * e + 1)) = omega (arith, pow-suc 2 (length xs), num-lt xs) in
+        rw (sign-cons true xs h, p, lt-ltb (2 * e + 1) (signWeight k) (omega (arith, num-lt xs)), v)
 
 -- ---- two bits more
 
@@ -175,7 +175,7 @@ worded (suc (suc (suc (suc (suc (suc b)))))) l (suc (suc n)) k h e =
 
 -- The point of a label has the coordinates that its word gives.
 pub point-word : (b l : ℕ) → 1 ≤ b → b ≤ 15 → l < 2 ^ b
-    → pointOf b (bits b l) ≡ point (axis (half (pairs b)) (xBits (wordOf b l))) (axis (half (pairs b)) (yBits (wordOf b l)))
+    → pointOf b (bits b l) ≡ point (axis (signWeight (pairs b)) (xBits (wordOf b l))) (axis (signWeight (pairs b)) (yBits (wordOf b l)))
 point-word b l h k s =
     let r = worded b l (2 * pairs b + 4) h s refl in
     let some = some-bits b l h in
@@ -184,7 +184,7 @@ point-word b l h k s =
     let y = axis-value (pairs b) (num (evens (bits (2 * pairs b + 4) (wordOf b l)))) (coords (bits b l) .ys) (some .1) (r .y) in
     let p : pointOf b (bits b l) ≡ point (twosComplement (true ∷ coords (bits b l) .xs)) (twosComplement (true ∷ coords (bits b l) .ys)) =
     rw (length-bits b l) at (point-coords (bits b l)) in
-    p ∙ ap₂ point (x ∙ ap (axis (half (pairs b))) (sym (own .0))) (y ∙ ap (axis (half (pairs b))) (sym (own .1)))
+    p ∙ ap₂ point (x ∙ ap (axis (signWeight (pairs b))) (sym (own .0))) (y ∙ ap (axis (signWeight (pairs b))) (sym (own .1)))
 
 -- both parts of a label's word, from one number
 pub record Parts (b l both : ℕ) : Type 0 where

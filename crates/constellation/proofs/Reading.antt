@@ -16,41 +16,41 @@ use Rattle.g9932.specs.Points.{pointOf, labelOf, isLabel, labelBits}
 use Rattle.g9932.specs.Answers.{labelFound, toneDone, toneRefused}
 use Rattle.g9932.proofs.Words.{bits-num, num-bits, num-lt, length-bits, weight-le}
 use Rattle.g9932.proofs.Labels.{label-point, label-back}
-use Rattle.constellation.specs.Widened.{pairs, oddLabel, wordOf, xBits, yBits, woven, half, axis}
+use Rattle.constellation.specs.Widened.{pairs, mappingLabel, wordOf, xBits, yBits, interleaved, signWeight, axis}
 use Rattle.constellation.specs.Reading.{SoughtIs, Steps, Narrowed, ownLabel, topSix, inGrid}
 use Rattle.constellation.proofs.Grid.{grid-word, word-grid}
-use Rattle.constellation.proofs.Halves.{woven-apart, apart-woven}
+use Rattle.constellation.proofs.Halves.{interleaved-apart, deinterleave-interleaved}
 use Rattle.constellation.proofs.Mapping.{point-word}
 use Rattle.constellation.proofs.Signed.{cut-steps}
 use Rattle.constellation.proofs.Sizes.{label-lt, word-lt, word-16, bits-lt, half-le}
 
 -- ---- the word of two coordinates' bits
 
-woven-lt : (m : ℕ) (xs ys : List Bool) → num xs < 2 ^ m → num ys < 2 ^ m → num (woven xs ys) < 2 ^ (2 * m)
+interleaved-lt : (m : ℕ) (xs ys : List Bool) → num xs < 2 ^ m → num ys < 2 ^ m → num (interleaved xs ys) < 2 ^ (2 * m)
 unfolding num
-woven-lt m [] ys hx hy = pow-pos (2 * m)
-woven-lt m (x ∷ xs) [] hx hy = pow-pos (2 * m)
-woven-lt zero (x ∷ xs) (y ∷ ys) hx hy =
-    let r = woven-lt zero xs ys (omega arith) (omega arith) in
+interleaved-lt m [] ys hx hy = pow-pos (2 * m)
+interleaved-lt m (x ∷ xs) [] hx hy = pow-pos (2 * m)
+interleaved-lt zero (x ∷ xs) (y ∷ ys) hx hy =
+    let r = interleaved-lt zero xs ys (omega arith) (omega arith) in
     omega arith
-woven-lt (suc m) (x ∷ xs) (y ∷ ys) hx hy =
+interleaved-lt (suc m) (x ∷ xs) (y ∷ ys) hx hy =
     let e : 2 * suc m ≡ suc (suc (2 * m)) = omega arith in
     let p = pow-suc 2 m in
-    let r = woven-lt m xs ys (omega arith) (omega arith) in
+    let r = interleaved-lt m xs ys (omega arith) (omega arith) in
     rw e (omega (arith, pow-suc 2 (suc (2 * m)), pow-suc 2 (2 * m), weight-le x, weight-le y))
 
-pub woven-word : (k x y : ℕ) → k ≤ 6 → x < half k → y < half k → num (woven (bits 8 x) (bits 8 y)) < 2 ^ (4 + 2 * k)
-woven-word k x y h hx hy =
+pub interleaved-word : (k x y : ℕ) → k ≤ 6 → x < signWeight k → y < signWeight k → num (interleaved (bits 8 x) (bits 8 y)) < 2 ^ (4 + 2 * k)
+interleaved-word k x y h hx hy =
     let e : 2 * suc (suc k) ≡ 4 + 2 * k = omega arith in
-    let p : half k ≡ 2 ^ suc (suc k) = omega (arith, pow-suc 2 (suc k), pow-suc 2 k) in
+    let p : signWeight k ≡ 2 ^ suc (suc k) = omega (arith, pow-suc 2 (suc k), pow-suc 2 k) in
     let l = half-le k h in
     let nx : num (bits 8 x) ≡ x = num-bits 8 x ∙ mod-eq-of-lt (omega arith) in
     let ny : num (bits 8 y) ≡ y = num-bits 8 y ∙ mod-eq-of-lt (omega arith) in
-    rw e at (woven-lt (suc (suc k)) (bits 8 x) (bits 8 y) (omega arith) (omega arith))
+    rw e at (interleaved-lt (suc (suc k)) (bits 8 x) (bits 8 y) (omega arith) (omega arith))
 
 -- ---- the label back from the odd one
 
-own-label : (b m : ℕ) → 1 ≤ b → m < 2 ^ b → ownLabel b (oddLabel b m) ≡ m
+own-label : (b m : ℕ) → 1 ≤ b → m < 2 ^ b → ownLabel b (mappingLabel b m) ≡ m
 own-label b m h s = go (ltb b 2) refl
   where
     go : (c : Bool) → ltb b 2 ≡ c → cond c (cond c (3 * m) m % 2) (cond c (3 * m) m) ≡ m
@@ -63,10 +63,10 @@ own-label b m h s = go (ltb b 2) refl
 -- ---- the label that is found
 
 module _ (b : ℕ) (x y : ℤ) (u v w n : ℕ) (low : 1 ≤ b) (high : b ≤ 15)
-    (ux : Steps (half (pairs b)) x u) (vy : Steps (half (pairs b)) y v)
-    (word : w ≡ num (woven (bits 8 (u / 2 % half (pairs b))) (bits 8 (v / 2 % half (pairs b))))) (back : Narrowed (pairs b) w n) where
+    (ux : Steps (signWeight (pairs b)) x u) (vy : Steps (signWeight (pairs b)) y v)
+    (word : w ≡ num (interleaved (bits 8 (u / 2 % signWeight (pairs b))) (bits 8 (v / 2 % signWeight (pairs b))))) (back : Narrowed (pairs b) w n) where
   abbrev h : ℕ
-  h = half (pairs b)
+  h = signWeight (pairs b)
 
   -- its word is a label's, and its coordinates have the bits of the word
   unfoldable pub test : Bool
@@ -85,10 +85,10 @@ module _ (b : ℕ) (x y : ℤ) (u v w n : ℕ) (low : 1 ≤ b) (high : b ≤ 15)
       let gy : y ≡ axis h (v / 2 % h) = vy .back (v / 2 % h) (sym (eqb-true (2 * (v / 2 % h) + 65536) v (c .1))) in
       let g = grid-word b w (a .0) in
       let m = g .0 in
-      let own : ownLabel b n ≡ m = ap (ownLabel b) (back (oddLabel b m) (label-lt b m low (g .1)) (sym (g .2))) ∙ own-label b m low (g .1) in
+      let own : ownLabel b n ≡ m = ap (ownLabel b) (back (mappingLabel b m) (label-lt b m low (g .1)) (sym (g .2))) ∙ own-label b m low (g .1) in
       let l = half-le (pairs b) few in
       let z : 0 < h = omega (arith, pow-pos (pairs b)) in
-      let parts = apart-woven (u / 2 % h) (v / 2 % h) (omega (arith, mod-lt (u / 2) z)) (omega (arith, mod-lt (v / 2) z)) in
+      let parts = deinterleave-interleaved (u / 2 % h) (v / 2 % h) (omega (arith, mod-lt (u / 2) z)) (omega (arith, mod-lt (v / 2) z)) in
       let fx : xBits (wordOf b m) ≡ u / 2 % h = ap xBits (g .2 ∙ word) ∙ parts .0 in
       let fy : yBits (wordOf b m) ≡ v / 2 % h = ap yBits (g .2 ∙ word) ∙ parts .1 in
       let q : pointOf b (bits b m) ≡ point x y = point-word b m low high (g .1) ∙ ap₂ point (ap (axis h) fx ∙ sym gx) (ap (axis h) fy ∙ sym gy) in
@@ -109,8 +109,8 @@ module _ (b : ℕ) (x y : ℤ) (u v w n : ℕ) (low : 1 ≤ b) (high : b ≤ 15)
       let gy : v ≡ 2 * yBits (wordOf b m) + 65536 = vy .to (yBits (wordOf b m)) (ap (λ (q : Point). q .py) p) in
       let fx : u / 2 % h ≡ xBits (wordOf b m) = ap (λ (i : ℕ). i / 2 % h) gx ∙ cut-steps (pairs b) (xBits (wordOf b m)) few (a .0) in
       let fy : v / 2 % h ≡ yBits (wordOf b m) = ap (λ (i : ℕ). i / 2 % h) gy ∙ cut-steps (pairs b) (yBits (wordOf b m)) few (a .1) in
-      let fw : w ≡ wordOf b m = word ∙ rw (fx, fy) (woven-apart (wordOf b m) (word-16 (pairs b) (wordOf b m) few t)) in
-      let fl : ownLabel b n ≡ m = ap (ownLabel b) (back (oddLabel b m) (label-lt b m low s) fw) ∙ own-label b m low s in
+      let fw : w ≡ wordOf b m = word ∙ rw (fx, fy) (interleaved-apart (wordOf b m) (word-16 (pairs b) (wordOf b m) few t)) in
+      let fl : ownLabel b n ≡ m = ap (ownLabel b) (back (mappingLabel b m) (label-lt b m low s) fw) ∙ own-label b m low s in
       let g : inGrid b (topSix (pairs b) w) ≡ true = ap (λ (i : ℕ). inGrid b (topSix (pairs b) i)) fw ∙ word-grid b m s in
       let tx = eq-eqb (2 * (u / 2 % h) + 65536) u (rw fx (sym gx)) in
       let ty = eq-eqb (2 * (v / 2 % h) + 65536) v (rw fy (sym gy)) in

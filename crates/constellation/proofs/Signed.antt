@@ -14,10 +14,10 @@ use lib.Signed.{mag, nonNeg}
 use mir.Syntax.{w16, w32}
 use mir.Val.{Fits, SFits, toZ, ofZ}
 use mir.ValLaws.{toZ-pos, toZ-ofZ}
-use Rattle.constellation.specs.Widened.{half, axis}
+use Rattle.constellation.specs.Widened.{signWeight, axis}
 use Rattle.constellation.specs.Reading.{Steps}
-use Rattle.constellation.specs.Shaped.{scaled}
-use Rattle.constellation.specs.Labels.{Power, OnAxis}
+use Rattle.constellation.specs.MapByLayout.{scaled}
+use Rattle.constellation.specs.DemapByLayout.{Power, OnAxis}
 use Rattle.constellation.proofs.Sizes.{half-le}
 
 -- ---- a coordinate of its bits
@@ -143,13 +143,13 @@ steps-law h r z p e =
 
 -- ---- the steps cut to the width
 
-half-pow : (k : ℕ) → half k ≡ 2 ^ suc (suc k)
+half-pow : (k : ℕ) → signWeight k ≡ 2 ^ suc (suc k)
 half-pow k = omega (arith, pow-suc 2 (suc k), pow-suc 2 k)
 
-pub cut-law : (k h n : ℕ) → h ≡ half k → bitAnd n (h - 1) ≡ n % h
+pub cut-law : (k h n : ℕ) → h ≡ signWeight k → bitAnd n (h - 1) ≡ n % h
 cut-law k h n e = rw (e ∙ half-pow k) (and-mask n (suc (suc k)))
 
-pub cut-steps : (k d : ℕ) → k ≤ 6 → d < half k → (2 * d + 65536) / 2 % half k ≡ d
+pub cut-steps : (k d : ℕ) → k ≤ 6 → d < signWeight k → (2 * d + 65536) / 2 % signWeight k ≡ d
 cut-steps k d l s =
     let u : (2 * d + 65536) / 2 ≡ 2 ^ (13 - k) * 2 ^ suc (suc k) + d = omega (arith, all) in
     rw (u, half-pow k) (digits-mod (2 ^ (13 - k)) (omega (arith, half-pow k)))
@@ -202,7 +202,7 @@ axis-16 m u z p r =
     f : ℕ
     f = upped m u
 
-    width : 4 * m ≡ half k
+    width : 4 * m ≡ signWeight k
     width = ap (λ (n : ℕ). 4 * n) (p .2)
 
     mask : bitAnd f (4 * m - 1) ≡ f % (4 * m)

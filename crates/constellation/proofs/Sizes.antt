@@ -12,7 +12,7 @@ use Rattle.g9932.specs.Bits.{num, odd, bits, first}
 use Rattle.g9932.specs.Points.{evens, odds}
 use Rattle.g9932.proofs.Words.{weight-odd, weight-le}
 use Rattle.g9932.proofs.Search.{first-no}
-use Rattle.constellation.specs.Widened.{pairs, oddLabel, topFive, topFour, widened, wordOf, half, xBits, yBits}
+use Rattle.constellation.specs.Widened.{pairs, mappingLabel, topFive, topFour, widened, wordOf, signWeight, xBits, yBits}
 
 -- ---- words
 
@@ -33,7 +33,7 @@ widened-lt k l h =
 pub label-16 : (k l : ℕ) → k ≤ 6 → l < 2 ^ (2 * k + 3) → l < 32768
 label-16 k l h s = lt-of-lt-of-le s (pow-mono {i = 2 * k + 3} {j = 15} (omega arith))
 
-pub label-lt : (b l : ℕ) → 1 ≤ b → l < 2 ^ b → oddLabel b l < 2 ^ (2 * pairs b + 3)
+pub label-lt : (b l : ℕ) → 1 ≤ b → l < 2 ^ b → mappingLabel b l < 2 ^ (2 * pairs b + 3)
 label-lt b l h k = go (ltb b 2) refl
   where
     go : (c : Bool) → ltb b 2 ≡ c → cond c (3 * l) l < 2 ^ (2 * pairs b + 3)
@@ -88,11 +88,11 @@ own-bits k w h s =
     half-lt : (n : ℕ) → w < 2 ^ suc n → w / 2 < 2 ^ n
     half-lt n t = omega (arith, pow-suc 2 n)
 
-pub bits-lt : (k w : ℕ) → k ≤ 6 → w < 2 ^ (4 + 2 * k) → (xBits w < half k) × (yBits w < half k)
+pub bits-lt : (k w : ℕ) → k ≤ 6 → w < 2 ^ (4 + 2 * k) → (xBits w < signWeight k) × (yBits w < signWeight k)
 bits-lt k w h s =
     let own = own-bits k w h s in
     let e : 2 * k + 4 ≡ suc (2 * k + 3) = omega arith in
-    let p : 2 ^ suc (suc k) ≡ half k = omega (arith, pow-suc 2 (suc k), pow-suc 2 k) in
+    let p : 2 ^ suc (suc k) ≡ signWeight k = omega (arith, pow-suc 2 (suc k), pow-suc 2 k) in
     let x : num (odds (bits (2 * k + 4) w)) < 2 ^ suc (suc k) = rw (e, odds-evens (2 * k + 3) w) (evens-lt (suc (suc k)) (2 * k + 3) (w / 2) (omega arith)) in
     let y = evens-lt (suc (suc k)) (2 * k + 4) w (omega arith) in
     (omega arith, omega arith)
@@ -100,10 +100,10 @@ bits-lt k w h s =
 -- ---- the word of a label of b bits
 
 pub word-lt : (b l : ℕ) → 1 ≤ b → l < 2 ^ b → wordOf b l < 2 ^ (4 + 2 * pairs b)
-word-lt b l h k = widened-lt (pairs b) (oddLabel b l) (label-lt b l h k)
+word-lt b l h k = widened-lt (pairs b) (mappingLabel b l) (label-lt b l h k)
 
 pub word-16 : (k w : ℕ) → k ≤ 6 → w < 2 ^ (4 + 2 * k) → w < 65536
 word-16 k w h s = lt-of-lt-of-le s (pow-mono {i = 4 + 2 * k} {j = 16} (omega arith))
 
-pub half-le : (k : ℕ) → k ≤ 6 → half k ≤ 256
+pub half-le : (k : ℕ) → k ≤ 6 → signWeight k ≤ 256
 half-le k h = let e = pow-mono {i = k} {j = 6} h in omega arith

@@ -12,8 +12,8 @@ use lib.ListN.{length}
 use Rattle.g9932.specs.Bits.{weight, num, odd, bits, first}
 use Rattle.g9932.proofs.Search.{first-no}
 use Rattle.g9932.proofs.Words.{length-bits}
-use Rattle.constellation.specs.Widened.{woven}
-use Rattle.constellation.specs.Labels.{spread, spaced, WordUp}
+use Rattle.constellation.specs.Widened.{interleaved}
+use Rattle.constellation.specs.DemapByLayout.{spread, spaced, WordUp}
 use Rattle.constellation.proofs.Lanes.{twice}
 use Rattle.constellation.proofs.Mapping.{rule}
 
@@ -45,17 +45,17 @@ spaced-up (suc j) e h =
 
 -- ---- two of them in turn
 
-woven-spread : (xs ys : List Bool) → length xs ≡ length ys → num (woven xs ys) ≡ 2 * num (spread xs) + num (spread ys)
+interleaved-spread : (xs ys : List Bool) → length xs ≡ length ys → num (interleaved xs ys) ≡ 2 * num (spread xs) + num (spread ys)
 unfolding num weight
-woven-spread [] [] h = refl
-woven-spread [] (y ∷ ys) h = absurd (omega arith)
-woven-spread (x ∷ xs) [] h = absurd (omega arith)
-woven-spread (x ∷ xs) (y ∷ ys) h = let r = woven-spread xs ys (omega arith) in omega arith
+interleaved-spread [] [] h = refl
+interleaved-spread [] (y ∷ ys) h = absurd (omega arith)
+interleaved-spread (x ∷ xs) [] h = absurd (omega arith)
+interleaved-spread (x ∷ xs) (y ∷ ys) h = let r = interleaved-spread xs ys (omega arith) in omega arith
 
 pub word-up : (c x y : ℕ) → x * c < 256 → y * c < 256 → WordUp c x y (2 * spaced (x * c) + spaced (y * c))
 word-up c x y hx hy j e =
     let p = 2 ^ (2 * j) in
     let ex : spaced (x * c) ≡ spaced x * p = rw e (spaced-up j x (rw e at hx)) in
     let ey : spaced (y * c) ≡ spaced y * p = rw e (spaced-up j y (rw e at hy)) in
-    let w = woven-spread (bits 8 x) (bits 8 y) (length-bits 8 x ∙ sym (length-bits 8 y)) in
+    let w = interleaved-spread (bits 8 x) (bits 8 y) (length-bits 8 x ∙ sym (length-bits 8 y)) in
     rw (ex, ey, w) (omega (arith, add-mul (2 * spaced x) (spaced y) p, mul-assoc 2 (spaced x) p))

@@ -10,8 +10,8 @@ use Rattle.g9932.specs.Bits.{first}
 use Rattle.g9932.proofs.Search.{first-no}
 use Rattle.constellation.specs.Widened.{topFive, topFour, widened}
 use Rattle.constellation.specs.Reading.{inGrid}
-use Rattle.constellation.specs.Shapes.{shapeOf}
-use Rattle.constellation.specs.Labels.{TopsBy}
+use Rattle.constellation.specs.Layouts.{layoutOf}
+use Rattle.constellation.specs.DemapByLayout.{TopsBy}
 use Rattle.constellation.proofs.Grid.{bit-rule}
 use Rattle.constellation.proofs.Mapping.{rule}
 
@@ -48,17 +48,17 @@ abbrev three : ℕ → ℕ
 three s = bitOr (outer s * 4 % 65536) (bitOr (high s * 2 % 65536) (low s))
 
 abbrev xNear : ℕ → ℕ → ℕ
-xNear shape s = cond (eqb (shape / 256 % 128) 1) (yNext s) (bitXor (s / 2 % 2) 1)
+xNear layout s = cond (eqb (layout / 256 % 128) 1) (yNext s) (bitXor (s / 2 % 2) 1)
 
 abbrev yNear : ℕ → ℕ → ℕ
-yNear shape s = cond (eqb (shape / 256 % 128) 1) (bitXor (xNext s) 1) (bitXor (s % 2) 1)
+yNear layout s = cond (eqb (layout / 256 % 128) 1) (bitXor (xNext s) 1) (bitXor (s % 2) 1)
 
 -- 0 where the constellation has such a word
 abbrev off : ℕ → ℕ → ℕ → ℕ → ℕ
-off shape s x y =
+off layout s x y =
     bitOr
     (bitOr (bitOr (bitAnd (xOuter s) (bitXor x (xSign s))) (bitAnd (yOuter s) (bitXor y (ySign s)))) (bitAnd (xOuter s) (yOuter s)))
-    (bitOr (bitAnd (outer s) (bitXor (shape / 128 % 2) 1)) (bitAnd (shape / 32768) (bitXor (high s) (low s))))
+    (bitOr (bitAnd (outer s) (bitXor (layout / 128 % 2) 1)) (bitAnd (layout / 32768) (bitXor (high s) (low s))))
 
 -- ---- the top three bits of the label
 
@@ -77,7 +77,7 @@ three-back = rule (λ q. three (4 * topFour q)) (λ q. q / 4) 32 refl
 -- ---- the grid: every bit count from 1, and every top six that a word can have
 
 abbrev grid : ℕ → ℕ → Bool
-grid b s = eqb (off (shapeOf b) s (xNear (shapeOf b) s) (yNear (shapeOf b) s)) 0
+grid b s = eqb (off (layoutOf b) s (xNear (layoutOf b) s) (yNear (layoutOf b) s)) 0
 
 -- words of up to three bits have two zeros there
 abbrev sixAt : ℕ → ℕ → ℕ
@@ -104,8 +104,8 @@ grid-is (suc j) s l m h z =
     at true e = let k = z (ltb-true (suc j) 4 e) in rw e (omega arith)
     at false e = rw e
 
-pub tops-law : (shape s x y : ℕ) → s < 64 → x ≡ xNear shape s → y ≡ yNear shape s → TopsBy shape s (eqb (off shape s x y) 0) (three s)
-tops-law shape s x y h ex ey =
+pub tops-law : (layout s x y : ℕ) → s < 64 → x ≡ xNear layout s → y ≡ yNear layout s → TopsBy layout s (eqb (off layout s x y) 0) (three s)
+tops-law layout s x y h ex ey =
     record {
       few = three-few s h;
       threeIs = λ q l e. three-four s h ∙ ap (λ (n : ℕ). three (4 * n)) (sym e) ∙ three-back q l;

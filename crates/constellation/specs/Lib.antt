@@ -1,5 +1,5 @@
 pub mod Widened
 pub mod Reading
-pub mod Shapes
-pub mod Shaped
-pub mod Labels
+pub mod Layouts
+pub mod MapByLayout
+pub mod DemapByLayout

@@ -15,8 +15,8 @@ abbrev pub pairs : ℕ → ℕ
 pairs b = b / 2 - 1
 
 -- the label of an odd bit count that has the same point
-abbrev pub oddLabel : ℕ → ℕ → ℕ
-oddLabel b l = cond (ltb b 2) (3 * l) l
+abbrev pub mappingLabel : ℕ → ℕ → ℕ
+mappingLabel b l = cond (ltb b 2) (3 * l) l
 
 -- the top five bits of a label with k pairs; where it has three bits only, the complement of the lowest two stands below them
 unfoldable pub topFive : ℕ → ℕ → ℕ
@@ -36,7 +36,7 @@ widened k l = topFour (topFive k l) * 2 ^ (2 * k) + l % 2 ^ (2 * k)
 
 -- the word of a label of b bits
 abbrev pub wordOf : ℕ → ℕ → ℕ
-wordOf b l = widened (pairs b) (oddLabel b l)
+wordOf b l = widened (pairs b) (mappingLabel b l)
 
 -- the bits of X and of Y in a word
 abbrev pub xBits : ℕ → ℕ
@@ -46,14 +46,14 @@ abbrev pub yBits : ℕ → ℕ
 yBits w = num (evens (bits 16 w))
 
 -- and the word of such bits
-abbrev pub woven : List Bool → List Bool → List Bool
-woven [] ys = []
-woven (x ∷ xs) [] = []
-woven (x ∷ xs) (y ∷ ys) = y ∷ x ∷ woven xs ys
+abbrev pub interleaved : List Bool → List Bool → List Bool
+interleaved [] ys = []
+interleaved (x ∷ xs) [] = []
+interleaved (x ∷ xs) (y ∷ ys) = y ∷ x ∷ interleaved xs ys
 
 -- the weight of a coordinate's sign bit: below it stand a bit of each pair, Xd, and the last bit
-abbrev pub half : ℕ → ℕ
-half k = 4 * 2 ^ k
+abbrev pub signWeight : ℕ → ℕ
+signWeight k = 4 * 2 ^ k
 
 -- the coordinate of bits whose sign bit is complemented
 abbrev pub axis : ℕ → ℕ → ℤ

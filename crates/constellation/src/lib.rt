@@ -1,6 +1,6 @@
 // Constellations of 1 to 15 bits: one label to a point, one point to a label, without a search.
-pub mod labels;
-pub mod points;
+pub mod demap;
+pub mod map;
 
 ghost use mathlib.Core.Path.{_≡_};
 ghost use Prim.Native.Nat.{_+_, _*_, _/_, _%_, _^_, _<_, _≤_};
@@ -9,9 +9,9 @@ ghost use Rattle.g9932.specs.Bits.{bits as bitsOf, num};
 ghost use Rattle.g9932.specs.Sizes.{point};
 ghost use Rattle.g9932.specs.Points.{pointOf, labelOf};
 ghost use Rattle.g9932.specs.Answers.{mapLabel, readPoint, mappedOf, labelledOf};
-ghost use Rattle.constellation.specs.Widened.{pairs as pairsOf, oddLabel, topFour, widened as widenedOf, xBits, yBits, woven, half as halfOf, axis as axisOf};
+ghost use Rattle.constellation.specs.Widened.{pairs as pairsOf, mappingLabel, topFour, widened as widenedOf, xBits, yBits, interleaved, signWeight, axis as axisOf};
 ghost use Rattle.constellation.specs.Reading.{SoughtIs, Steps, Narrowed, ownLabel, topSix, inGrid};
-ghost use Rattle.constellation.specs.Shapes.{shapeList};
+ghost use Rattle.constellation.specs.Layouts.{layoutList};
 use g9932::Labelled;
 use g9932::Mapped;
 use g9932::Place;
@@ -37,8 +37,8 @@ const THREE_GRID: u64 = 0x0011_1010_0101_1100;
 const ODD_GRID: u64 = 0x035f_30fa_5f0c_fac0;
 
 // The shapes of the bit counts 0 to 15: see specs/Shapes. A caller makes the table once and lends it to its loop.
-pub fn shape_table() -> [u16; 16]
-    ensures { λ r. ⌜ r ≡ shapeList ⌝ }
+pub fn layout_table() -> [u16; 16]
+    ensures { λ r. ⌜ r ≡ layoutList ⌝ }
 {
     [
         0,
@@ -80,9 +80,9 @@ fn pairs(b: u32) -> u32
 }
 
 // The label of an odd bit count that has the same point. Called by proved code only.
-pub fn odd_label(b: u32, label: u32) -> u32
+pub fn mapping_label(b: u32, label: u32) -> u32
     requires { ⌜ label < 32768 ⌝ }
-    ensures { λ r. ⌜ r ≡ oddLabel b label ⌝ }
+    ensures { λ r. ⌜ r ≡ mappingLabel b label ⌝ }
 {
     if b < 2 {
         return 3 * label;
@@ -109,7 +109,7 @@ fn widened(k: u32, label: u32) -> u32
 }
 
 // The bits of X, in the upper half, and those of Y.
-fn apart(word: u32) -> u32
+fn deinterleave(word: u32) -> u32
     requires { ⌜ word < 65536 ⌝ }
     ensures { λ r. ⌜ r ≡ 65536 * xBits word + yBits word ⌝ }
 {
@@ -120,19 +120,19 @@ fn apart(word: u32) -> u32
 }
 
 // The weight of a coordinate's sign bit.
-fn half(k: u32) -> u32
+fn sign_weight(k: u32) -> u32
     requires { ⌜ k ≤ 6 ⌝ }
-    ensures { λ r. ⌜ r ≡ halfOf k ⌝ }
+    ensures { λ r. ⌜ r ≡ signWeight k ⌝ }
 {
     4u32 << k
 }
 
 // A coordinate, from its bits with the sign bit complemented.
-fn axis(half: u32, e: u32) -> i16
-    requires { ⌜ (1 ≤ half) × (half ≤ 256) × (e < 256) ⌝ }
-    ensures { λ r. ⌜ r ≡ axisOf half e ⌝ }
+fn axis(weight: u32, e: u32) -> i16
+    requires { ⌜ (1 ≤ weight) × (weight ≤ 256) × (e < 256) ⌝ }
+    ensures { λ r. ⌜ r ≡ axisOf weight e ⌝ }
 {
-    (2 * e + 1) as i16 - half as i16
+    (2 * e + 1) as i16 - weight as i16
 }
 
 // The point of a label. Called by proved code only.
@@ -141,8 +141,8 @@ pub fn point_of(b: u32, label: u32) -> Coordinates
     ensures { λ r. ⌜ point (r .x) (r .y) ≡ pointOf b (bitsOf b label) ⌝ }
 {
     let k = pairs(b);
-    let both = apart(widened(k, odd_label(b, label)));
-    let h = half(k);
+    let both = deinterleave(widened(k, mapping_label(b, label)));
+    let h = sign_weight(k);
     Coordinates {
         x: axis(h, both / 65536),
         y: axis(h, both % 65536),
@@ -168,25 +168,25 @@ pub fn map_label(bits: u8, label: u32) -> Mapped
 }
 
 // A coordinate as steps of 2 from the left end, above 65,536.
-fn steps(half: u32, z: i16) -> u32
-    requires { ⌜ half ≤ 256 ⌝ }
-    ensures { λ r. ⌜ Steps half z r ⌝ }
+fn steps(weight: u32, z: i16) -> u32
+    requires { ⌜ weight ≤ 256 ⌝ }
+    ensures { λ r. ⌜ Steps weight z r ⌝ }
 {
-    (z as i32 + 65535) as u32 + half
+    (z as i32 + 65535) as u32 + weight
 }
 
 // The bits of a coordinate in its steps.
-fn cut(k: u32, half: u32, steps: u32) -> u32
-    requires { ⌜ half ≡ halfOf k ⌝ }
-    ensures { λ r. ⌜ r ≡ steps / 2 % half ⌝ }
+fn cut(k: u32, weight: u32, steps: u32) -> u32
+    requires { ⌜ weight ≡ signWeight k ⌝ }
+    ensures { λ r. ⌜ r ≡ steps / 2 % weight ⌝ }
 {
-    (steps / 2) & (half - 1)
+    (steps / 2) & (weight - 1)
 }
 
 // The word whose bits of X and Y these are.
-fn together(x: u32, y: u32) -> u32
+fn interleave(x: u32, y: u32) -> u32
     requires { ⌜ (x < 256) × (y < 256) ⌝ }
-    ensures { λ r. ⌜ r ≡ num (woven (bitsOf 8 x) (bitsOf 8 y)) ⌝ }
+    ensures { λ r. ⌜ r ≡ num (interleaved (bitsOf 8 x) (bitsOf 8 y)) ⌝ }
 {
     let halves = 65536 * x + y;
     let fours = (halves | (halves << 4)) & 0x0f0f_0f0f;
@@ -237,12 +237,12 @@ pub fn label_of(b: u32, x: i16, y: i16) -> Sought
     ensures { λ r. ⌜ SoughtIs r (labelOf b (point x y)) ⌝ }
 {
     let k = pairs(b);
-    let h = half(k);
+    let h = sign_weight(k);
     let u = steps(h, x);
     let v = steps(h, y);
     let ex = cut(k, h, u);
     let ey = cut(k, h, v);
-    let word = together(ex, ey);
+    let word = interleave(ex, ey);
     let six = (4 * word) >> (2 * k);
     let label = own_label(b, narrowed(k, word, six));
     let found = in_grid(b, six) & ((2 * ex + 65536 == u) & (2 * ey + 65536 == v));

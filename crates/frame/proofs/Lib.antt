@@ -1,4 +1,4 @@
 pub mod Loads
 pub mod Frames
 pub mod Stores
-pub mod Spelled
+pub mod Labels

@@ -70,9 +70,9 @@ module _ (T : Tables) (a : Accepted T) (m : T .mode ≡ Coded) (r : ℕ) (f : Li
   unfolding sentOf
   sent-coded = ap (λ (n : Mode). sentOf n (pairsIn T) g) m
 
-  heard-turned : gatherBits (classesOf T) q ≡ turnedBits (pairsIn T) (encodePairs zeroState (pairsIn T) g)
+  decoded-turned : gatherBits (classesOf T) q ≡ turnedBits (pairsIn T) (encodePairs zeroState (pairsIn T) g)
   unfolding writtenPoints
-  heard-turned =
+  decoded-turned =
       symbol-bits r (classesOf T) (sentIn T f) (loaded-classes T (orderOf T)) (length-sentIn T a r f ok)
       ∙ ap (λ (ns : List ℕ). turnedLabels ns (sentIn T f)) (load-classes T (orderOf T) ∙ ap (λ (n : Mode). bitsOf (T .bits) (reorderedTones n (T .bits) (T .tones))) m)
       ∙ tones-pairs (T .bits) (T .tones) (c .onesEven) (sentIn T f) (length-sentIn T a r f ok ∙ loads-sum T)
@@ -80,7 +80,7 @@ module _ (T : Tables) (a : Accepted T) (m : T .mode ≡ Coded) (r : ℕ) (f : Li
 
   turned-reading : readingIn T q ≡ readPairs zeroState (pairsIn T) (turnedBits (pairsIn T) (encodePairs zeroState (pairsIn T) g))
   unfolding readingIn readingOf
-  turned-reading = ap (λ (n : Mode). readingOf n (pairsIn T) (gatherBits (classesOf T) q)) m ∙ ap (readPairs zeroState (pairsIn T)) heard-turned
+  turned-reading = ap (λ (n : Mode). readingOf n (pairsIn T) (gatherBits (classesOf T) q)) m ∙ ap (readPairs zeroState (pairsIn T)) decoded-turned
 
   taken-bits : length g ≡ takenTotal (pairsIn T)
   taken-bits = length-frame (sizeOf T) f (ok .passes) ∙ sym (c .taken)

@@ -9,8 +9,8 @@ use lib.IntN.{ℤ}
 use lib.ListN.{length, take, drop, set, length-drop, length-set, drop-of-length-le}
 use lib.Pow.{pow-mono}
 use lib.Seq.{take-all, take-take, take-set-le, getD-set-same, getD-set-other}
-use Rattle.frame.proofs.Spelled.{spell-take, spell-set, within-set}
-use Rattle.frame.specs.Spelled.{spell, Within, Fits, none, own}
+use Rattle.frame.proofs.Labels.{labels-take, labels-set, within-set}
+use Rattle.frame.specs.Labels.{bitsOfLabels, Within, Fits, none, own}
 use Rattle.g9932.specs.Bits.{bits, odd, orAt, first}
 use Rattle.g9932.specs.Sizes.{entry, Point}
 use Rattle.g9932.specs.Symbol.{load, offgridTest}
@@ -23,12 +23,12 @@ use Rattle.mapper.specs.Collecting.{KeepRoom, kept, LabelsRoom, ReadsLab
 use Rattle.mapper.specs.declared.read.ToneRead.{ToneRead}
 use Rattle.mapper.proofs.EntryBits.{FitsFrom, whole, half}
 use Rattle.mapper.proofs.EntryPlaces.{Placed, nowhere, lower, upper, alone, tone-placed}
-use Rattle.mapper.proofs.ReadLoop.{Heard, heard-start, ReadAt, heard-step, heard-end, found-not}
+use Rattle.mapper.proofs.ReadLoop.{Decoded, decoded-start, ReadAt, decoded-step, decoded-end, found-not}
 use Rattle.mapper.proofs.Tones.{drop-class}
 
 -- the bits that the labels stored so far spell; a half-filled entry has one
 abbrev pub bitsDone : List ℕ → List ℕ → ℕ → List Bool
-bitsDone es ls at = spell (take (at / 2) es) (take (at / 2) ls) ++ bits (at % 2) (entry ls (at / 2))
+bitsDone es ls at = bitsOfLabels (take (at / 2) es) (take (at / 2) ls) ++ bits (at % 2) (entry ls (at / 2))
 
 -- the labels stored so far have no more bits than their entries, and a half-filled entry one bit
 pub record Stored (es ls : List ℕ) (at : ℕ) : Type 0 where
@@ -95,7 +95,7 @@ module _ (es ls : List ℕ) (l : ℕ) (bs : List ℕ) (at : ℕ) (before : Store
       let r : (at + 1) % 2 ≡ 0 = omega arith in
       record {
         room = λ m. record { atMost = m; small = small-16 n small few; there = λ _. t; both = λ _. omega (arith, small) };
-        bitsAre = rw (same, p, q, r, append-nil, spell-set es ls j (x + 2 * l) (s .there) t, s .entryIs, two-bits x l lt, append-assoc);
+        bitsAre = rw (same, p, q, r, append-nil, labels-set es ls j (x + 2 * l) (s .there) t, s .entryIs, two-bits x l lt, append-assoc);
         stored = rw same (record {
           enough = omega (arith, before .enough, length-set ls j (x + 2 * l));
           within = rw q (within-set es ls j (x + 2 * l) t (before .within) (rw (s .entryIs) (omega (arith, small))));
@@ -111,7 +111,7 @@ module _ (es ls : List ℕ) (l : ℕ) (bs : List ℕ) (at : ℕ) (before : Store
       let r : (at + 2) % 2 ≡ 0 = omega arith in
       record {
         room = λ m. record { atMost = m; small = small-16 n small few; there = λ _. t; both = λ o. absurd (omega arith) };
-        bitsAre = rw (same, two, p, q, r, append-nil (spell (take (j + 1) es) (take (j + 1) (set ls j l))), append-nil (spell (take j es) (take j ls)), spell-set es ls j l (s .there) t, s .entryIs);
+        bitsAre = rw (same, two, p, q, r, append-nil (bitsOfLabels (take (j + 1) es) (take (j + 1) (set ls j l))), append-nil (bitsOfLabels (take j es) (take j ls)), labels-set es ls j l (s .there) t, s .entryIs);
         stored = rw (same, two) (record {
           enough = omega (arith, before .enough, length-set ls j l);
           within = rw q (within-set es ls j l t (before .within) (rw (s .entryIs) small));
@@ -126,7 +126,7 @@ pub points-room : {b g order es : List ℕ} {xs ys : List ℤ} {labels : List �
 points-room room = record { bitsMost = room .bitsMost; orderMost = room .orderMost; xsLength = room .xsLength; ysLength = room .ysLength }
 
 pub record Collecting (cs : List Class) (r : ℕ) (q : List Point) (es ls : List ℕ) (at : ℕ) (monitor : Found) (register i : ℕ) : Type 0 where
-  pub heard : Heard cs r q monitor register (bitsDone es ls at) i
+  pub decoded : Decoded cs r q monitor register (bitsDone es ls at) i
   pub stored : Stored es ls at
   pub fits : FitsFrom es (map load (drop i cs)) at
   pub atMost : at ≤ 2 * i
@@ -136,7 +136,7 @@ pub collecting-start : (cs : List Class) (r : ℕ) (q : List Point) (es ls : Lis
 unfolding bits
 collecting-start cs r q es ls enough fits =
     record {
-      heard = heard-start cs r q;
+      decoded = decoded-start cs r q;
       stored = record { enough = enough; within = λ k h. absurd (omega arith); one = λ h. absurd (omega arith) };
       fits = whole refl fits;
       atMost = omega arith;
@@ -157,11 +157,11 @@ module _ {cs : List Class} {r : ℕ} {q : List Point} {es ls : List ℕ} {at : �
   pub collecting-end : length cs ≤ i → ReadsLabels cs r q es (record { offgrid = Nothing; monitor = monitor; register = register }) ls
   unfolding bits
   collecting-end h =
-      let a = heard-end (g .heard) h in
+      let a = decoded-end (g .decoded) h in
       let e : drop i cs ≡ [] = drop-of-length-le cs h in
       let n = none-left es at (rw e at (g .fits)) in
-      let whole : spell es ls ≡ bitsDone es ls at =
-      rw (n .0, append-nil, take-all (at / 2) es (n .1), ← (spell-take es (take (at / 2) ls)), take-take (length es) (at / 2) ls (n .1)) (sym (spell-take es ls)) in
+      let whole : bitsOfLabels es ls ≡ bitsDone es ls at =
+      rw (n .0, append-nil, take-all (at / 2) es (n .1), ← (labels-take es (take (at / 2) ls)), take-take (length es) (at / 2) ls (n .1)) (sym (labels-take es ls)) in
       record {
         offgridIs = a .offgridIs;
         monitorIs = λ _. a .monitorIs;
@@ -183,7 +183,7 @@ module _ {cs : List Class} {r : ℕ} {q : List Point} {es ls : List ℕ} {at : �
     pub collecting-step : Collecting cs r q es (kept (t .bits) (t .label) at ls) (at + halves (t .bits)) (orAt monitor (not (t .filler)) i) (t .register) (i + 1)
     collecting-step =
         record {
-          heard = rw (tone-keeps .bitsAre) (heard-step t (g .heard) reads);
+          decoded = rw (tone-keeps .bitsAre) (decoded-step t (g .decoded) reads);
           stored = tone-keeps .stored;
           fits = tone-keeps .fits;
           atMost = omega (arith, g .atMost, min-le-right (t .bits) 2);

@@ -8,10 +8,10 @@ use native.Mathlib.Omega.{arith}
 use borrow.Author.Tests.{le-ltb}
 use lib.ListN.{length, take, drop, getD, length-drop}
 use lib.Seq.{take-length, drop-drop, getD-drop, take-at, drop-at}
-use Rattle.constellation.specs.Shaped.{StandsFor}
-use Rattle.constellation.specs.Shapes.{shapeList}
-use Rattle.constellation.specs.Widened.{oddLabel}
-use Rattle.frame.specs.Spelled.{spell, Within, Fits, empty, own, shared}
+use Rattle.constellation.specs.MapByLayout.{StandsFor}
+use Rattle.constellation.specs.Layouts.{layoutList}
+use Rattle.constellation.specs.Widened.{mappingLabel}
+use Rattle.frame.specs.Labels.{bitsOfLabels, Within, Fits, empty, own, shared}
 use Rattle.g9932.proofs.Words.{length-bits, bits-mod}
 use Rattle.g9932.specs.Bits.{bits}
 use Rattle.g9932.specs.Points.{pointOf}
@@ -25,11 +25,11 @@ pub own-bits : (b l : ℕ) → take b (bits b l) ≡ bits b l
 own-bits b l = rw (length-bits b l) at (take-length (bits b l))
 
 -- a label of its own
-pub own-stands : (table : List ℕ) (b l : ℕ) → table ≡ shapeList → 2 ≤ b → b ≤ 15 → l < 2 ^ b → StandsFor (getD table b 0) l (pointOf b (take b (bits b l)))
+pub own-stands : (table : List ℕ) (b l : ℕ) → table ≡ layoutList → 2 ≤ b → b ≤ 15 → l < 2 ^ b → StandsFor (getD table b 0) l (pointOf b (take b (bits b l)))
 own-stands table b l t h k s = rw (own-bits b l) (table-stands table b l l t (omega arith) k s (rw (le-ltb b 2 h)))
 
 -- the lowest bit of what is left
-pub one-stands : (table : List ℕ) (l label : ℕ) → table ≡ shapeList → label ≡ oddLabel 1 (l % 2) → StandsFor (getD table 1 0) label (pointOf 1 (take 1 (bits 1 l)))
+pub one-stands : (table : List ℕ) (l label : ℕ) → table ≡ layoutList → label ≡ mappingLabel 1 (l % 2) → StandsFor (getD table 1 0) label (pointOf 1 (take 1 (bits 1 l)))
 one-stands table l label t e = rw (own-bits 1 l, ← (bits-mod 1 l)) (table-stands table 1 (l % 2) label t (omega arith) (omega arith) (omega arith) e)
 
 pub label-whole : (label at : ℕ) → at % 2 ≡ 0 → labelFrom label at ≡ label
@@ -39,7 +39,7 @@ label-whole label at p = rw p (omega arith)
 
 -- the bits left, `at` being in halves of an entry
 abbrev pub bitsLeft : List ℕ → List ℕ → ℕ → List Bool
-bitsLeft es ls at = drop (at % 2) (spell (drop (at / 2) es) (drop (at / 2) ls))
+bitsLeft es ls at = drop (at % 2) (bitsOfLabels (drop (at / 2) es) (drop (at / 2) ls))
 
 -- The bit counts left fit the entries left; where half of an entry is taken, a count of 1 before them does.
 pub data FitsFrom (es bs : List ℕ) (at : ℕ) : Type 0 where
@@ -62,8 +62,8 @@ none-first (own h f) = absurd (omega arith)
 -- a count of at least 2: the entry is its own
 record Own (n : ℕ) (bs e l : List ℕ) : Type 0 where
   small : getD l 0 0 < 2 ^ n
-  here : take n (spell e l) ≡ bits n (getD l 0 0)
-  after : drop n (spell e l) ≡ spell (drop 1 e) (drop 1 l)
+  here : take n (bitsOfLabels e l) ≡ bits n (getD l 0 0)
+  after : drop n (bitsOfLabels e l) ≡ bitsOfLabels (drop 1 e) (drop 1 l)
   fits : Fits bs (drop 1 e)
 
 own-first : (n : ℕ) (bs e l : List ℕ) → 2 ≤ n → length e ≤ length l → (0 < length e → getD l 0 0 < 2 ^ getD e 0 0) → Fits (n ∷ bs) e → Own n bs e l
@@ -71,15 +71,15 @@ own-first n bs e [] h k w (own g f) = absurd (omega arith)
 own-first n bs e (x ∷ l) h k w (own {es = es} g f) =
     record {
       small = w (omega arith);
-      here = take-at (bits n x) (spell es l) n (length-bits n x);
-      after = drop-at (bits n x) (spell es l) n (length-bits n x);
+      here = take-at (bits n x) (bitsOfLabels es l) n (length-bits n x);
+      after = drop-at (bits n x) (bitsOfLabels es l) n (length-bits n x);
       fits = f;
     }
 own-first n bs e l h k w (empty f) = absurd (omega arith)
 own-first n bs e l h k w (shared f) = absurd (omega arith)
 
 -- the first count of 1 takes the lower bit of the entry of 2,
-one-first : (bs e l : List ℕ) → length e ≤ length l → Fits (1 ∷ bs) e → take 1 (spell e l) ≡ bits 1 (getD l 0 0)
+one-first : (bs e l : List ℕ) → length e ≤ length l → Fits (1 ∷ bs) e → take 1 (bitsOfLabels e l) ≡ bits 1 (getD l 0 0)
 unfolding bits
 one-first bs e [] k (shared f) = absurd (omega arith)
 one-first bs e (x ∷ l) k (shared f) = refl
@@ -88,8 +88,8 @@ one-first bs e l k (own g f) = absurd (omega arith)
 -- and the count after it is the second, which takes the upper
 record Second (n : ℕ) (bs e l : List ℕ) : Type 0 where
   isOne : n ≡ 1
-  here : take 1 (drop 1 (spell e l)) ≡ bits 1 (getD l 0 0 / 2)
-  after : drop 1 (drop 1 (spell e l)) ≡ spell (drop 1 e) (drop 1 l)
+  here : take 1 (drop 1 (bitsOfLabels e l)) ≡ bits 1 (getD l 0 0 / 2)
+  after : drop 1 (drop 1 (bitsOfLabels e l)) ≡ bitsOfLabels (drop 1 e) (drop 1 l)
   fits : Fits bs (drop 1 e)
 
 one-second : (n : ℕ) (bs e l : List ℕ) → length e ≤ length l → Fits (1 ∷ n ∷ bs) e → Second n bs e l
@@ -124,7 +124,7 @@ module _ (es ls : List ℕ) (enough : length es ≤ length ls) (within : Within 
     first-half p = rw (p, first-entry ls)
 
     -- the entry is taken whole: the next one is as new
-    next-entry : (n : ℕ) → (at + n) % 2 ≡ 0 → (at + n) / 2 ≡ at / 2 + 1 → bitsLeft es ls (at + n) ≡ spell (drop 1 e) (drop 1 l)
+    next-entry : (n : ℕ) → (at + n) % 2 ≡ 0 → (at + n) / 2 ≡ at / 2 + 1 → bitsLeft es ls (at + n) ≡ bitsOfLabels (drop 1 e) (drop 1 l)
     next-entry n p q = rw (p, q, drop-drop 1 (at / 2) es, drop-drop 1 (at / 2) ls)
 
     next-fits : (bs : List ℕ) (n : ℕ) → (at + n) % 2 ≡ 0 → (at + n) / 2 ≡ at / 2 + 1 → Fits bs (drop 1 e) → FitsFrom es bs (at + n)

@@ -6,7 +6,7 @@ use native.Mathlib.Nat.{add-zero}
 use native.Mathlib.Omega.{arith}
 use lib.ListN.{length, drop, getD, length-drop}
 use lib.Seq.{drop-drop, getD-drop}
-use Rattle.frame.specs.Spelled.{Fits, empty, own, shared}
+use Rattle.frame.specs.Labels.{Fits, empty, own, shared}
 use Rattle.g9932.specs.Sizes.{entry}
 use Rattle.mapper.proofs.EntryBits.{FitsFrom, whole, half}
 

@@ -9,10 +9,10 @@ use lib.Dec.{eqb}
 use lib.IntN.{ℤ}
 use lib.ListN.{length, getD, set}
 use lib.Seq.{getD-set-same, getD-set-other}
-use Rattle.constellation.proofs.ByShape.{shaped-bits, shaped-silent}
-use Rattle.constellation.specs.Labels.{Shaped, SeenBy}
+use Rattle.constellation.proofs.DemapByLayout.{shaped-bits, shaped-silent}
+use Rattle.constellation.specs.DemapByLayout.{IsLayout, Demaps}
 use Rattle.constellation.specs.Reading.{SoughtIs}
-use Rattle.constellation.specs.declared.labels.SeenLabel.{SeenLabel}
+use Rattle.constellation.specs.declared.demap.PointLabel.{PointLabel}
 use Rattle.g9932.proofs.Search.{first-no, first-all}
 use Rattle.g9932.specs.Bits.{bits, num, first}
 use Rattle.g9932.specs.Filler.{drawn, afterDraws}
@@ -26,7 +26,7 @@ use Rattle.g9932.specs.declared.Found.the-variants.{Nothing}
 use Rattle.g9932.specs.declared.Tone.{Tone}
 use Rattle.mapper.specs.Mapping.{classesBy, Carries}
 use Rattle.mapper.specs.Reading.{PointsRoom}
-use Rattle.mapper.specs.Labelled.{classShape, Told, TellsTone, pointAt, Kinds, SeeRoom, SeesAll, SeesPoints, Labelled}
+use Rattle.mapper.specs.Labelled.{classLayout, Told, TellsTone, pointAt, Layouts, SeeRoom, SeesAll, SeesPoints, Labelled}
 use Rattle.mapper.proofs.OneTone.{label-read, filler-read}
 use Rattle.mapper.proofs.Tones.{length-classes, carries-at, tone-class, point-at}
 
@@ -45,58 +45,58 @@ stored P l i v h before here j k = go (eqb j i) refl
 
 -- ---- the shapes
 
-pub shape-step : (b g order kinds : List ℕ) (i v : ℕ) (t : Tone) → i < length order → i < length kinds
-    → t ≡ toneOf (entry b (entry order i)) (entry g (entry order i)) → v ≡ classShape (t .class)
-    → ((j : ℕ) → j < i → getD kinds j 0 ≡ classShape (getD (classesBy b g order) j Silent))
-    → (j : ℕ) → j < i + 1 → getD (set kinds i v) j 0 ≡ classShape (getD (classesBy b g order) j Silent)
-shape-step b g order kinds i v t h k is e before =
-    stored (λ j s. s ≡ classShape (getD (classesBy b g order) j Silent)) kinds i v k before
-    (e ∙ ap classShape (tone-class b g order i h t is))
+pub layout-step : (b g order layouts : List ℕ) (i v : ℕ) (t : Tone) → i < length order → i < length layouts
+    → t ≡ toneOf (entry b (entry order i)) (entry g (entry order i)) → v ≡ classLayout (t .class)
+    → ((j : ℕ) → j < i → getD layouts j 0 ≡ classLayout (getD (classesBy b g order) j Silent))
+    → (j : ℕ) → j < i + 1 → getD (set layouts i v) j 0 ≡ classLayout (getD (classesBy b g order) j Silent)
+layout-step b g order layouts i v t h k is e before =
+    stored (λ j s. s ≡ classLayout (getD (classesBy b g order) j Silent)) layouts i v k before
+    (e ∙ ap classLayout (tone-class b g order i h t is))
 
-pub class-shaped : (c : Class) → Carries c → Shaped (classShape c)
+pub class-shaped : (c : Class) → Carries c → IsLayout (classLayout c)
 class-shaped (Data b) h = shaped-bits b (h .0) (h .1)
 class-shaped Monitored h = shaped-bits 2 (omega arith) (omega arith)
 class-shaped Silent h = shaped-silent
 
-pub all-shaped : (b g order kinds : List ℕ) → ((k : ℕ) → entry b k ≤ 15) → Kinds (classesBy b g order) kinds
-    → (i : ℕ) → i < length order → Shaped (getD kinds i 0)
-all-shaped b g order kinds most are i h =
+pub all-shaped : (b g order layouts : List ℕ) → ((k : ℕ) → entry b k ≤ 15) → Layouts (classesBy b g order) layouts
+    → (i : ℕ) → i < length order → IsLayout (getD layouts i 0)
+all-shaped b g order layouts most are i h =
     rw (are i (rw (length-classes b g order) h)) (class-shaped (getD (classesBy b g order) i Silent) (carries-at b g order most i h))
 
 -- ---- the labels
 
-answer : (s : ℕ) (p : Point) (r : SeenLabel) (o : Bool) → SeenBy s p r → r .on ≡ o → SeenBy s p (record { on = o; label = r .label })
+answer : (s : ℕ) (p : Point) (r : PointLabel) (o : Bool) → Demaps s p r → r .on ≡ o → Demaps s p (record { on = o; label = r .label })
 answer s p r o seen e =
     record {
       sought = λ b low high f. rw e at (seen .sought b low high f);
       silent = λ f. rw e at (seen .silent f);
     }
 
-pub see-start : (kinds labels : List ℕ) (xs ys : List ℤ) → SeesAll kinds xs ys labels 0 true
-see-start kinds labels xs ys = record { every = λ e j h. absurd (omega arith); some = λ e. absurd (true≢false e) }
+pub see-start : (layouts labels : List ℕ) (xs ys : List ℤ) → SeesAll layouts xs ys labels 0 true
+see-start layouts labels xs ys = record { every = λ e j h. absurd (omega arith); some = λ e. absurd (true≢false e) }
 
-pub see-step : (kinds labels : List ℕ) (xs ys : List ℤ) (all : Bool) (i : ℕ) (r : SeenLabel) → i < length labels
-    → SeenBy (getD kinds i 0) (pointAt xs ys i) r → SeesAll kinds xs ys labels i all
-    → SeesAll kinds xs ys (set labels i (r .label)) (i + 1) (all && r .on)
-see-step kinds labels xs ys all i r h seen so = record { every = every; some = some all (r .on) refl refl }
+pub see-step : (layouts labels : List ℕ) (xs ys : List ℤ) (all : Bool) (i : ℕ) (r : PointLabel) → i < length labels
+    → Demaps (getD layouts i 0) (pointAt xs ys i) r → SeesAll layouts xs ys labels i all
+    → SeesAll layouts xs ys (set labels i (r .label)) (i + 1) (all && r .on)
+see-step layouts labels xs ys all i r h seen so = record { every = every; some = some all (r .on) refl refl }
   where
     s : ℕ
-    s = getD kinds i 0
+    s = getD layouts i 0
 
-    every : all && r .on ≡ true → (j : ℕ) → j < i + 1 → Told (getD kinds j 0) (pointAt xs ys j) (getD (set labels i (r .label)) j 0)
+    every : all && r .on ≡ true → (j : ℕ) → j < i + 1 → Told (getD layouts j 0) (pointAt xs ys j) (getD (set labels i (r .label)) j 0)
     every e =
         let both = and-eq-true-iff all (r .on) .0 e in
-        stored (λ j l. Told (getD kinds j 0) (pointAt xs ys j) l) labels i (r .label) h (so .every (both .0))
+        stored (λ j l. Told (getD layouts j 0) (pointAt xs ys j) l) labels i (r .label) h (so .every (both .0))
         (answer s (pointAt xs ys i) r true seen (both .1))
 
     some : (a o : Bool) → all ≡ a → r .on ≡ o → a && o ≡ false
-        → (j : ℕ) × (j < i + 1) × (l : ℕ) × SeenBy (getD kinds j 0) (pointAt xs ys j) (record { on = false; label = l })
+        → (j : ℕ) × (j < i + 1) × (l : ℕ) × Demaps (getD layouts j 0) (pointAt xs ys j) (record { on = false; label = l })
     some false o p q e = let w = so .some p in (w .0, omega (arith, w .1), w .2, w .3)
     some true false p q e = (i, omega arith, r .label, answer s (pointAt xs ys i) r false seen q)
     some true true p q e = absurd (true≢false e)
 
 -- a point is in a tone's constellation exactly where it has a label by the tone's shape
-pub seen-on : (c : Class) (p : Point) (r : SeenLabel) → Carries c → SeenBy (classShape c) p r → r .on ≡ inConstellation c p
+pub seen-on : (c : Class) (p : Point) (r : PointLabel) → Carries c → Demaps (classLayout c) p r → r .on ≡ inConstellation c p
 seen-on (Data b) p r h seen = seen .sought b (h .0) (h .1) refl .found
 seen-on Monitored p r h seen = seen .sought 2 (omega arith) (omega arith) refl .found
 seen-on Silent p r h seen = seen .silent refl
@@ -106,38 +106,38 @@ pub off-at : (b g order : List ℕ) (xs ys : List ℤ) → PointsRoom b order xs
     → on ≡ inConstellation (getD (classesBy b g order) i Silent) (pointAt xs ys i) → offgridTest (classesBy b g order) (points xs ys) i ≡ not on
 off-at b g order xs ys room i h on e = rw (point-at xs ys i (rw (room .xsLength) h) (rw (room .ysLength) h)) (ap not (sym e))
 
-module _ (b g order kinds labels : List ℕ) (xs ys : List ℤ) (room : PointsRoom b order xs ys) (are : Kinds (classesBy b g order) kinds) where
+module _ (b g order layouts labels : List ℕ) (xs ys : List ℤ) (room : PointsRoom b order xs ys) (are : Layouts (classesBy b g order) layouts) where
   abbrev cs : List Class
   cs = classesBy b g order
 
   abbrev test : ℕ → Bool
   test = offgridTest cs (points xs ys)
 
-  pub see-room : length labels ≡ 4096 → SeeRoom kinds xs ys labels
+  pub see-room : length labels ≡ 4096 → SeeRoom layouts xs ys labels
   see-room n =
       record {
         xsMost = omega (arith, room .xsLength, room .orderMost);
         ysLength = room .ysLength ∙ sym (room .xsLength);
         labelsLength = n;
-        shaped = λ i h. all-shaped b g order kinds (room .bitsMost) are i (omega (arith, room .xsLength));
+        shaped = λ i h. all-shaped b g order layouts (room .bitsMost) are i (omega (arith, room .xsLength));
       }
 
-  seen-at : (i : ℕ) → i < length xs → (r : SeenLabel) → SeenBy (getD kinds i 0) (pointAt xs ys i) r
-      → SeenBy (classShape (getD cs i Silent)) (pointAt xs ys i) r × (test i ≡ not (r .on))
+  seen-at : (i : ℕ) → i < length xs → (r : PointLabel) → Demaps (getD layouts i 0) (pointAt xs ys i) r
+      → Demaps (classLayout (getD cs i Silent)) (pointAt xs ys i) r × (test i ≡ not (r .on))
   seen-at i h r seen =
       let k : i < length order = rw (room .xsLength) at h in
       let by = rw (are i (rw (length-classes b g order) k)) at seen in
       (by, off-at b g order xs ys room i k (r .on) (seen-on (getD cs i Silent) (pointAt xs ys i) r (carries-at b g order (room .bitsMost) i k) by))
 
-  pub sees-all : SeesAll kinds xs ys labels (length xs) true → SeesPoints cs xs ys labels Nothing
+  pub sees-all : SeesAll layouts xs ys labels (length xs) true → SeesPoints cs xs ys labels Nothing
   sees-all sees = record { offgridIs = sym (first-all test (length cs) (λ i h. at i h .1)); labelled = λ _ i h. at i h .0 }
     where
-      at : (i : ℕ) → i < length cs → Told (classShape (getD cs i Silent)) (pointAt xs ys i) (getD labels i 0) × (test i ≡ false)
+      at : (i : ℕ) → i < length cs → Told (classLayout (getD cs i Silent)) (pointAt xs ys i) (getD labels i 0) × (test i ≡ false)
       at i h =
           let k : i < length xs = rw (room .xsLength, ← length-classes b g order) h in
           seen-at i k (record { on = true; label = getD labels i 0 }) (sees .every refl i k)
 
-  pub sees-some : (r : Found) → r ≡ first test (length order) → SeesAll kinds xs ys labels (length xs) false → SeesPoints cs xs ys labels r
+  pub sees-some : (r : Found) → r ≡ first test (length order) → SeesAll layouts xs ys labels (length xs) false → SeesPoints cs xs ys labels r
   sees-some r is sees =
       let s = sees .some refl in
       let off : test (s .0) ≡ true = seen-at (s .0) (s .1) (record { on = false; label = s .2 }) (s .3) .1 in
@@ -147,7 +147,7 @@ module _ (b g order kinds labels : List ℕ) (xs ys : List ℤ) (room : PointsRo
       }
 
 pub told-at : (b g order labels : List ℕ) (xs ys : List ℤ) → Labelled (classesBy b g order) xs ys labels → (i : ℕ) → i < length order → (t : Tone)
-    → t ≡ toneOf (entry b (entry order i)) (entry g (entry order i)) → Told (classShape (t .class)) (pointAt xs ys i) (getD labels i 0)
+    → t ≡ toneOf (entry b (entry order i)) (entry g (entry order i)) → Told (classLayout (t .class)) (pointAt xs ys i) (getD labels i 0)
 told-at b g order labels xs ys are i h t is =
     rw (tone-class b g order i h t is) (are i (rw (length-classes b g order) h))
 

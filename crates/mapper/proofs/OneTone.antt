@@ -11,12 +11,12 @@ use lib.ListN.{length, take, drop, getD, length-drop}
 use lib.Pow.{pow-mono}
 use lib.Seq.{length-take-le}
 use Rattle.constellation.specs.Reading.{SoughtIs}
-use Rattle.constellation.specs.Shaped.{StandsFor}
-use Rattle.constellation.specs.Shapes.{shapeList}
-use Rattle.constellation.specs.Widened.{pairs, oddLabel}
+use Rattle.constellation.specs.MapByLayout.{StandsFor}
+use Rattle.constellation.specs.Layouts.{layoutList}
+use Rattle.constellation.specs.Widened.{pairs, mappingLabel}
 use Rattle.constellation.specs.declared.Sought.{Sought}
-use Rattle.constellation.proofs.Shaped.{label-stands}
-use Rattle.constellation.proofs.Shapes.{shape-at}
+use Rattle.constellation.proofs.MapByLayout.{label-stands}
+use Rattle.constellation.proofs.Layouts.{layout-at}
 use Rattle.constellation.proofs.Sizes.{label-lt, label-16}
 use Rattle.g9932.proofs.Constellations.{samePoint-self, point-inj}
 use Rattle.g9932.proofs.Labels.{label-point, label-back}
@@ -42,24 +42,24 @@ pub filler-at : (r label : ℕ) → label ≡ num (drawn 2 r) → (bits 2 label 
 filler-at r label e = (rw e (bits-num (drawn 2 r)), rw e (num-lt (drawn 2 r)))
 
 -- a label and its shape, from the table of shapes, stand for its point
-pub table-stands : (table : List ℕ) (b l label : ℕ) → table ≡ shapeList → 1 ≤ b → b ≤ 15 → l < 2 ^ b → label ≡ oddLabel b l
+pub table-stands : (table : List ℕ) (b l label : ℕ) → table ≡ layoutList → 1 ≤ b → b ≤ 15 → l < 2 ^ b → label ≡ mappingLabel b l
     → StandsFor (getD table b 0) label (pointOf b (bits b l))
-table-stands table b l label t h k s e = rw (t, shape-at b h k, e) (label-stands b l h k s)
+table-stands table b l label t h k s e = rw (t, layout-at b h k, e) (label-stands b l h k s)
 
 -- the label got for a bit count
 module _ (source table : List ℕ) (at b got : ℕ) (h : 1 ≤ b) (k : b ≤ 15) (room : at + b ≤ 8 * length source) (is : got ≡ num (take b (drop at (unpack source)))) where
   pub got-small : got < 32768
   got-small = lt-of-lt-of-le (label-at source at b got room is .1) (pow-mono {i = b} {j = 15} k)
 
-  pub odd-small : oddLabel b got < 32768
-  odd-small = label-16 (pairs b) (oddLabel b got) (omega arith) (label-lt b got h (label-at source at b got room is .1))
+  pub odd-small : mappingLabel b got < 32768
+  odd-small = label-16 (pairs b) (mappingLabel b got) (omega arith) (label-lt b got h (label-at source at b got room is .1))
 
-  pub data-stands : (label : ℕ) → table ≡ shapeList → label ≡ oddLabel b got → StandsFor (getD table b 0) label (pointOf b (take b (drop at (unpack source))))
+  pub data-stands : (label : ℕ) → table ≡ layoutList → label ≡ mappingLabel b got → StandsFor (getD table b 0) label (pointOf b (take b (drop at (unpack source))))
   data-stands label t e =
       let a = label-at source at b got room is in
       rw (← (a .0)) (table-stands table b got label t h k (a .1) e)
 
-pub filler-stands : (table : List ℕ) (r label : ℕ) → table ≡ shapeList → label ≡ num (drawn 2 r) → StandsFor (getD table 2 0) label (pointOf 2 (drawn 2 r))
+pub filler-stands : (table : List ℕ) (r label : ℕ) → table ≡ layoutList → label ≡ num (drawn 2 r) → StandsFor (getD table 2 0) label (pointOf 2 (drawn 2 r))
 filler-stands table r label t e =
     let a = filler-at r label e in
     rw (← (a .0)) (table-stands table 2 label label t (omega arith) (omega arith) (a .1) refl)

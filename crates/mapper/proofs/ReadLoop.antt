@@ -35,16 +35,16 @@ register-more r (b ∷ cs) c = register-more (afterDraws (draws b) r) cs c
 
 -- ---- whatever keeps the bits: those gathered so far are `done`
 
-pub record Heard (cs : List Class) (r : ℕ) (q : List Point) (monitor : Found) (register : ℕ) (done : List Bool) (i : ℕ) : Type 0 where
+pub record Decoded (cs : List Class) (r : ℕ) (q : List Point) (monitor : Found) (register : ℕ) (done : List Bool) (i : ℕ) : Type 0 where
   pub inside : i ≤ length cs
   pub on : first (offgridTest cs q) i ≡ Nothing
   pub monitored : monitor ≡ first (monitorTest r cs q) i
   pub registerSoFar : register ≡ registerAfter r (take i cs)
   pub whole : done ++ gatherBits (drop i cs) (drop i q) ≡ gatherBits cs q
 
-pub heard-start : (cs : List Class) (r : ℕ) (q : List Point) → Heard cs r q Nothing r [] 0
+pub decoded-start : (cs : List Class) (r : ℕ) (q : List Point) → Decoded cs r q Nothing r [] 0
 unfolding registerAfter first
-heard-start cs r q = record { inside = omega arith; on = refl; monitored = refl; registerSoFar = refl; whole = refl }
+decoded-start cs r q = record { inside = omega arith; on = refl; monitored = refl; registerSoFar = refl; whole = refl }
 
 pub found-not : {k : ℕ} → _≡_ {A = Found} (At k) Nothing → ⊥
 found-not z = let o : _≡_ {A = ℕ} 0 1 = cc in omega arith
@@ -62,11 +62,11 @@ gather-step cs q i h k =
     let e : drop i q ≡ getD q i origin ∷ drop (i + 1) q = drop-cons q i origin k ∙ rw add-one in
     rw (drop-class cs i h, e)
 
-pub heard-step : {cs : List Class} {r : ℕ} {q : List Point} {monitor : Found} {register : ℕ} {done : List Bool} {i : ℕ} (t : ToneRead)
-    → Heard cs r q monitor register done i → ReadAt cs q register i t
-    → Heard cs r q (orAt monitor (not (t .filler)) i) (t .register) (done ++ bits (t .bits) (t .label)) (i + 1)
+pub decoded-step : {cs : List Class} {r : ℕ} {q : List Point} {monitor : Found} {register : ℕ} {done : List Bool} {i : ℕ} (t : ToneRead)
+    → Decoded cs r q monitor register done i → ReadAt cs q register i t
+    → Decoded cs r q (orAt monitor (not (t .filler)) i) (t .register) (done ++ bits (t .bits) (t .label)) (i + 1)
 unfolding first
-heard-step {cs = cs} {r = r} {q = q} {done = done} {i = i} t g reads =
+decoded-step {cs = cs} {r = r} {q = q} {done = done} {i = i} t g reads =
     let u = reads .tone in
     let h = reads .inClasses in
     record {
@@ -77,16 +77,16 @@ heard-step {cs = cs} {r = r} {q = q} {done = done} {i = i} t g reads =
       whole = rw (u .carried, append-assoc, ← (gather-step cs q i h (reads .inPoints))) (g .whole);
     }
 
-pub record HeardAll (cs : List Class) (r : ℕ) (q : List Point) (monitor : Found) (register : ℕ) (done : List Bool) : Type 0 where
+pub record DecodedAll (cs : List Class) (r : ℕ) (q : List Point) (monitor : Found) (register : ℕ) (done : List Bool) : Type 0 where
   pub offgridIs : Nothing ≡ first (offgridTest cs q) (length cs)
   pub monitorIs : monitor ≡ first (monitorTest r cs q) (length cs)
   pub registerIs : register ≡ registerAfter r cs
   pub gathered : done ≡ gatherBits cs q
 
-pub heard-end : {cs : List Class} {r : ℕ} {q : List Point} {monitor : Found} {register : ℕ} {done : List Bool} {i : ℕ}
-    → Heard cs r q monitor register done i → length cs ≤ i → HeardAll cs r q monitor register done
+pub decoded-end : {cs : List Class} {r : ℕ} {q : List Point} {monitor : Found} {register : ℕ} {done : List Bool} {i : ℕ}
+    → Decoded cs r q monitor register done i → length cs ≤ i → DecodedAll cs r q monitor register done
 unfolding gatherBits
-heard-end {cs = cs} {r = r} {q = q} {done = done} {i = i} g h =
+decoded-end {cs = cs} {r = r} {q = q} {done = done} {i = i} g h =
     let n : i ≡ length cs = omega (arith, g .inside) in
     let e : drop i cs ≡ [] = drop-of-length-le cs h in
     record {
@@ -113,34 +113,34 @@ read-at b g order labels xs ys room are i h t is register u tells =
 pub points-room : {b order : List ℕ} {xs ys : List ℤ} {sent : List ℕ} → ReadRoom b order xs ys sent → PointsRoom b order xs ys
 points-room room = record { bitsMost = room .bitsMost; orderMost = room .orderMost; xsLength = room .xsLength; ysLength = room .ysLength }
 
-pub record Listening (cs : List Class) (r : ℕ) (q : List Point) (sent₀ sent : List ℕ) (monitor : Found) (register : ℕ) (w : BitWriter) (i : ℕ) : Type 0 where
-  pub heard : Heard cs r q monitor register (written w sent) i
+pub record Demapping (cs : List Class) (r : ℕ) (q : List Point) (sent₀ sent : List ℕ) (monitor : Found) (register : ℕ) (w : BitWriter) (i : ℕ) : Type 0 where
+  pub decoded : Decoded cs r q monitor register (written w sent) i
   pub sentLength : length sent ≡ length sent₀
   pub waits : Waits w
   pub counted : count w ≤ 15 * i
 
-pub listening-start : (cs : List Class) (r : ℕ) (q : List Point) (sent : List ℕ) → Listening cs r q sent sent Nothing r emptyWriter 0
+pub demapping-start : (cs : List Class) (r : ℕ) (q : List Point) (sent : List ℕ) → Demapping cs r q sent sent Nothing r emptyWriter 0
 unfolding written unpack bits
-listening-start cs r q sent =
+demapping-start cs r q sent =
     record {
-      heard = heard-start cs r q;
+      decoded = decoded-start cs r q;
       sentLength = refl;
       waits = record { few = omega arith; small = omega arith };
       counted = omega arith;
     }
 
 module _ {cs : List Class} {r : ℕ} {q : List Point} {sent₀ sent : List ℕ} {monitor : Found} {register : ℕ} {w : BitWriter} {i : ℕ}
-    (g : Listening cs r q sent₀ sent monitor register w i) where
-  pub listening-end : length cs ≤ 4096 → length cs ≤ i → ReadsAll cs r q (record { offgrid = Nothing; monitor = monitor; register = register; writer = w }) sent
-  listening-end few h =
-      let a = heard-end (g .heard) h in
+    (g : Demapping cs r q sent₀ sent monitor register w i) where
+  pub demapping-end : length cs ≤ 4096 → length cs ≤ i → ReadsAll cs r q (record { offgrid = Nothing; monitor = monitor; register = register; writer = w }) sent
+  demapping-end few h =
+      let a = decoded-end (g .decoded) h in
       record {
         offgridIs = a .offgridIs;
         monitorIs = λ _. a .monitorIs;
         registerIs = λ _. a .registerIs;
         gathered = λ _. a .gathered;
         waits = g .waits;
-        counted = omega (arith, g .counted, g .heard .inside);
+        counted = omega (arith, g .counted, g .decoded .inside);
       }
 
   module _ (t : ToneRead) (reads : ReadAt cs q register i t) where
@@ -148,20 +148,20 @@ module _ {cs : List Class} {r : ℕ} {q : List Point} {sent₀ sent : List ℕ} 
     put-room few long =
         (omega (arith, reads .tone .most), reads .tone .small, omega (arith, g .counted, g .sentLength, reads .inClasses), g .waits)
 
-    pub listening-step : (v : BitWriter) (after : List ℕ) → length after ≡ length sent → Put w sent (bits (t .bits) (t .label)) v after
-        → Listening cs r q sent₀ after (orAt monitor (not (t .filler)) i) (t .register) v (i + 1)
-    listening-step v after same puts =
+    pub demapping-step : (v : BitWriter) (after : List ℕ) → length after ≡ length sent → Put w sent (bits (t .bits) (t .label)) v after
+        → Demapping cs r q sent₀ after (orAt monitor (not (t .filler)) i) (t .register) v (i + 1)
+    demapping-step v after same puts =
         record {
-          heard = rw (puts .holds) (heard-step t (g .heard) reads);
+          decoded = rw (puts .holds) (decoded-step t (g .decoded) reads);
           sentLength = same ∙ g .sentLength;
           waits = puts .waits;
           counted = omega (arith, puts .counted, g .counted, reads .tone .most, length-bits (t .bits) (t .label));
         }
 
 -- a place that is refused: nothing is put
-pub listening-off : (cs : List Class) (r : ℕ) (q : List Point) (k : ℕ) (sent : List ℕ) → At k ≡ first (offgridTest cs q) (length cs)
+pub demapping-off : (cs : List Class) (r : ℕ) (q : List Point) (k : ℕ) (sent : List ℕ) → At k ≡ first (offgridTest cs q) (length cs)
     → ReadsAll cs r q (record { offgrid = At k; monitor = Nothing; register = r; writer = emptyWriter }) sent
-listening-off cs r q k sent is =
+demapping-off cs r q k sent is =
     record {
       offgridIs = is;
       monitorIs = λ z. absurd (found-not z);

@@ -6,7 +6,7 @@ use mathlib.Core.Path.{_≡_}
 use lib.Dec.{eqb}
 use lib.IntN.{ℤ}
 use lib.ListN.{length, set}
-use Rattle.frame.specs.Spelled.{spell, Within, Fits}
+use Rattle.frame.specs.Labels.{bitsOfLabels, Within, Fits}
 use Rattle.g9932.specs.Bits.{first}
 use Rattle.g9932.specs.Filler.{registerAfter}
 use Rattle.g9932.specs.Sizes.{entry, Point, points}
@@ -45,7 +45,7 @@ pub record ReadsLabels (cs : List Class) (r : ℕ) (q : List Point) (es : List �
   pub offgridIs : t .offgrid ≡ first (offgridTest cs q) (length cs)
   pub monitorIs : t .offgrid ≡ Nothing → t .monitor ≡ first (monitorTest r cs q) (length cs)
   pub registerIs : t .offgrid ≡ Nothing → t .register ≡ registerAfter r cs
-  pub gathered : t .offgrid ≡ Nothing → spell es after ≡ gatherBits cs q
+  pub gathered : t .offgrid ≡ Nothing → bitsOfLabels es after ≡ gatherBits cs q
   pub within : t .offgrid ≡ Nothing → Within es after (length es)
 
 -- there are points with these labels

@@ -5,8 +5,8 @@ use mathlib.Core.List.{List, map}
 use mathlib.Core.Path.{_≡_}
 use lib.IntN.{ℤ, pos}
 use lib.ListN.{length, getD}
-use Rattle.constellation.specs.Shaped.{Shaped, StandsFor, shapedPoint}
-use Rattle.frame.specs.Spelled.{Within, Fits}
+use Rattle.constellation.specs.MapByLayout.{Mappable, StandsFor, layoutPoint}
+use Rattle.frame.specs.Labels.{Within, Fits}
 use Rattle.g9932.proofs.Symbols.{loads}
 use Rattle.g9932.specs.Sizes.{entry, toneOf, point, origin}
 use Rattle.g9932.specs.Filler.{afterDraws, draws, registerAfter}
@@ -28,33 +28,33 @@ Carries Silent = Unit {0}
 -- ---- one tone laid out, from the bits left
 
 pub record Lays (c : Class) (r : ℕ) (left : List Bool) (next : ℕ) (m : Laid) : Type 0 where
-  pub stands : StandsFor (m .shape) (m .label) (tonePoint r c left)
+  pub stands : StandsFor (m .layout) (m .label) (tonePoint r c left)
   pub atIs : m .at ≡ next
   pub registerIs : m .register ≡ afterDraws (draws c) r
 
 -- ---- all tones laid out
 
-pub record LayRoom (b g order source labels shapes : List ℕ) : Type 0 where
+pub record LayRoom (b g order source labels layouts : List ℕ) : Type 0 where
   pub bitsMost : (k : ℕ) → entry b k ≤ 15
   pub orderMost : length order ≤ 4096
   pub sourceMost : length source ≤ 7688
   pub bits : loads (classesBy b g order) ≤ 8 * length source
   pub labelsLength : length labels ≡ 4096
-  pub shapesLength : length shapes ≡ 4096
+  pub layoutsLength : length layouts ≡ 4096
 
-pub record LaysAll (cs : List Class) (r : ℕ) (d : List Bool) (after : ℕ) (labels shapes : List ℕ) : Type 0 where
-  pub stand : (i : ℕ) → i < length cs → StandsFor (entry shapes i) (entry labels i) (getD (writePoints r cs d) i origin)
+pub record LaysAll (cs : List Class) (r : ℕ) (d : List Bool) (after : ℕ) (labels layouts : List ℕ) : Type 0 where
+  pub stand : (i : ℕ) → i < length cs → StandsFor (entry layouts i) (entry labels i) (getD (writePoints r cs d) i origin)
   pub registerIs : after ≡ registerAfter r cs
 
 -- ---- the points of tones laid out
 
-pub record PutRoom (labels shapes : List ℕ) (xs ys : List ℤ) : Type 0 where
+pub record PutRoom (labels layouts : List ℕ) (xs ys : List ℤ) : Type 0 where
   pub most : length xs ≤ 4096
   pub same : length ys ≡ length xs
-  pub shaped : (i : ℕ) → i < length xs → Shaped (entry shapes i) (entry labels i)
+  pub shaped : (i : ℕ) → i < length xs → Mappable (entry layouts i) (entry labels i)
 
-pub record PutsAll (labels shapes : List ℕ) (xs ys : List ℤ) : Type 0 where
-  pub points : (i : ℕ) → i < length xs → point (getD xs i (pos 0)) (getD ys i (pos 0)) ≡ shapedPoint (entry shapes i) (entry labels i)
+pub record PutsAll (labels layouts : List ℕ) (xs ys : List ℤ) : Type 0 where
+  pub points : (i : ℕ) → i < length xs → point (getD xs i (pos 0)) (getD ys i (pos 0)) ≡ layoutPoint (entry layouts i) (entry labels i)
 
 -- ---- all tones
 

@@ -3,8 +3,8 @@
 ghost use mathlib.Core.Path.{_≡_};
 ghost use Prim.Native.Nat.{_+_, _≤_};
 ghost use lib.ListN.{length};
-ghost use Rattle.constellation.specs.Shapes.{shapeList};
-ghost use Rattle.frame.specs.Spelled.{spell};
+ghost use Rattle.constellation.specs.Layouts.{layoutList};
+ghost use Rattle.frame.specs.Labels.{bitsOfLabels};
 ghost use Rattle.g9932.specs.Bits.{bits as bitsOf};
 ghost use Rattle.g9932.specs.Sizes.{entry};
 ghost use Rattle.g9932.specs.Symbol.{load};
@@ -23,39 +23,39 @@ fn label_at(source: &[u16], j: usize) -> u16
 
 // Lays out a data tone, from the label of the next entry: the first of two tones of 1 bit takes its lower bit, the second its upper,
 // a tone of more bits all of it.
-fn lay_bits(b: u8, shapes: &[u16; 16], label: u16, at: usize, register: u32) -> Laid
-    requires { ⌜ (1 ≤ b) × (b ≤ 15) × OwnEntry b label at × (at ≤ 8192) × (now shapes ≡ shapeList) ⌝ }
+fn lay_bits(b: u8, layouts: &[u16; 16], label: u16, at: usize, register: u32) -> Laid
+    requires { ⌜ (1 ≤ b) × (b ≤ 15) × OwnEntry b label at × (at ≤ 8192) × (now layouts ≡ layoutList) ⌝ }
     ensures { λ r. ⌜ Lays (Class.Data b) register (bitsOf b (labelFrom label at)) (at + halves b) r ⌝ }
 {
     if b < 2 {
         let bit = (label >> (at % 2)) % 2;
         return Laid {
-            label: constellation::odd_label(1, bit as u32) as u16,
-            shape: shapes[1],
+            label: constellation::mapping_label(1, bit as u32) as u16,
+            layout: layouts[1],
             at: at + 1,
             register,
         };
     }
     Laid {
         label,
-        shape: shapes[b as usize],
+        layout: layouts[b as usize],
         at: at + 2,
         register,
     }
 }
 
 // Lays out a tone, from the label of the next entry.
-fn lay_label(tone: Tone, shapes: &[u16; 16], label: u16, at: usize, register: u32) -> Laid
-    requires { ⌜ Carries (tone .class) × OwnEntry (load (tone .class)) label at × (at ≤ 8192) × (now shapes ≡ shapeList) ⌝ }
+fn lay_label(tone: Tone, layouts: &[u16; 16], label: u16, at: usize, register: u32) -> Laid
+    requires { ⌜ Carries (tone .class) × OwnEntry (load (tone .class)) label at × (at ≤ 8192) × (now layouts ≡ layoutList) ⌝ }
     ensures { λ r. ⌜ Lays (tone .class) register (bitsOf (load (tone .class)) (labelFrom label at)) (at + halves (load (tone .class))) r ⌝ }
 {
     let class = tone.class;
     match class {
-        Class::Data(b) => lay_bits(b, shapes, label, at, register),
-        Class::Monitored => super::lay_filler(shapes, at, register),
+        Class::Data(b) => lay_bits(b, layouts, label, at, register),
+        Class::Monitored => super::lay_filler(layouts, at, register),
         Class::Silent => Laid {
             label: 0,
-            shape: 0,
+            layout: 0,
             at,
             register,
         },
@@ -71,12 +71,12 @@ fn lay_labels(
     source: &[u16],
     register: u32,
     labels: &mut [u16; 4096],
-    shapes: &mut [u16; 4096],
+    layouts: &mut [u16; 4096],
 ) -> u32
-    requires { ⌜ LabelsFit (now bits) (now gains) (now order) (now entries) (now source) × (length (now labels) ≡ 4096) × (length (now shapes) ≡ 4096) ⌝ }
-    ensures { λ r. ⌜ LaysAll (classesBy (now (bits .entry)) (now (gains .entry)) (now (order .entry))) register (spell (now (entries .entry)) (now (source .entry))) r (now (labels .exit)) (now (shapes .exit)) ⌝ }
+    requires { ⌜ LabelsFit (now bits) (now gains) (now order) (now entries) (now source) × (length (now labels) ≡ 4096) × (length (now layouts) ≡ 4096) ⌝ }
+    ensures { λ r. ⌜ LaysAll (classesBy (now (bits .entry)) (now (gains .entry)) (now (order .entry))) register (bitsOfLabels (now (entries .entry)) (now (source .entry))) r (now (labels .exit)) (now (layouts .exit)) ⌝ }
 {
-    let table = constellation::shape_table();
+    let table = constellation::layout_table();
     let mut at: usize = 0;
     let mut next = register;
     let mut i = 0;
@@ -89,9 +89,9 @@ fn lay_labels(
             next,
         );
         let label = m.label;
-        let shape = m.shape;
+        let layout = m.layout;
         labels[i] = label;
-        shapes[i] = shape;
+        layouts[i] = layout;
         at = m.at;
         next = m.register;
         i += 1;
@@ -112,10 +112,10 @@ pub fn map_labels(
     ys: &mut [i16],
 ) -> u32
     requires { ⌜ LabelRoom (now bits) (now gains) (now order) (now entries) (now source) (now xs) (now ys) ⌝ }
-    ensures { λ r. ⌜ MapsAll (classesBy (now (bits .entry)) (now (gains .entry)) (now (order .entry))) register (spell (now (entries .entry)) (now (source .entry))) r (now (xs .exit)) (now (ys .exit)) ⌝ }
+    ensures { λ r. ⌜ MapsAll (classesBy (now (bits .entry)) (now (gains .entry)) (now (order .entry))) register (bitsOfLabels (now (entries .entry)) (now (source .entry))) r (now (xs .exit)) (now (ys .exit)) ⌝ }
 {
     let mut labels = [0u16; 4096];
-    let mut shapes = [0u16; 4096];
+    let mut layouts = [0u16; 4096];
     let after = lay_labels(
         bits,
         gains,
@@ -124,8 +124,8 @@ pub fn map_labels(
         source,
         register,
         &mut labels,
-        &mut shapes,
+        &mut layouts,
     );
-    super::put_points(&labels, &shapes, xs, ys);
+    super::put_points(&labels, &layouts, xs, ys);
     after
 }

@@ -5,10 +5,10 @@ ghost use lib.ListN.{length};
 ghost use Rattle.g9932.specs.Bits.{orAt, first};
 ghost use Rattle.g9932.specs.Sizes.{point, points};
 ghost use Rattle.g9932.specs.Symbol.{inConstellation, offgridTest};
-ghost use Rattle.constellation.specs.Shapes.{shapeList};
+ghost use Rattle.constellation.specs.Layouts.{layoutList};
 ghost use Rattle.mapper.specs.Mapping.{classesBy, Carries};
 ghost use Rattle.mapper.specs.Reading.{PointsRoom, ReadRoom, ReadsAll};
-ghost use Rattle.mapper.specs.Labelled.{classShape, TellsTone, ShapeRoom, Kinds, SeeRoom, SeesAll, SeesPoints, GatherRoom, GathersAll};
+ghost use Rattle.mapper.specs.Labelled.{classLayout, TellsTone, ShapeRoom, Layouts, SeeRoom, SeesAll, SeesPoints, GatherRoom, GathersAll};
 use frame::BitWriter;
 use g9932::Class;
 use g9932::Found;
@@ -47,15 +47,15 @@ pub struct TonesRead {
 }
 
 // The shape of a tone: a silent one has its own.
-fn shape_of_tone(tone: Tone, shapes: &[u16; 16]) -> u16
-    requires { ⌜ Carries (tone .class) × (now shapes ≡ shapeList) ⌝ }
-    ensures { λ r. ⌜ r ≡ classShape (tone .class) ⌝ }
+fn shape_of_tone(tone: Tone, layouts: &[u16; 16]) -> u16
+    requires { ⌜ Carries (tone .class) × (now layouts ≡ layoutList) ⌝ }
+    ensures { λ r. ⌜ r ≡ classLayout (tone .class) ⌝ }
 {
     let class = tone.class;
     match class {
         Class::Data(b) => {
             let n = b as usize;
-            shapes[n]
+            layouts[n]
         }
         Class::Monitored => 0x0140,
         Class::Silent => 0x81c0,
@@ -63,27 +63,27 @@ fn shape_of_tone(tone: Tone, shapes: &[u16; 16]) -> u16
 }
 
 // The shapes of the tones of t'.
-fn shape_all(bits: &[u8], gains: &[u16], order: &[u16], kinds: &mut [u16; 4096])
-    requires { ⌜ ShapeRoom (now bits) (now order) (now kinds) ⌝ }
-    ensures { λ r. ⌜ Kinds (classesBy (now (bits .entry)) (now (gains .entry)) (now (order .entry))) (now (kinds .exit)) ⌝ }
+fn shape_all(bits: &[u8], gains: &[u16], order: &[u16], layouts: &mut [u16; 4096])
+    requires { ⌜ ShapeRoom (now bits) (now order) (now layouts) ⌝ }
+    ensures { λ r. ⌜ Layouts (classesBy (now (bits .entry)) (now (gains .entry)) (now (order .entry))) (now (layouts .exit)) ⌝ }
 {
-    let shapes = constellation::shape_table();
+    let table = constellation::layout_table();
     let mut i = 0;
     while i < order.len() {
-        kinds[i] = shape_of_tone(tables::tone_of_place(bits, gains, order, Place(i)), &shapes);
+        layouts[i] = shape_of_tone(tables::tone_of_place(bits, gains, order, Place(i)), &table);
         i += 1;
     }
 }
 
 // The labels of all points by their shapes, and whether every point has one. There is no early exit: it takes eight at a time.
-fn see_all(kinds: &[u16; 4096], xs: &[i16], ys: &[i16], labels: &mut [u16; 4096]) -> bool
-    requires { ⌜ SeeRoom (now kinds) (now xs) (now ys) (now labels) ⌝ }
-    ensures { λ r. ⌜ SeesAll (now (kinds .entry)) (now (xs .entry)) (now (ys .entry)) (now (labels .exit)) (length (now (xs .entry))) r ⌝ }
+fn see_all(layouts: &[u16; 4096], xs: &[i16], ys: &[i16], labels: &mut [u16; 4096]) -> bool
+    requires { ⌜ SeeRoom (now layouts) (now xs) (now ys) (now labels) ⌝ }
+    ensures { λ r. ⌜ SeesAll (now (layouts .entry)) (now (xs .entry)) (now (ys .entry)) (now (labels .exit)) (length (now (xs .entry))) r ⌝ }
 {
     let mut all = true;
     let mut i = 0;
     while i < xs.len() {
-        let s = constellation::labels::label_by(kinds[i], xs[i], ys[i]);
+        let s = constellation::demap::label_by(layouts[i], xs[i], ys[i]);
         labels[i] = s.label;
         all = all & s.on;
         i += 1;
@@ -100,7 +100,7 @@ fn on_grid(tone: Tone, x: i16, y: i16) -> bool
     match class {
         Class::Data(b) => constellation::label_of(b as u32, x, y).found,
         Class::Monitored => constellation::label_of(2, x, y).found,
-        Class::Silent => constellation::labels::is_origin(x, y),
+        Class::Silent => constellation::demap::is_origin(x, y),
     }
 }
 
@@ -136,9 +136,9 @@ pub fn see_points(
     requires { ⌜ PointsRoom (now bits) (now order) (now xs) (now ys) × (length (now labels) ≡ 4096) ⌝ }
     ensures { λ r. ⌜ SeesPoints (classesBy (now (bits .entry)) (now (gains .entry)) (now (order .entry))) (now (xs .entry)) (now (ys .entry)) (now (labels .exit)) r ⌝ }
 {
-    let mut kinds = [0u16; 4096];
-    shape_all(bits, gains, order, &mut kinds);
-    if see_all(&kinds, xs, ys, labels) {
+    let mut layouts = [0u16; 4096];
+    shape_all(bits, gains, order, &mut layouts);
+    if see_all(&layouts, xs, ys, labels) {
         return Found::Nothing;
     }
     first_offgrid(bits, gains, order, xs, ys)

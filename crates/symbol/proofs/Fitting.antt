@@ -7,7 +7,7 @@ use native.Mathlib.Omega.{arith}
 use borrow.Author.Tests.{eqb-true, eqb-false, leb-true, leb-false}
 use lib.Dec.{leb}
 use lib.ListN.{replicate}
-use Rattle.frame.specs.Spelled.{Fits, none, empty, own, shared}
+use Rattle.frame.specs.Labels.{Fits, none, empty, own, shared}
 use Rattle.g9932.proofs.Reordering.{bits-order, entries-law}
 use Rattle.g9932.specs.Order.{consIf, filter, isOne, bitsOf, ones, reorderedTones, entries}
 use Rattle.g9932.specs.declared.Mode.the-variants.{Coded}

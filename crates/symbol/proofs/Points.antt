@@ -38,13 +38,13 @@ pub points-refused : (T : Tables) (q : List Point) (r : ℕ) (f : List ℕ) (x :
 points-refused T q r f x e = record { answer = report-refused x r _ e; frameHolds = done-refused x _ _ e }
 
 -- what a reader of points finds, whatever it makes of their bits
-pub record Heard (T : Tables) (q : List Point) (r : ℕ) (offgrid monitor : Found) (register : ℕ) : Type 0 where
+pub record Decoded (T : Tables) (q : List Point) (r : ℕ) (offgrid monitor : Found) (register : ℕ) : Type 0 where
   pub offgridIs : offgrid ≡ first (offgridTest (classesOf T) q) (length (T .tones))
   pub monitorIs : offgrid ≡ Nothing → monitor ≡ first (monitorTest r (classesOf T) q) (length (T .tones))
   pub registerIs : offgrid ≡ Nothing → register ≡ registerAfter r (classesOf T)
 
 -- what the places are refused by
-pub places-refused : (T : Tables) (q : List Point) (r : ℕ) (offgrid monitor : Found) (register : ℕ) (x : Refusal) → Heard T q r offgrid monitor register
+pub places-refused : (T : Tables) (q : List Point) (r : ℕ) (offgrid monitor : Found) (register : ℕ) (x : Refusal) → Decoded T q r offgrid monitor register
     → verdictOf (Refused x) ≡ placesVerdict offgrid monitor → verdictOf (Refused x) ≡ pointsVerdict T q r
 unfolding pointsVerdict
 places-refused T q r (At k) monitor register x h e = e ∙ found-here 13 _ (sym (h .offgridIs))
@@ -56,7 +56,7 @@ places-passed (At k) monitor l e = absurd (true≢false (ap (λ (v : Verdict). e
 places-passed Nothing (At k) l e = absurd (true≢false (ap (λ (v : Verdict). eqb (v .number) 0) e))
 places-passed Nothing Nothing l e = (refl, refl)
 
-module _ {T : Tables} {q : List Point} {r : ℕ} {offgrid monitor : Found} {register : ℕ} (h : Heard T q r offgrid monitor register) (on : offgrid ≡ Nothing)
+module _ {T : Tables} {q : List Point} {r : ℕ} {offgrid monitor : Found} {register : ℕ} (h : Decoded T q r offgrid monitor register) (on : offgrid ≡ Nothing)
     (matched : monitor ≡ Nothing) where
   pub break-found : (k : ℕ) → breakIn (readingIn T q) ≡ At k → refused 15 k ≡ pointsVerdict T q r
   unfolding pointsVerdict

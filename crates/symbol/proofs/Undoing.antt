@@ -6,7 +6,7 @@ use mathlib.Core.Path.{_≡_, refl, sym, ap, _∙_}
 use native.Mathlib.Omega.{arith}
 use lib.IntN.{ℤ}
 use lib.ListN.{length, take, drop}
-use Rattle.frame.specs.Spelled.{Fits, spell}
+use Rattle.frame.specs.Labels.{Fits, bitsOfLabels}
 use Rattle.frame.specs.Written.{Framed, written}
 use Rattle.frame.proofs.Stores.{finished}
 use Rattle.g9932.specs.Bits.{bits, first}
@@ -32,11 +32,11 @@ use Rattle.mapper.specs.Mapping.{classesBy}
 use Rattle.mapper.specs.Reading.{ReadRoom, ReadsAll}
 use Rattle.mapper.specs.declared.collect.LabelsRead.{LabelsRead}
 use Rattle.mapper.specs.declared.read.TonesRead.{TonesRead}
-use Rattle.trellis.specs.Reading.{HearReady, ReadsAll as ReadsLabelled, readingOfAll}
+use Rattle.trellis.specs.Reading.{DecodeReady, ReadsAll as ReadsLabelled, readingOfAll}
 use Rattle.symbol.specs.Encoding.{leadingZeros}
 use Rattle.symbol.specs.Reading.{PlainReady, CodedReady, PointsReady}
 use Rattle.symbol.proofs.Fitting.{fit-entries}
-use Rattle.symbol.proofs.Points.{Heard, framed-bytes}
+use Rattle.symbol.proofs.Points.{Decoded, framed-bytes}
 use Rattle.symbol.proofs.Writing.{starts, from-start, entries-most}
 
 found-not : {k : ℕ} → _≡_ {A = Found} (At k) Nothing → ⊥
@@ -77,16 +77,16 @@ module _ (T : Tables) (size : ℕ) (xs ys : List ℤ) (f order held : List ℕ) 
         sentLength = s .heldLength;
       }
 
-  module _ {r : ℕ} {t : TonesRead} {heard : List ℕ} (m : ReadsAll (classesBy (T .bits) (T .gains) order) r (points xs ys) t heard) where
-    pub plain-heard : Heard T (points xs ys) r (t .offgrid) (t .monitor) (t .register)
-    plain-heard =
+  module _ {r : ℕ} {t : TonesRead} {decoded : List ℕ} (m : ReadsAll (classesBy (T .bits) (T .gains) order) r (points xs ys) t decoded) where
+    pub plain-decoded : Decoded T (points xs ys) r (t .offgrid) (t .monitor) (t .register)
+    plain-decoded =
         record {
           offgridIs = m .offgridIs ∙ rw (classes-are, length-classes T);
           monitorIs = λ on. m .monitorIs on ∙ rw (classes-are, length-classes T);
           registerIs = λ on. m .registerIs on ∙ rw classes-are;
         }
 
-    pub store-room : length heard ≡ length held → t .writer .next < length heard
+    pub store-room : length decoded ≡ length held → t .writer .next < length decoded
     store-room e = omega (arith, m .counted, s .heldLength)
 
     module _ (plain : T .mode ≡ Uncoded) (on : t .offgrid ≡ Nothing) where
@@ -97,8 +97,8 @@ module _ (T : Tables) (size : ℕ) (xs ys : List ℤ) (f order held : List ℕ) 
       pub plain-whole : breakIn (readingIn T (points xs ys)) ≡ Nothing
       plain-whole = ap breakIn reading-plain
 
-      module _ (stored : List ℕ) (e : length heard ≡ length held) (d : length stored ≡ length heard)
-          (w : unpack (take (t .writer .next + 1) stored) ≡ written (t .writer) heard ++ bits (8 - t .writer .fill) 0) where
+      module _ (stored : List ℕ) (e : length decoded ≡ length held) (d : length stored ≡ length decoded)
+          (w : unpack (take (t .writer .next + 1) stored) ≡ written (t .writer) decoded ++ bits (8 - t .writer .fill) 0) where
         pub plain-fits : length f ≤ length stored
         plain-fits = omega (arith, s .frameLength, s .heldLength, known .sizeMost)
 
@@ -106,9 +106,9 @@ module _ (T : Tables) (size : ℕ) (xs ys : List ℤ) (f order held : List ℕ) 
         plain-frame bytes out o =
             let g : List Bool = gatherBits (classesOf T) (points xs ys) in
             let h = store-room e in
-            let a : written (t .writer) heard ≡ g = m .gathered on ∙ rw classes-are in
-            let framed : Framed g stored = rw a at (finished (t .writer) heard stored (omega arith) (omega arith) (m .waits) w) in
-            let n : length f ≡ bytesFor (length g) = s .frameLength ∙ ap bytesFor (size-uncoded T plain ∙ sym (gathered-length (sym (plain-heard .offgridIs) ∙ on))) in
+            let a : written (t .writer) decoded ≡ g = m .gathered on ∙ rw classes-are in
+            let framed : Framed g stored = rw a at (finished (t .writer) decoded stored (omega arith) (omega arith) (m .waits) w) in
+            let n : length f ≡ bytesFor (length g) = s .frameLength ∙ ap bytesFor (size-uncoded T plain ∙ sym (gathered-length (sym (plain-decoded .offgridIs) ∙ on))) in
             o ∙ framed-bytes g stored (length f) n plain-fits framed bytes ∙ ap (λ x. pack (frameIn x)) (sym reading-plain)
 
 -- ---- coded
@@ -142,9 +142,9 @@ module _ (T : Tables) (size : ℕ) (xs ys : List ℤ) (f order es labels held : 
         fits = counts-fit;
       }
 
-  module _ {r : ℕ} {t : LabelsRead} {heard : List ℕ} (m : ReadsLabels (classesBy (T .bits) (T .gains) order) r (points xs ys) es t heard) where
-    pub coded-heard : Heard T (points xs ys) r (t .offgrid) (t .monitor) (t .register)
-    coded-heard =
+  module _ {r : ℕ} {t : LabelsRead} {decoded : List ℕ} (m : ReadsLabels (classesBy (T .bits) (T .gains) order) r (points xs ys) es t decoded) where
+    pub coded-decoded : Decoded T (points xs ys) r (t .offgrid) (t .monitor) (t .register)
+    coded-decoded =
         let e = classes-are T size xs ys f order held (s .plain) in
         record {
           offgridIs = m .offgridIs ∙ rw (e, length-classes T);
@@ -152,9 +152,9 @@ module _ (T : Tables) (size : ℕ) (xs ys : List ℤ) (f order es labels held : 
           registerIs = λ on. m .registerIs on ∙ rw e;
         }
 
-    module _ (on : t .offgrid ≡ Nothing) (same : length heard ≡ length labels) where
-      pub hear-ready : HearReady es heard held
-      hear-ready =
+    module _ (on : t .offgrid ≡ Nothing) (same : length decoded ≡ length labels) where
+      pub decode-ready : DecodeReady es decoded held
+      decode-ready =
           let w : takenTotal (pairsOf (entries (T .bits) (T .tones))) ≡ sizeOf T = sym (ap takenTotal (cs .pairs)) ∙ cs .taken in
           let e = s .entriesAre in
           record {
@@ -166,20 +166,20 @@ module _ (T : Tables) (size : ℕ) (xs ys : List ℤ) (f order es labels held : 
             bytes = rw (e, w) (omega (arith, facts .sizeMost, s .plain .heldLength));
           }
 
-      bits-are : spell es heard ≡ gatherBits (classesOf T) (points xs ys)
+      bits-are : bitsOfLabels es decoded ≡ gatherBits (classesOf T) (points xs ys)
       bits-are = m .gathered on ∙ rw (classes-are T size xs ys f order held (s .plain))
 
       reading-is : readPairs zeroState (pairsIn T) (gatherBits (classesOf T) (points xs ys)) ≡ readingIn T (points xs ys)
       unfolding readingIn readingOf
       reading-is = rw coded
 
-      reading-coded : readingOfAll es heard ≡ readingIn T (points xs ys)
+      reading-coded : readingOfAll es decoded ≡ readingIn T (points xs ys)
       reading-coded =
           ap (readPairs zeroState (pairsOf es)) bits-are
           ∙ ap (λ (ps : List Pair). readPairs zeroState ps (gatherBits (classesOf T) (points xs ys))) (ap pairsOf (s .entriesAre) ∙ sym (cs .pairs))
           ∙ reading-is
 
-      module _ (b : Found) (after : List ℕ) (reads : ReadsLabelled es heard b after) where
+      module _ (b : Found) (after : List ℕ) (reads : ReadsLabelled es decoded b after) where
         pub breaks-at : b ≡ breakIn (readingIn T (points xs ys))
         breaks-at = reads .broken ∙ ap breakIn reading-coded
 
@@ -187,7 +187,7 @@ module _ (T : Tables) (size : ℕ) (xs ys : List ℤ) (f order es labels held : 
         size-read (frame g) e n =
             let d : readPairs zeroState (pairsIn T) (gatherBits (classesOf T) (points xs ys)) ≡ frame g = reading-is ∙ e in
             let l : length (gatherBits (classesOf T) (points xs ys)) ≡ sentTotal (pairsIn T) =
-            gathered-length T size xs ys f order held (s .plain) (sym (coded-heard .offgridIs) ∙ on) ∙ sym (cs .widths) in
+            gathered-length T size xs ys f order held (s .plain) (sym (coded-decoded .offgridIs) ∙ on) ∙ sym (cs .widths) in
             length-read (pairsIn T) zeroState (gatherBits (classesOf T) (points xs ys)) g (formed-ok (pairsIn T) (cs .formed)) l d ∙ cs .taken
         size-read (breaks k) e n = absurd (found-not n)
 

@@ -9,7 +9,7 @@ use native.Mathlib.Omega.{arith}
 use lib.IntN.{ℤ}
 use lib.ListN.{length, take, drop, getD, replicate, length-replicate, length-drop, drop-of-length-le}
 use lib.Seq.{drop-at, drop-cons, take-all, take-length}
-use Rattle.frame.specs.Spelled.{Fits}
+use Rattle.frame.specs.Labels.{Fits}
 use Rattle.g9932.specs.Sizes.{Tables, entry, frameBits, unpack, bytesFor}
 use Rattle.g9932.specs.Refusals.{tableVerdict}
 use Rattle.g9932.specs.Order.{sum, bitsOf, entries, entryCount, pairsOf, reorderedTones, reorderedBits}

@@ -5,7 +5,7 @@ use mathlib.Core.List.{List, [], _∷_, map}
 use mathlib.Core.Path.{_≡_}
 use lib.IntN.{ℤ}
 use lib.ListN.{length}
-use Rattle.frame.specs.Spelled.{Fits}
+use Rattle.frame.specs.Labels.{Fits}
 use Rattle.g9932.specs.Sizes.{Tables, entry}
 use Rattle.g9932.specs.Refusals.{Verdict, accepted, refuseIf, roomTest, frameTest, seedTest, tableVerdict}
 use Rattle.g9932.specs.Filler.{registerAfter}

@@ -106,10 +106,10 @@ fn read_coded(
     requires { ⌜ CodedReady (tables Coded (now bits) (now gains) (now tones)) size (now xs) (now ys) (now frame) (now order) (now entries) (now labels) (now held) ⌝ }
     ensures { λ r. ⌜ ReadsPoints (tables Coded (now (bits .entry)) (now (gains .entry)) (now (tones .entry))) (points (now (xs .entry)) (now (ys .entry))) register (now (frame .entry)) r (now (frame .exit)) ⌝ }
 {
-    let heard = mapper::collect::read_labels(bits, gains, order, entries, xs, ys, register, labels);
-    let drawn = heard.register;
-    let offgrid = heard.offgrid;
-    let monitor = heard.monitor;
+    let decoded = mapper::collect::read_labels(bits, gains, order, entries, xs, ys, register, labels);
+    let drawn = decoded.register;
+    let offgrid = decoded.offgrid;
+    let monitor = decoded.monitor;
     let places = refused_place(offgrid, monitor);
     match places {
         Checked::Refused(refusal) => Answer::Refused { refusal, register },

@@ -6,8 +6,8 @@ use Prim.Native.Nat.{ℕ, _+_, _*_, _%_, _≤_, _<_}
 use native.Mathlib.Omega.{arith}
 use native.Mathlib.Nat.{zero-add}
 use lib.ListN.{length, take, drop, getD, set, length-set}
-use Rattle.frame.proofs.Spelled.{spell-set, within-set}
-use Rattle.frame.specs.Spelled.{spell}
+use Rattle.frame.proofs.Labels.{labels-set, within-set}
+use Rattle.frame.specs.Labels.{bitsOfLabels}
 use Rattle.g9932.proofs.Pairs.{takenTotal}
 use Rattle.g9932.specs.Bits.{bits}
 use Rattle.g9932.specs.Order.{pair, inTwos, pairsOf}
@@ -16,7 +16,7 @@ use Rattle.g9932.specs.Trellis.{taken, sentBits, zeroState}
 use Rattle.trellis.specs.Coding.{codedWord, firstCoder, CodesPair, RoomFrom, CodesFrom, CodedWhole, Ready}
 use Rattle.trellis.specs.declared.PairCode.{PairCode}
 use Rattle.trellis.proofs.CodeLoop.{encode-step}
-use Rattle.trellis.proofs.Entries.{whole-pairs, padded-pairs, not-late}
+use Rattle.trellis.proofs.Entries.{whole-pairs, padded-pairs, not-forced}
 
 -- an even count
 module _ (es frame labels : List ℕ) (ready : Ready es frame labels) (even : length es % 2 ≡ 1 → ⊥) where
@@ -37,7 +37,7 @@ module _ (es frame labels : List ℕ) (ready : Ready es frame labels) (even : le
 -- an odd count: the first pair has x = 0
 module _ (es frame labels : List ℕ) (y : ℕ) (ready : Ready es frame labels) (odd : length es % 2 ≡ 1) (hy : y ≡ getD es 0 0) where
   taken-first : takenTotal (pairsOf es) ≡ taken false (pair 0 y) + takenTotal (inTwos (drop 1 es))
-  taken-first = rw (padded-pairs es y (ready .few) odd hy, ← (not-late es (ready .few) odd))
+  taken-first = rw (padded-pairs es y (ready .few) odd hy, ← (not-forced es (ready .few) odd))
 
   pub first-room : (2 ≤ y) × (y ≤ 15) × (y ≤ 8 * length frame + 1)
   first-room =
@@ -65,11 +65,11 @@ module _ (es frame labels : List ℕ) (y : ℕ) (ready : Ready es frame labels) 
     pub odd-coded : (after : List ℕ) → CodesFrom (p .coder) es 1 frame (set labels 0 (p .w)) after → CodedWhole es frame after
     unfolding bits
     odd-coded after g =
-        let n : spell (take 1 es) (take 1 (set labels 0 (p .w))) ≡ sentBits 0 (codedWord firstCoder false (pair 0 y) frame) =
-        spell-set es labels 0 (p .w) (omega (arith, ready .few)) here ∙ rw (← hy) (first .sends) in
+        let n : bitsOfLabels (take 1 es) (take 1 (set labels 0 (p .w))) ≡ sentBits 0 (codedWord firstCoder false (pair 0 y) frame) =
+        labels-set es labels 0 (p .w) (omega (arith, ready .few)) here ∙ rw (← hy) (first .sends) in
         record {
           whole =
               g .whole
-              ∙ rw (n, padded-pairs es y (ready .few) odd hy, first .state, first .at, encode-step false zeroState (pair 0 y) (inTwos (drop 1 es)) (unpack frame) (not-late es (ready .few) odd), zero-add (taken false (pair 0 y)));
+              ∙ rw (n, padded-pairs es y (ready .few) odd hy, first .state, first .at, encode-step false zeroState (pair 0 y) (inTwos (drop 1 es)) (unpack frame) (not-forced es (ready .few) odd), zero-add (taken false (pair 0 y)));
           within = g .within;
         }

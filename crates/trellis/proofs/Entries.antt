@@ -40,8 +40,8 @@ ltb-shift n i h = go (ltb (n - (i + 2)) 4) refl
     go false e = le-ltb (n - i) 6 (let k = ltb-false (n - (i + 2)) 4 e in omega arith)
 
 -- a pair is one of the last two where fewer than six entries are left, its own among them
-pub late-is : (es : List ℕ) (i : ℕ) → i + 2 ≤ length es → ltb (length es - i) 6 ≡ lastTwo (inTwos (drop (i + 2) es))
-late-is es i h = ltb-shift (length es) i h ∙ sym (lastTwo-length (drop (i + 2) es) ∙ rw length-drop)
+pub forced-is : (es : List ℕ) (i : ℕ) → i + 2 ≤ length es → ltb (length es - i) 6 ≡ lastTwo (inTwos (drop (i + 2) es))
+forced-is es i h = ltb-shift (length es) i h ∙ sym (lastTwo-length (drop (i + 2) es) ∙ rw length-drop)
 
 -- the pair at an entry: it is cut off, and its counts are 2 to 15
 module _ (es : List ℕ) (i x y : ℕ) where
@@ -64,5 +64,5 @@ padded-pairs es y few odd hy =
     rw (eq-eqb (length es % 2) 1 odd) (ap (λ (l : List ℕ). inTwos (0 ∷ l)) d ∙ rw hy)
 
 -- the pair with the 0 is not among the last two
-pub not-late : (es : List ℕ) → 4 ≤ length es → length es % 2 ≡ 1 → false ≡ lastTwo (inTwos (drop 1 es))
-not-late es few odd = sym (lastTwo-length (drop 1 es) ∙ le-ltb (length (drop 1 es)) 4 (simp length-drop (omega arith)))
+pub not-forced : (es : List ℕ) → 4 ≤ length es → length es % 2 ≡ 1 → false ≡ lastTwo (inTwos (drop 1 es))
+not-forced es few odd = sym (lastTwo-length (drop 1 es) ∙ le-ltb (length (drop 1 es)) 4 (simp length-drop (omega arith)))

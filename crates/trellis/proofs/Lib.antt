@@ -3,6 +3,6 @@ pub mod OnePair
 pub mod Entries
 pub mod CodeLoop
 pub mod CodeAll
-pub mod HearPair
-pub mod HearLoop
-pub mod HearAll
+pub mod DecodePair
+pub mod DecodeLoop
+pub mod DecodeAll

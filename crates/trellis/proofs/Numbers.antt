@@ -31,7 +31,7 @@ pub record IsInputs (u : Word) (r : Inputs) : Type 0 where
   pub u3 : r .u3 ≡ u .u3
   pub high : r .high ≡ num (u .high)
 
-pub inputs-word : (late : Bool) (s : TrellisState) (x : ℕ) (f : List Bool) → IsInputs (wordOf late s (suc x) f) (inputsOf late s (num f))
+pub inputs-word : (forced : Bool) (s : TrellisState) (x : ℕ) (f : List Bool) → IsInputs (wordOf forced s (suc x) f) (inputsOf forced s (num f))
 unfolding wordOf inputsOf
 inputs-word true s x f = record { u1 = refl; u2 = refl; u3 = sym (lowest f); high = sym (num-drop 1 f) }
 inputs-word false s x f = record { u1 = sym (lowest f); u2 = sym (bit-num f 1); u3 = sym (bit-num f 2); high = sym (num-drop 3 f) }

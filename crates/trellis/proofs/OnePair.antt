@@ -23,23 +23,23 @@ use Rattle.trellis.specs.Coding.{inputsOf, labelNumber}
 use Rattle.trellis.specs.declared.Inputs.{Inputs}
 use Rattle.trellis.proofs.Numbers.{bit-num, IsInputs, inputs-word, v-number, w-number}
 
-word-u0 : (late : Bool) (s : TrellisState) (x : ℕ) (f : List Bool) → wordOf late s x f .u0 ≡ s .s0
+word-u0 : (forced : Bool) (s : TrellisState) (x : ℕ) (f : List Bool) → wordOf forced s x f .u0 ≡ s .s0
 unfolding wordOf
-word-u0 late s zero f = refl
+word-u0 forced s zero f = refl
 word-u0 true s (suc x) f = refl
 word-u0 false s (suc x) f = refl
 
-inputs-at : (late : Bool) (s : TrellisState) (x : ℕ) (f : List Bool) → 2 ≤ x → IsInputs (wordOf late s x f) (inputsOf late s (num f))
-inputs-at late s zero f h = absurd (omega arith)
-inputs-at late s (suc x) f h = inputs-word late s x f
+inputs-at : (forced : Bool) (s : TrellisState) (x : ℕ) (f : List Bool) → 2 ≤ x → IsInputs (wordOf forced s x f) (inputsOf forced s (num f))
+inputs-at forced s zero f h = absurd (omega arith)
+inputs-at forced s (suc x) f h = inputs-word forced s x f
 
 high-count : (x y : ℕ) → 2 ≤ x → highs x y ≡ x + y - 4
 high-count zero y h = absurd (omega arith)
 high-count (suc x) y h = refl
 
-pub record PairCoded (late : Bool) (s : TrellisState) (x y : ℕ) (f : List Bool) (i : Inputs) (v w : ℕ) : Type 0 where
-  pub next : nextState s (i .u1) (i .u2) ≡ nextOf s (wordOf late s x f)
-  pub sends : bits x v ++ bits y w ≡ sentBits x (wordOf late s x f)
+pub record PairCoded (forced : Bool) (s : TrellisState) (x y : ℕ) (f : List Bool) (i : Inputs) (v w : ℕ) : Type 0 where
+  pub next : nextState s (i .u1) (i .u2) ≡ nextOf s (wordOf forced s x f)
+  pub sends : bits x v ++ bits y w ≡ sentBits x (wordOf forced s x f)
   pub vSmall : v < 2 ^ x
   pub wSmall : w < 2 ^ y
 
@@ -50,30 +50,30 @@ sent-parts u zero h = absurd (omega arith)
 sent-parts u (suc a) h = refl
 
 -- a number that is that of a list is spelled by it
-spelled : (n v : ℕ) (l : List Bool) → v ≡ num l → length l ≡ n → (bits n v ≡ l) × (v < 2 ^ n)
-spelled n v l e m = (rw (e, ← m) (bits-num l), rw (e, ← m) (num-lt l))
+labels : (n v : ℕ) (l : List Bool) → v ≡ num l → length l ≡ n → (bits n v ≡ l) × (v < 2 ^ n)
+labels n v l e m = (rw (e, ← m) (bits-num l), rw (e, ← m) (num-lt l))
 
-module _ (late : Bool) (s : TrellisState) (x y : ℕ) (f : List Bool) (hx : 2 ≤ x) (hy : 2 ≤ y) (hf : length f ≡ taken late (pair x y)) where
-  valid : Valid late s x y (wordOf late s x f)
-  valid = word-valid s f (fit-both late x y hx hy) hf
+module _ (forced : Bool) (s : TrellisState) (x y : ℕ) (f : List Bool) (hx : 2 ≤ x) (hy : 2 ≤ y) (hf : length f ≡ taken forced (pair x y)) where
+  valid : Valid forced s x y (wordOf forced s x f)
+  valid = word-valid s f (fit-both forced x y hx hy) hf
 
-  high-small : x ≤ 15 → y ≤ 15 → (i : Inputs) → i ≡ inputsOf late s (num f) → i .high < 67108864
+  high-small : x ≤ 15 → y ≤ 15 → (i : Inputs) → i ≡ inputsOf forced s (num f) → i .high < 67108864
   high-small kx ky i hi =
-      let j : IsInputs (wordOf late s x f) i = rw hi (inputs-at late s x f hx) in
-      let e : length (wordOf late s x f .high) ≡ x + y - 4 = valid .sized ∙ high-count x y hx in
-      rw (j .high) (lt-of-lt-of-le (num-lt (wordOf late s x f .high)) (pow-mono {j = 26} (omega arith)))
+      let j : IsInputs (wordOf forced s x f) i = rw hi (inputs-at forced s x f hx) in
+      let e : length (wordOf forced s x f .high) ≡ x + y - 4 = valid .sized ∙ high-count x y hx in
+      rw (j .high) (lt-of-lt-of-le (num-lt (wordOf forced s x f .high)) (pow-mono {j = 26} (omega arith)))
 
-  pair-coded : (i : Inputs) (low : LowBits) (v w : ℕ) → i ≡ inputsOf late s (num f) → low ≡ lowBits (s .s0) (i .u1) (i .u2) (i .u3)
-      → v ≡ labelNumber (low .v0) (low .v1) (i .high % 2 ^ (x - 2)) → w ≡ labelNumber (low .w0) (low .w1) (i .high / 2 ^ (x - 2)) → PairCoded late s x y f i v w
+  pair-coded : (i : Inputs) (low : LowBits) (v w : ℕ) → i ≡ inputsOf forced s (num f) → low ≡ lowBits (s .s0) (i .u1) (i .u2) (i .u3)
+      → v ≡ labelNumber (low .v0) (low .v1) (i .high % 2 ^ (x - 2)) → w ≡ labelNumber (low .w0) (low .w1) (i .high / 2 ^ (x - 2)) → PairCoded forced s x y f i v w
   pair-coded i low v w hi hl hv hw =
-      let u : Word = wordOf late s x f in
-      let j : IsInputs u i = rw hi (inputs-at late s x f hx) in
-      let l : low ≡ lowBitsOf u = hl ∙ rw (j .u1, j .u2, j .u3, word-u0 late s x f) in
+      let u : Word = wordOf forced s x f in
+      let j : IsInputs u i = rw hi (inputs-at forced s x f hx) in
+      let l : low ≡ lowBitsOf u = hl ∙ rw (j .u1, j .u2, j .u3, word-u0 forced s x f) in
       let k : length (u .high) ≡ x + y - 4 = valid .sized ∙ high-count x y hx in
       let n = length-take-le (x - 2) (u .high) (omega arith) in
       let m = length-drop (x - 2) (u .high) in
-      let a = spelled x v (lowBitsOf u .v0 ∷ lowBitsOf u .v1 ∷ take (x - 2) (u .high)) (hv ∙ rw (l, j .high) (sym (v-number u x))) (omega arith) in
-      let b = spelled y w (lowBitsOf u .w0 ∷ lowBitsOf u .w1 ∷ drop (x - 2) (u .high)) (hw ∙ rw (l, j .high) (sym (w-number u x))) (omega arith) in
+      let a = labels x v (lowBitsOf u .v0 ∷ lowBitsOf u .v1 ∷ take (x - 2) (u .high)) (hv ∙ rw (l, j .high) (sym (v-number u x))) (omega arith) in
+      let b = labels y w (lowBitsOf u .w0 ∷ lowBitsOf u .w1 ∷ drop (x - 2) (u .high)) (hw ∙ rw (l, j .high) (sym (w-number u x))) (omega arith) in
       record {
         next = rw (j .u1, j .u2);
         sends = rw (a .0, b .0) (sent-parts u x hx);
@@ -88,18 +88,18 @@ length-part l at n h =
     length-take-le n (drop at (unpack l)) (simp length-drop (omega arith))
 
 -- the same of a pair whose n bits are got from a frame l: as the code has it
-module _ (late : Bool) (s : TrellisState) (x y : ℕ) (l : List ℕ) (at n g : ℕ) (i : Inputs) (hx : 2 ≤ x) (hy : 2 ≤ y)
-    (room : at + taken late (pair x y) ≤ 8 * length l) (hn : n ≡ taken late (pair x y)) (hg : g ≡ num (take n (drop at (unpack l))))
-    (hi : i ≡ inputsOf late s g) where
-  is-input : i ≡ inputsOf late s (num (take (taken late (pair x y)) (drop at (unpack l))))
-  is-input = hi ∙ ap (inputsOf late s) (hg ∙ ap (λ (m : ℕ). num (take m (drop at (unpack l)))) hn)
+module _ (forced : Bool) (s : TrellisState) (x y : ℕ) (l : List ℕ) (at n g : ℕ) (i : Inputs) (hx : 2 ≤ x) (hy : 2 ≤ y)
+    (room : at + taken forced (pair x y) ≤ 8 * length l) (hn : n ≡ taken forced (pair x y)) (hg : g ≡ num (take n (drop at (unpack l))))
+    (hi : i ≡ inputsOf forced s g) where
+  is-input : i ≡ inputsOf forced s (num (take (taken forced (pair x y)) (drop at (unpack l))))
+  is-input = hi ∙ ap (inputsOf forced s) (hg ∙ ap (λ (m : ℕ). num (take m (drop at (unpack l)))) hn)
 
   pub got-high : x ≤ 15 → y ≤ 15 → i .high < 67108864
-  got-high kx ky = high-small late s x y _ hx hy (length-part l at (taken late (pair x y)) room) kx ky i is-input
+  got-high kx ky = high-small forced s x y _ hx hy (length-part l at (taken forced (pair x y)) room) kx ky i is-input
 
   pub got-pair : (low : LowBits) (v w : ℕ) → low ≡ lowBits (s .s0) (i .u1) (i .u2) (i .u3) → v ≡ labelNumber (low .v0) (low .v1) (i .high % 2 ^ (x - 2))
-      → w ≡ labelNumber (low .w0) (low .w1) (i .high / 2 ^ (x - 2)) → PairCoded late s x y (take (taken late (pair x y)) (drop at (unpack l))) i v w
-  got-pair low v w hl hv hw = pair-coded late s x y _ hx hy (length-part l at (taken late (pair x y)) room) i low v w is-input hl hv hw
+      → w ≡ labelNumber (low .w0) (low .w1) (i .high / 2 ^ (x - 2)) → PairCoded forced s x y (take (taken forced (pair x y)) (drop at (unpack l))) i v w
+  got-pair low v w hl hv hw = pair-coded forced s x y _ hx hy (length-part l at (taken forced (pair x y)) room) i low v w is-input hl hv hw
 
 -- ---- a first pair with x = 0
 

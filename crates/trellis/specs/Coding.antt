@@ -4,7 +4,7 @@ use mathlib.Core.Bool.{Bool, true, false}
 use mathlib.Core.List.{List, _++_}
 use mathlib.Core.Path.{_≡_}
 use lib.ListN.{length, take, drop, getD}
-use Rattle.frame.specs.Spelled.{spell, Within}
+use Rattle.frame.specs.Labels.{bitsOfLabels, Within}
 use Rattle.g9932.proofs.Pairs.{takenTotal}
 use Rattle.g9932.specs.Bits.{_⊕_, weight, odd, bits}
 use Rattle.g9932.specs.Order.{inTwos, pairsOf, Pair}
@@ -27,17 +27,17 @@ labelNumber b0 b1 high = weight b0 + 2 * weight b1 + 4 * high
 -- ---- one pair
 
 abbrev pub codedWord : Coder → Bool → Pair → List ℕ → Word
-codedWord c late p frame = wordOf late (c .state) (p .x) (take (taken late p) (drop (c .at) (unpack frame)))
+codedWord c forced p frame = wordOf forced (c .state) (p .x) (take (taken forced p) (drop (c .at) (unpack frame)))
 
-pub record PairRoom (c : Coder) (late : Bool) (p : Pair) (frame : List ℕ) : Type 0 where
-  pub bits : c .at + taken late p ≤ 8 * length frame
+pub record PairRoom (c : Coder) (forced : Bool) (p : Pair) (frame : List ℕ) : Type 0 where
+  pub bits : c .at + taken forced p ≤ 8 * length frame
   pub small : length frame ≤ 7680
 
 -- the labels v and w spell the pair's sent bits
-pub record CodesPair (c : Coder) (late : Bool) (p : Pair) (frame : List ℕ) (r : PairCode) : Type 0 where
-  pub state : r .coder .state ≡ nextOf (c .state) (codedWord c late p frame)
-  pub at : r .coder .at ≡ c .at + taken late p
-  pub sends : bits (p .x) (r .v) ++ bits (p .y) (r .w) ≡ sentBits (p .x) (codedWord c late p frame)
+pub record CodesPair (c : Coder) (forced : Bool) (p : Pair) (frame : List ℕ) (r : PairCode) : Type 0 where
+  pub state : r .coder .state ≡ nextOf (c .state) (codedWord c forced p frame)
+  pub at : r .coder .at ≡ c .at + taken forced p
+  pub sends : bits (p .x) (r .v) ++ bits (p .y) (r .w) ≡ sentBits (p .x) (codedWord c forced p frame)
   pub vSmall : r .v < 2 ^ p .x
   pub wSmall : r .w < 2 ^ p .y
 
@@ -60,14 +60,14 @@ pub record RoomFrom (c : Coder) (es : List ℕ) (i : ℕ) (frame labels : List �
   pub within : Within es labels i
 
 pub record CodesFrom (c : Coder) (es : List ℕ) (i : ℕ) (frame labels after : List ℕ) : Type 0 where
-  pub whole : spell es after ≡ spell (take i es) (take i labels) ++ encodePairs (c .state) (inTwos (drop i es)) (drop (c .at) (unpack frame))
+  pub whole : bitsOfLabels es after ≡ bitsOfLabels (take i es) (take i labels) ++ encodePairs (c .state) (inTwos (drop i es)) (drop (c .at) (unpack frame))
   pub within : Within es after (length es)
 
 -- ---- all pairs
 
 -- the labels spell the sent bits
 pub record CodedWhole (es frame after : List ℕ) : Type 0 where
-  pub whole : spell es after ≡ encodePairs zeroState (pairsOf es) (unpack frame)
+  pub whole : bitsOfLabels es after ≡ encodePairs zeroState (pairsOf es) (unpack frame)
   pub within : Within es after (length es)
 
 pub record Ready (es frame labels : List ℕ) : Type 0 where

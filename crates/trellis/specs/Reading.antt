@@ -4,24 +4,24 @@ use mathlib.Core.Bool.{Bool, true, false}
 use mathlib.Core.List.{List, [], _++_}
 use mathlib.Core.Path.{_≡_}
 use lib.ListN.{length, drop}
-use Rattle.frame.specs.Spelled.{spell, Within}
+use Rattle.frame.specs.Labels.{bitsOfLabels, Within}
 use Rattle.frame.specs.Written.{emptyWriter, written, Waits, count, Put, Framed}
 use Rattle.g9932.proofs.Pairs.{takenTotal}
 use Rattle.g9932.specs.Answers.{breakIn, frameIn}
 use Rattle.g9932.specs.Bits.{_⊕_, weight, odd, bits}
 use Rattle.g9932.specs.Order.{inTwos, pairsOf, Pair}
-use Rattle.g9932.specs.Trellis.{Word, Reading, heardWord, keepsCode, takenBits, nextOf, zeroState, readPairs}
+use Rattle.g9932.specs.Trellis.{Word, Reading, decodedWord, obeysCode, takenBits, nextOf, zeroState, readPairs}
 use Rattle.g9932.specs.declared.Found.{Found}
 use Rattle.g9932.specs.declared.Found.the-variants.{At, Nothing}
 use Rattle.trellis.specs.Coding.{labelNumber, Wide}
 use Rattle.trellis.specs.declared.read.Reader.{Reader}
-use Rattle.trellis.specs.declared.read.HeardWord.{HeardWord}
+use Rattle.trellis.specs.declared.read.DecodedWord.{DecodedWord}
 use Rattle.trellis.specs.declared.read.PairRead.{PairRead}
 use Rattle.trellis.specs.declared.read.PairsRead.{PairsRead}
 
 -- u0 to u3, and u4 upward as a number, from the labels of a pair, v having x bits
-unfoldable pub heardOf : ℕ → ℕ → ℕ → HeardWord
-heardOf v w x =
+unfoldable pub decodedOf : ℕ → ℕ → ℕ → DecodedWord
+decodedOf v w x =
     record {
       u0 = odd v ⊕ odd (v / 2) ⊕ odd w ⊕ odd (w / 2);
       u1 = odd v ⊕ odd (v / 2);
@@ -31,29 +31,29 @@ heardOf v w x =
     }
 
 -- its lowest bits, as a word
-abbrev pub wordBy : HeardWord → Word
+abbrev pub wordBy : DecodedWord → Word
 wordBy u = record { u0 = u .u0; u1 = u .u1; u2 = u .u2; u3 = u .u3; high = [] }
 
 -- the frame bits of a word, as a number
-unfoldable pub takenNumber : Bool → HeardWord → ℕ
+unfoldable pub takenNumber : Bool → DecodedWord → ℕ
 takenNumber true u = weight (u .u3) + 2 * u .high
 takenNumber false u = labelNumber (u .u1) (u .u2) (weight (u .u3) + 2 * u .high)
 
 -- ---- one pair
 
-abbrev pub heardIn : Pair → ℕ → ℕ → Word
-heardIn p v w = heardWord (p .x) (bits (p .x) v ++ bits (p .y) w)
+abbrev pub decodedIn : Pair → ℕ → ℕ → Word
+decodedIn p v w = decodedWord (p .x) (bits (p .x) v ++ bits (p .y) w)
 
-pub record HearRoom (c : Reader) (p : Pair) (v w : ℕ) (frame : List ℕ) : Type 0 where
+pub record DecodeRoom (c : Reader) (p : Pair) (v w : ℕ) (frame : List ℕ) : Type 0 where
   pub vSmall : v < 2 ^ p .x
   pub wSmall : w < 2 ^ p .y
   pub bytes : c .writer .next + 8 ≤ length frame
   pub waits : Waits (c .writer)
 
-pub record ReadsPair (c : Reader) (late : Bool) (p : Pair) (v w : ℕ) (frame : List ℕ) (r : PairRead) (after : List ℕ) : Type 0 where
-  pub kept : r .kept ≡ keepsCode late (c .state) (heardIn p v w)
-  pub state : r .reader .state ≡ nextOf (c .state) (heardIn p v w)
-  pub puts : Put (c .writer) frame (takenBits late (p .x) (heardIn p v w)) (r .reader .writer) after
+pub record ReadsPair (c : Reader) (forced : Bool) (p : Pair) (v w : ℕ) (frame : List ℕ) (r : PairRead) (after : List ℕ) : Type 0 where
+  pub kept : r .kept ≡ obeysCode forced (c .state) (decodedIn p v w)
+  pub state : r .reader .state ≡ nextOf (c .state) (decodedIn p v w)
+  pub puts : Put (c .writer) frame (takenBits forced (p .x) (decodedIn p v w)) (r .reader .writer) after
 
 -- the reader at the start
 abbrev pub firstReader : Reader
@@ -61,7 +61,7 @@ firstReader = record { state = zeroState; writer = emptyWriter }
 
 -- ---- the pairs from an entry on
 
-pub record HearRoomFrom (c : Reader) (es : List ℕ) (i : ℕ) (labels frame : List ℕ) : Type 0 where
+pub record DecodeRoomFrom (c : Reader) (es : List ℕ) (i : ℕ) (labels frame : List ℕ) : Type 0 where
   pub inside : i ≤ length es
   pub places : length es ≤ length labels
   pub within : Within es labels (length es)
@@ -74,7 +74,7 @@ onward k (At j) = At (k + j)
 onward k Nothing = Nothing
 
 abbrev pub readingFrom : Reader → List ℕ → ℕ → List ℕ → Reading
-readingFrom c es i labels = readPairs (c .state) (inTwos (drop i es)) (spell (drop i es) (drop i labels))
+readingFrom c es i labels = readPairs (c .state) (inTwos (drop i es)) (bitsOfLabels (drop i es) (drop i labels))
 
 pub record ReadsFrom (c : Reader) (es : List ℕ) (i : ℕ) (labels frame : List ℕ) (r : PairsRead) (after : List ℕ) : Type 0 where
   pub broken : r .broken ≡ onward ((i + 1) / 2) (breakIn (readingFrom c es i labels))
@@ -85,7 +85,7 @@ pub record ReadsFrom (c : Reader) (es : List ℕ) (i : ℕ) (labels frame : List
 -- ---- all pairs
 
 abbrev pub readingOfAll : List ℕ → List ℕ → Reading
-readingOfAll es labels = readPairs zeroState (pairsOf es) (spell es labels)
+readingOfAll es labels = readPairs zeroState (pairsOf es) (bitsOfLabels es labels)
 
 pub record ReadWhole (es labels : List ℕ) (r : PairsRead) (after : List ℕ) : Type 0 where
   pub broken : r .broken ≡ breakIn (readingOfAll es labels)
@@ -93,7 +93,7 @@ pub record ReadWhole (es labels : List ℕ) (r : PairsRead) (after : List ℕ) :
   pub waits : Waits (r .writer)
   pub counted : r .broken ≡ Nothing → count (r .writer) ≡ takenTotal (pairsOf es)
 
-pub record HearReady (es labels frame : List ℕ) : Type 0 where
+pub record DecodeReady (es labels frame : List ℕ) : Type 0 where
   pub wide : Wide es
   pub few : 4 ≤ length es
   pub many : length es ≤ 4096

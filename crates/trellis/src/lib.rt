@@ -21,10 +21,10 @@ pub struct Inputs {
 }
 
 // The word of a pair with x at least 2, from the bits f that it takes: u1 and u2 are forced where it is one of the last two.
-fn inputs_of(s: TrellisState, late: bool, f: u32) -> Inputs
-    ensures { λ r. ⌜ r ≡ inputsOf late s f ⌝ }
+fn inputs_of(s: TrellisState, forced: bool, f: u32) -> Inputs
+    ensures { λ r. ⌜ r ≡ inputsOf forced s f ⌝ }
 {
-    if late {
+    if forced {
         return Inputs {
             u1: s.s1 ^ s.s3,
             u2: s.s2,
@@ -72,11 +72,11 @@ fn label(b0: bool, b1: bool, high: u32) -> u32
 }
 
 // How many bits a pair takes from the frame.
-fn taken_bits(late: bool, x: usize, y: usize) -> usize
+fn taken_bits(forced: bool, x: usize, y: usize) -> usize
     requires { ⌜ (2 ≤ x) × (x ≤ 15) × (2 ≤ y) × (y ≤ 15) ⌝ }
-    ensures { λ r. ⌜ (r ≡ taken late (pair x y)) × (r ≤ 29) ⌝ }
+    ensures { λ r. ⌜ (r ≡ taken forced (pair x y)) × (r ≤ 29) ⌝ }
 {
-    if late {
+    if forced {
         return x + y - 3;
     }
     x + y - 1
@@ -108,13 +108,13 @@ fn zero_state() -> TrellisState
 }
 
 // Codes a pair with x at least 2.
-fn code_pair(c: Coder, frame: &[u8], late: bool, x: usize, y: usize) -> PairCode
-    requires { ⌜ (2 ≤ x) × (x ≤ 15) × (2 ≤ y) × (y ≤ 15) × PairRoom c late (pair x y) (now frame) ⌝ }
-    ensures { λ r. ⌜ CodesPair c late (pair x y) (now (frame .entry)) r ⌝ }
+fn code_pair(c: Coder, frame: &[u8], forced: bool, x: usize, y: usize) -> PairCode
+    requires { ⌜ (2 ≤ x) × (x ≤ 15) × (2 ≤ y) × (y ≤ 15) × PairRoom c forced (pair x y) (now frame) ⌝ }
+    ensures { λ r. ⌜ CodesPair c forced (pair x y) (now (frame .entry)) r ⌝ }
 {
     let s = c.state;
-    let n = taken_bits(late, x, y);
-    let u = inputs_of(s, late, frame::get(frame, c.at, n));
+    let n = taken_bits(forced, x, y);
+    let u = inputs_of(s, forced, frame::get(frame, c.at, n));
     let t = s.step(u.u1, u.u2, u.u3);
     let low = t.low;
     let next = t.next;
@@ -145,8 +145,8 @@ fn code_from(c: Coder, frame: &[u8], entries: &[u8], from: usize, labels: &mut [
     let mut k = c;
     let mut i = from;
     while i + 1 < entries.len() {
-        let late = entries.len() - i < 6;
-        let p = code_pair(k, frame, late, entry(entries, i), entry(entries, i + 1));
+        let forced = entries.len() - i < 6;
+        let p = code_pair(k, frame, forced, entry(entries, i), entry(entries, i + 1));
         labels[i] = p.v as u16;
         labels[i + 1] = p.w as u16;
         k = p.coder;

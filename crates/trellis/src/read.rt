@@ -4,9 +4,9 @@ ghost use mathlib.Core.Bool.{true, false};
 ghost use Prim.Native.Nat.{ℕ, _+_, _-_, _*_, _^_, _≤_, _<_};
 ghost use lib.ListN.{length, getD};
 ghost use Rattle.g9932.specs.Order.{pair};
-ghost use Rattle.g9932.specs.Trellis.{keepsCode};
+ghost use Rattle.g9932.specs.Trellis.{obeysCode};
 ghost use Rattle.trellis.specs.Coding.{Wide};
-ghost use Rattle.trellis.specs.Reading.{firstReader, heardOf, wordBy, takenNumber, HearRoom, ReadsPair, HearRoomFrom, ReadsFrom, ReadWhole, HearReady, ReadsAll};
+ghost use Rattle.trellis.specs.Reading.{firstReader, decodedOf, wordBy, takenNumber, DecodeRoom, ReadsPair, DecodeRoomFrom, ReadsFrom, ReadWhole, DecodeReady, ReadsAll};
 use super::entry;
 use super::label;
 use super::power;
@@ -18,7 +18,7 @@ use g9932::Found;
 use g9932::TrellisState;
 
 // The word that a pair's labels imply: u0 to u3 and, as a number, u4 upward.
-pub struct HeardWord {
+pub struct DecodedWord {
     pub u0: bool,
     pub u1: bool,
     pub u2: bool,
@@ -27,15 +27,15 @@ pub struct HeardWord {
 }
 
 // The word of the labels of a pair, v having x bits.
-fn hear(v: u32, w: u32, x: usize) -> HeardWord
+fn decode_word(v: u32, w: u32, x: usize) -> DecodedWord
     requires { ⌜ (2 ≤ x) × (x ≤ 15) × (v < 2 ^ 15) × (w < 2 ^ 15) ⌝ }
-    ensures { λ r. ⌜ r ≡ heardOf v w x ⌝ }
+    ensures { λ r. ⌜ r ≡ decodedOf v w x ⌝ }
 {
     let v0 = v % 2 == 1;
     let v1 = v / 2 % 2 == 1;
     let w0 = w % 2 == 1;
     let w1 = w / 2 % 2 == 1;
-    HeardWord {
+    DecodedWord {
         u0: ((v0 ^ v1) ^ w0) ^ w1,
         u1: v0 ^ v1,
         u2: v0 ^ w0,
@@ -45,22 +45,22 @@ fn hear(v: u32, w: u32, x: usize) -> HeardWord
 }
 
 // Whether a pair keeps the code.
-fn keeps(s: TrellisState, late: bool, u: HeardWord) -> bool
-    ensures { λ r. ⌜ r ≡ keepsCode late s (wordBy u) ⌝ }
+fn keeps(s: TrellisState, forced: bool, u: DecodedWord) -> bool
+    ensures { λ r. ⌜ r ≡ obeysCode forced s (wordBy u) ⌝ }
 {
-    if late {
+    if forced {
         return !(u.u0 ^ s.s0) & !(u.u1 ^ (s.s1 ^ s.s3)) & !(u.u2 ^ s.s2);
     }
     !(u.u0 ^ s.s0)
 }
 
 // The frame bits of a word with x at least 2, as a number.
-fn taken_of(late: bool, u: HeardWord) -> u32
+fn taken_of(forced: bool, u: DecodedWord) -> u32
     requires { ⌜ u .high < 2 ^ 26 ⌝ }
-    ensures { λ r. ⌜ r ≡ takenNumber late u ⌝ }
+    ensures { λ r. ⌜ r ≡ takenNumber forced u ⌝ }
 {
     let free = weight(u.u3) + 2 * u.high;
-    if late {
+    if forced {
         return free;
     }
     label(u.u1, u.u2, free)
@@ -81,27 +81,27 @@ pub struct PairRead {
 // Reads a pair with x at least 2, by its labels.
 fn read_pair(
     c: Reader,
-    late: bool,
+    forced: bool,
     x: usize,
     y: usize,
     v: u32,
     w: u32,
     frame: &mut [u8],
 ) -> PairRead
-    requires { ⌜ (2 ≤ x) × (x ≤ 15) × (2 ≤ y) × (y ≤ 15) × HearRoom c (pair x y) v w (now frame) ⌝ }
-    ensures { λ r. ⌜ ReadsPair c late (pair x y) v w (now (frame .entry)) r (now (frame .exit)) ⌝ }
+    requires { ⌜ (2 ≤ x) × (x ≤ 15) × (2 ≤ y) × (y ≤ 15) × DecodeRoom c (pair x y) v w (now frame) ⌝ }
+    ensures { λ r. ⌜ ReadsPair c forced (pair x y) v w (now (frame .entry)) r (now (frame .exit)) ⌝ }
 {
     let s = c.state;
     let writer = c.writer;
-    let u = hear(v, w, x);
+    let u = decode_word(v, w, x);
     let t = s.step(u.u1, u.u2, u.u3);
     let next = t.next;
     let reader = Reader {
         state: next,
-        writer: writer.put(frame, taken_bits(late, x, y), taken_of(late, u)),
+        writer: writer.put(frame, taken_bits(forced, x, y), taken_of(forced, u)),
     };
     PairRead {
-        kept: keeps(s, late, u),
+        kept: keeps(s, forced, u),
         reader,
     }
 }
@@ -141,16 +141,16 @@ pub struct PairsRead {
 
 // Reads the pairs of the entries from `from` on. Entry i is of pair (i + 1) / 2.
 fn read_from(c: Reader, labels: &[u16], entries: &[u8], from: usize, frame: &mut [u8]) -> PairsRead
-    requires { ⌜ Wide (now entries) × (length (now entries) ≤ 4096) × HearRoomFrom c (now entries) from (now labels) (now frame) ⌝ }
+    requires { ⌜ Wide (now entries) × (length (now entries) ≤ 4096) × DecodeRoomFrom c (now entries) from (now labels) (now frame) ⌝ }
     ensures { λ r. ⌜ ReadsFrom c (now (entries .entry)) from (now (labels .entry)) (now (frame .entry)) r (now (frame .exit)) ⌝ }
 {
     let mut k = c;
     let mut i = from;
     while i + 1 < entries.len() {
-        let late = entries.len() - i < 6;
+        let forced = entries.len() - i < 6;
         let p = read_pair(
             k,
-            late,
+            forced,
             entry(entries, i),
             entry(entries, i + 1),
             label_at(labels, i),
@@ -177,7 +177,7 @@ fn read_from(c: Reader, labels: &[u16], entries: &[u8], from: usize, frame: &mut
 
 // Reads all pairs: a first one with x = 0 where the count of entries is odd.
 fn read_all(labels: &[u16], entries: &[u8], frame: &mut [u8]) -> PairsRead
-    requires { ⌜ HearReady (now entries) (now labels) (now frame) ⌝ }
+    requires { ⌜ DecodeReady (now entries) (now labels) (now frame) ⌝ }
     ensures { λ r. ⌜ ReadWhole (now (entries .entry)) (now (labels .entry)) r (now (frame .exit)) ⌝ }
 {
     if entries.len() % 2 == 1 {
@@ -202,7 +202,7 @@ fn read_all(labels: &[u16], entries: &[u8], frame: &mut [u8]) -> PairsRead
 
 // Reads labels back: the first pair that breaks the code, or else the frame, at the start of a buffer. Called by proved code only.
 pub fn read_labels(labels: &[u16], entries: &[u8], frame: &mut [u8]) -> Found
-    requires { ⌜ HearReady (now entries) (now labels) (now frame) ⌝ }
+    requires { ⌜ DecodeReady (now entries) (now labels) (now frame) ⌝ }
     ensures { λ r. ⌜ ReadsAll (now (entries .entry)) (now (labels .entry)) r (now (frame .exit)) ⌝ }
 {
     let all = read_all(labels, entries, frame);

@@ -3,7 +3,7 @@ use mathlib.Core.Path.{_∙_, sym, ap}
 use mir.ValLaws.{toZ-ofZ}
 use mir.Syntax.{w16}
 use Rattle.g9932.specs.Answers.{labelledOf}
-use Rattle.clevisroot.specs.Told.{labelTold}
+use Rattle.clevisroot.specs.CAnswers.{labelAnswered}
 use borrow.Author.Needs.{needs}
 use Rattle.clevisroot.proofs.clevisroot_read_point.Statement.{statement}
 use Rattle.clevisroot.proofs.clevisroot_read_point.Tie as tie
@@ -21,10 +21,10 @@ number-of-requires : tie.Need-number-of-requires
 number-of-requires c κs = search needs
 
 returns : tie.Need-returns
-returns c = ap labelTold (sym (ap labelledOf (c .before .labelled .given .1)) ∙ (rw (toZ-ofZ w16 (c .before .before .before .before .args .x) (c .before .before .before .before .fits .x), toZ-ofZ w16 (c .before .before .before .before .args .y) (c .before .before .before .before .fits .y)) at (c .before .before .before .read-point .ensures)))
+returns c = ap labelAnswered (sym (ap labelledOf (c .before .labelled .given .1)) ∙ (rw (toZ-ofZ w16 (c .before .before .before .before .args .x) (c .before .before .before .before .fits .x), toZ-ofZ w16 (c .before .before .before .before .args .y) (c .before .before .before .before .fits .y)) at (c .before .before .before .read-point .ensures)))
 
 returns-2 : tie.Need-returns-2
-returns-2 c = rw (c .number-of .ensures) (ap labelTold (sym (ap labelledOf (c .before .before .labelled2 .given .1)) ∙ (rw (toZ-ofZ w16 (c .before .before .before .before .before .args .x) (c .before .before .before .before .before .fits .x), toZ-ofZ w16 (c .before .before .before .before .before .args .y) (c .before .before .before .before .before .fits .y)) at (c .before .before .before .before .read-point .ensures))))
+returns-2 c = rw (c .number-of .ensures) (ap labelAnswered (sym (ap labelledOf (c .before .before .labelled2 .given .1)) ∙ (rw (toZ-ofZ w16 (c .before .before .before .before .before .args .x) (c .before .before .before .before .before .fits .x), toZ-ofZ w16 (c .before .before .before .before .before .args .y) (c .before .before .before .before .before .fits .y)) at (c .before .before .before .before .read-point .ensures))))
 
 pub clevisroot-read-point-spec : {M : Type 1} → statement M
 clevisroot-read-point-spec =

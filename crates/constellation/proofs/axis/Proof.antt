@@ -21,13 +21,13 @@ cast-result-2 c = search needs
 
 sub-result : tie.Need-sub-result
 sub-result c =
-    let r = axis-law (c .args .half) (c .args .e) (c .pre .0) (c .pre .1) (c .pre .2) in
+    let r = axis-law (c .args .weight) (c .args .e) (c .pre .0) (c .pre .1) (c .pre .2) in
     rw (r .0) (r .1)
 
 returns : tie.Need-returns
 returns c =
-    let r = axis-law (c .args .half) (c .args .e) (c .pre .0) (c .pre .1) (c .pre .2) in
-    rw (r .0) (toZ-ofZ w16 (axisOf (c .args .half) (c .args .e)) (r .1))
+    let r = axis-law (c .args .weight) (c .args .e) (c .pre .0) (c .pre .1) (c .pre .2) in
+    rw (r .0) (toZ-ofZ w16 (axisOf (c .args .weight) (c .args .e)) (r .1))
 
 pub axis-spec : {M : Type 1} → statement M
 axis-spec = tie.close (tie.spec mul-result add-result cast-result cast-result-2 sub-result returns)

@@ -10,7 +10,7 @@ sub-result : tie.Need-sub-result
 sub-result c = omega (arith, pow-pos (c .args .k))
 
 returns : tie.Need-returns
-returns c = cut-law (c .args .k) (c .args .half) (c .args .steps / 2) (c .pre)
+returns c = cut-law (c .args .k) (c .args .weight) (c .args .steps / 2) (c .pre)
 
 pub cut-spec : {M : Type 1} → statement M
 cut-spec = tie.close (tie.spec sub-result returns)

@@ -9,38 +9,38 @@ use lib.Pow.{pow-pos}
 use mir.Syntax.{w16}
 use mir.ValLaws.{toZ-ofZ}
 use Rattle.g9932.specs.Bits.{num, bits}
-use Rattle.constellation.specs.Widened.{pairs as pairsOf, half as halfOf, woven}
+use Rattle.constellation.specs.Widened.{pairs as pairsOf, signWeight, interleaved}
 use Rattle.constellation.specs.Reading.{Steps, topSix, inGrid}
 use Rattle.constellation.proofs.Grid.{six-lt, six-few}
-use Rattle.constellation.proofs.Reading.{woven-word, test, sought-law}
+use Rattle.constellation.proofs.Reading.{interleaved-word, test, sought-law}
 use Rattle.constellation.proofs.Sizes.{word-16, half-le}
 use borrow.Author.Needs.{needs}
 use Rattle.constellation.proofs.label_of.Statement.{statement}
 use Rattle.constellation.proofs.label_of.Tie as tie
 
-sizes : (c : tie.After-half) → (c .half .result ≡ halfOf (pairsOf (c .before .before .args .b))) × (1 ≤ c .half .result) × (c .half .result ≤ 256)
+sizes : (c : tie.After-sign-weight) → (c .sign-weight .result ≡ signWeight (pairsOf (c .before .before .args .b))) × (1 ≤ c .sign-weight .result) × (c .sign-weight .result ≤ 256)
 sizes c =
     let k = pairsOf (c .before .before .args .b) in
-    let e : c .half .result ≡ halfOf k = c .half .ensures ∙ ap halfOf (c .before .pairs .ensures) in
+    let e : c .sign-weight .result ≡ signWeight k = c .sign-weight .ensures ∙ ap signWeight (c .before .pairs .ensures) in
     (e, omega (arith, pow-pos k), omega (arith, half-le k (omega arith)))
 
-cuts : (c : tie.After-cut2) → (c .before .cut .result < c .before .before .before .before .half .result) × (c .cut2 .result < c .before .before .before .before .half .result)
+cuts : (c : tie.After-cut2) → (c .before .cut .result < c .before .before .before .before .sign-weight .result) × (c .cut2 .result < c .before .before .before .before .sign-weight .result)
 cuts c =
     let h = sizes (c .before .before .before .before) .1 in
     (rw (c .before .cut .ensures) (mod-lt _ h), rw (c .cut2 .ensures) (mod-lt _ h))
 
-word : (c : tie.After-together) → c .together .result < 2 ^ (4 + 2 * c .before .before .before .before .before .before .pairs .result)
+word : (c : tie.After-interleave) → c .interleave .result < 2 ^ (4 + 2 * c .before .before .before .before .before .before .pairs .result)
 word c =
     let k = c .before .before .before .before .before .before .pairs .result in
-    let e = c .before .before .before .before .before .half .ensures in
+    let e = c .before .before .before .before .before .sign-weight .ensures in
     let l = cuts (c .before) in
-    rw (c .together .ensures) (woven-word k (c .before .before .cut .result) (c .before .cut2 .result) (omega arith) (omega arith) (omega arith))
+    rw (c .interleave .ensures) (interleaved-word k (c .before .before .cut .result) (c .before .cut2 .result) (omega arith) (omega arith) (omega arith))
 
 pairs-requires : tie.Need-pairs-requires
 pairs-requires c κs = search needs
 
-half-requires : tie.Need-half-requires
-half-requires c κs = search needs
+sign-weight-requires : tie.Need-sign-weight-requires
+sign-weight-requires c κs = search needs
 
 steps-requires : tie.Need-steps-requires
 steps-requires c κs = sizes c .2
@@ -54,13 +54,13 @@ cut-requires c κs = search needs
 cut-requires-2 : tie.Need-cut-requires-2
 cut-requires-2 c κs = search needs
 
-together-requires : tie.Need-together-requires
-together-requires c κs = (omega (arith, cuts c, sizes (c .before .before .before .before)), omega (arith, cuts c, sizes (c .before .before .before .before)))
+interleave-requires : tie.Need-interleave-requires
+interleave-requires c κs = (omega (arith, cuts c, sizes (c .before .before .before .before)), omega (arith, cuts c, sizes (c .before .before .before .before)))
 
 mul-six : tie.Need-mul-six
 mul-six c =
     let k = c .before .before .before .before .before .before .pairs .result in
-    record { fits = omega (arith, word-16 k (c .together .result) (omega arith) (word c)) }
+    record { fits = omega (arith, word-16 k (c .interleave .result) (omega arith) (word c)) }
 
 mul-six-2 : tie.Need-mul-six-2
 mul-six-2 c = search needs
@@ -69,7 +69,7 @@ shr-six : tie.Need-shr-six
 shr-six c = search needs
 
 narrowed-requires : tie.Need-narrowed-requires
-narrowed-requires c κs = (omega arith, six-lt (c .before .before .before .before .before .before .pairs .result) (c .together .result) (word c), refl)
+narrowed-requires c κs = (omega arith, six-lt (c .before .before .before .before .before .before .pairs .result) (c .interleave .result) (word c), refl)
 
 own-label-requires : tie.Need-own-label-requires
 own-label-requires c κs = search needs
@@ -78,7 +78,7 @@ in-grid-requires : tie.Need-in-grid-requires
 in-grid-requires c κs =
     let s = c .before .before .before .before .before .before .before .before .before in
     let p = c .before .before .before .before .before .before .before .before .pairs in
-    let w = c .before .before .together .result in
+    let w = c .before .before .interleave .result in
     (s .pre .0, six-lt (p .result) w (word (c .before .before)), λ h. rw (p .ensures, six-few (s .args .b) w h) (omega arith))
 
 mul-found : tie.Need-mul-found
@@ -101,16 +101,16 @@ returns c =
     let h = c .before .before .before .before .before .before .before .before in
     let u = c .before .before .before .before .before .before .before .steps in
     let v = c .before .before .before .before .before .before .steps2 in
-    let w = c .before .before .before .together in
+    let w = c .before .before .before .interleave in
     let n = c .before .before .narrowed in
     let e = sizes h .0 in
-    let ux : Steps (halfOf (pairsOf b)) (s .args .x) (u .result) = rw (e, toZ-ofZ w16 (s .args .x) (s .fits .x)) at (u .ensures) in
-    let vy : Steps (halfOf (pairsOf b)) (s .args .y) (v .result) = rw (e, toZ-ofZ w16 (s .args .y) (s .fits .y)) at (v .ensures) in
+    let ux : Steps (signWeight (pairsOf b)) (s .args .x) (u .result) = rw (e, toZ-ofZ w16 (s .args .x) (s .fits .x)) at (u .ensures) in
+    let vy : Steps (signWeight (pairsOf b)) (s .args .y) (v .result) = rw (e, toZ-ofZ w16 (s .args .y) (s .fits .y)) at (v .ensures) in
     let ex = c .before .before .before .before .before .cut .ensures ∙ ap (λ (i : ℕ). u .result / 2 % i) e in
     let ey = c .before .before .before .before .cut2 .ensures ∙ ap (λ (i : ℕ). v .result / 2 % i) e in
     let f = c .in-grid .ensures ∙ ap (λ (i : ℕ). inGrid b (topSix i (w .result))) (h .before .pairs .ensures) in
     sought-law b (s .args .x) (s .args .y) (u .result) (v .result) (w .result) (n .result) (s .pre .0) (s .pre .1) ux vy
-    (w .ensures ∙ ap₂ (λ (i j : ℕ). num (woven (bits 8 i) (bits 8 j))) ex ey) (rw (h .before .pairs .ensures) at (n .ensures)) _ _
+    (w .ensures ∙ ap₂ (λ (i j : ℕ). num (interleaved (bits 8 i) (bits 8 j))) ex ey) (rw (h .before .pairs .ensures) at (n .ensures)) _ _
     (ap₂ _&&_ f (ap₂ (λ (i j : ℕ). eqb (2 * i + 65536) (u .result) && eqb (2 * j + 65536) (v .result)) ex ey)) (c .before .own-label .ensures)
 
 pub label-of-spec : {M : Type 1} → statement M
@@ -118,12 +118,12 @@ label-of-spec =
     tie.close
     (tie.spec
     pairs-requires
-    half-requires
+    sign-weight-requires
     steps-requires
     steps-requires-2
     cut-requires
     cut-requires-2
-    together-requires
+    interleave-requires
     mul-six
     mul-six-2
     shr-six

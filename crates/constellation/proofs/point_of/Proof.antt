@@ -7,7 +7,7 @@ use lib.Pow.{pow-mono, pow-pos}
 use mir.Syntax.{w16}
 use mir.ValLaws.{toZ-ofZ}
 use Rattle.g9932.specs.Sizes.{point}
-use Rattle.constellation.specs.Widened.{pairs as pairsOf, widened as widenedOf, wordOf, half as halfOf, axis as axisOf}
+use Rattle.constellation.specs.Widened.{pairs as pairsOf, widened as widenedOf, wordOf, signWeight, axis as axisOf}
 use Rattle.constellation.proofs.Mapping.{point-word, Parts, parts-law}
 use Rattle.constellation.proofs.Sizes.{label-lt, word-lt, word-16, half-le}
 use borrow.Author.Needs.{needs}
@@ -15,37 +15,37 @@ use Rattle.constellation.proofs.point_of.Statement.{statement}
 use Rattle.constellation.proofs.point_of.Tie as tie
 
 word : (c : tie.After-widened) → c .widened .result ≡ wordOf (c .before .before .before .args .b) (c .before .before .before .args .label)
-word c = c .widened .ensures ∙ ap₂ widenedOf (c .before .before .pairs .ensures) (c .before .odd-label .ensures)
+word c = c .widened .ensures ∙ ap₂ widenedOf (c .before .before .pairs .ensures) (c .before .mapping-label .ensures)
 
-parts : (c : tie.After-apart) → Parts (c .before .before .before .before .args .b) (c .before .before .before .before .args .label) (c .apart .result)
+parts : (c : tie.After-deinterleave) → Parts (c .before .before .before .before .args .b) (c .before .before .before .before .args .label) (c .deinterleave .result)
 parts c =
     let s = c .before .before .before .before in
-    parts-law (s .args .b) (s .args .label) (c .apart .result) (s .pre .0) (s .pre .1) (s .pre .2) (rw (word (c .before)) at (c .apart .ensures))
+    parts-law (s .args .b) (s .args .label) (c .deinterleave .result) (s .pre .0) (s .pre .1) (s .pre .2) (rw (word (c .before)) at (c .deinterleave .ensures))
 
-sizes : (c : tie.After-half) → (1 ≤ c .half .result) × (c .half .result ≤ 256) × (c .half .result ≡ halfOf (pairsOf (c .before .before .before .before .before .args .b)))
+sizes : (c : tie.After-sign-weight) → (1 ≤ c .sign-weight .result) × (c .sign-weight .result ≤ 256) × (c .sign-weight .result ≡ signWeight (pairsOf (c .before .before .before .before .before .args .b)))
 sizes c =
     let k = pairsOf (c .before .before .before .before .before .args .b) in
-    let e : c .half .result ≡ halfOf k = c .half .ensures ∙ ap halfOf (c .before .before .before .before .pairs .ensures) in
+    let e : c .sign-weight .result ≡ signWeight k = c .sign-weight .ensures ∙ ap signWeight (c .before .before .before .before .pairs .ensures) in
     (omega (arith, pow-pos k), omega (arith, half-le k (omega arith)), e)
 
 pairs-requires : tie.Need-pairs-requires
 pairs-requires c κs = search needs
 
-odd-label-requires : tie.Need-odd-label-requires
-odd-label-requires c κs = let s = c .before in lt-of-lt-of-le (s .pre .2) (pow-mono {i = s .args .b} {j = 15} (s .pre .1))
+mapping-label-requires : tie.Need-mapping-label-requires
+mapping-label-requires c κs = let s = c .before in lt-of-lt-of-le (s .pre .2) (pow-mono {i = s .args .b} {j = 15} (s .pre .1))
 
 widened-requires : tie.Need-widened-requires
 widened-requires c κs =
     let s = c .before .before in
-    (omega arith, rw (c .before .pairs .ensures, c .odd-label .ensures) (label-lt (s .args .b) (s .args .label) (s .pre .0) (s .pre .2)))
+    (omega arith, rw (c .before .pairs .ensures, c .mapping-label .ensures) (label-lt (s .args .b) (s .args .label) (s .pre .0) (s .pre .2)))
 
-apart-requires : tie.Need-apart-requires
-apart-requires c κs =
+deinterleave-requires : tie.Need-deinterleave-requires
+deinterleave-requires c κs =
     let s = c .before .before .before in
     rw (word c) (word-16 (pairsOf (s .args .b)) (wordOf (s .args .b) (s .args .label)) (omega arith) (word-lt (s .args .b) (s .args .label) (s .pre .0) (s .pre .2)))
 
-half-requires : tie.Need-half-requires
-half-requires c κs = search needs
+sign-weight-requires : tie.Need-sign-weight-requires
+sign-weight-requires c κs = search needs
 
 axis-requires : tie.Need-axis-requires
 axis-requires c κs = (sizes c .0, sizes c .1, parts (c .before) .xSmall)
@@ -69,10 +69,10 @@ point-of-spec =
     tie.close
     (tie.spec
     pairs-requires
-    odd-label-requires
+    mapping-label-requires
     widened-requires
-    apart-requires
-    half-requires
+    deinterleave-requires
+    sign-weight-requires
     axis-requires
     axis-requires-2
     returns)

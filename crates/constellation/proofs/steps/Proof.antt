@@ -17,7 +17,7 @@ add-result-2 : tie.Need-add-result-2
 add-result-2 c = record { fits = omega (arith, raised-law (c .args .z) (c .fits .z) .small) }
 
 returns : tie.Need-returns
-returns c = steps-law (c .args .half) _ (c .args .z) (c .pre) (raised-law (c .args .z) (c .fits .z) .is)
+returns c = steps-law (c .args .weight) _ (c .args .z) (c .pre) (raised-law (c .args .z) (c .fits .z) .is)
 
 pub steps-spec : {M : Type 1} → statement M
 steps-spec = tie.close (tie.spec cast-result add-result cast-result-2 add-result-2 returns)

@@ -1,7 +1,7 @@
 -- `mapper::lay` meets its contract, by the class: a label, two filler bits, or (0, 0).
 use native.Mathlib.Omega.{arith}
 use mathlib.Core.Path.{refl}
-use Rattle.constellation.proofs.Shaped.{silent-stands}
+use Rattle.constellation.proofs.MapByLayout.{silent-stands}
 use borrow.Author.Needs.{needs}
 use Rattle.mapper.proofs.lay.Statement.{statement}
 use Rattle.mapper.proofs.lay.Tie as tie

@@ -10,19 +10,19 @@ use Rattle.mapper.proofs.lay_all.Statement.{statement}
 use Rattle.mapper.proofs.lay_all.Tie as tie
 
 abbrev Inv-loop : tie.InvT-loop
-Inv-loop bits gains order source register labels₀ shapes₀ table at₀ next₀ i₀ labels shapes at next i =
-    BitsLeft bits gains order source register labels shapes at next i
+Inv-loop bits gains order source register labels₀ layouts₀ table at₀ next₀ i₀ labels layouts at next i =
+    BitsLeft bits gains order source register labels layouts at next i
 
 abbrev μ-loop : tie.MeasureT-loop
-μ-loop bits gains order source register labels₀ shapes₀ table at₀ next₀ i₀ labels shapes at next i = length order - i
+μ-loop bits gains order source register labels₀ layouts₀ table at₀ next₀ i₀ labels layouts at next i = length order - i
 
-shape-table-requires : tie.Need-shape-table-requires Inv-loop μ-loop
-shape-table-requires c κs = search needs
+layout-table-requires : tie.Need-layout-table-requires Inv-loop μ-loop
+layout-table-requires c κs = search needs
 
 loop-holds : tie.Need-loop-holds Inv-loop μ-loop
 loop-holds c =
     let s = c .before .before .before .before .before in
-    lay-start (s .args .bits .now) (s .args .gains .now) (s .args .order .now) (s .args .source .now) (s .args .labels .now) (s .args .shapes .now) (s .pre) (s .args .register)
+    lay-start (s .args .bits .now) (s .args .gains .now) (s .args .order .now) (s .args .source .now) (s .args .labels .now) (s .args .layouts .now) (s .pre) (s .args .register)
 
 tone-of-place-requires : tie.Need-tone-of-place-requires Inv-loop μ-loop
 tone-of-place-requires c κs = search needs
@@ -30,8 +30,8 @@ tone-of-place-requires c κs = search needs
 lay-requires : tie.Need-lay-requires Inv-loop μ-loop
 lay-requires c κs =
     let s = c .before .before .before .before .before .before .before .before .before in
-    let r = tone-room (s .args .bits .now) (s .args .gains .now) (s .args .order .now) (s .args .source .now) (s .args .labels .now) (s .args .shapes .now) (s .pre) (s .args .register) (c .before .before .before .loop .labels) (c .before .before .before .loop .shapes) (c .before .before .before .loop .at) (c .before .before .before .loop .next) (c .before .before .before .loop .i) (c .before .before .before .loop .inv) (c .before .tone-of-place .result) (omega arith) (c .before .tone-of-place .ensures) in
-    (r .0, r .1, r .2, c .before .before .before .before .shape-table .ensures)
+    let r = tone-room (s .args .bits .now) (s .args .gains .now) (s .args .order .now) (s .args .source .now) (s .args .labels .now) (s .args .layouts .now) (s .pre) (s .args .register) (c .before .before .before .loop .labels) (c .before .before .before .loop .layouts) (c .before .before .before .loop .at) (c .before .before .before .loop .next) (c .before .before .before .loop .i) (c .before .before .before .loop .inv) (c .before .tone-of-place .result) (omega arith) (c .before .tone-of-place .ensures) in
+    (r .0, r .1, r .2, c .before .before .before .before .layout-table .ensures)
 
 mul-labels : tie.Need-mul-labels Inv-loop μ-loop
 mul-labels c = record { fits = omega (arith, c .before .before .before .before .before .before .before .before .before .before .pre .orderMost) }
@@ -39,11 +39,11 @@ mul-labels c = record { fits = omega (arith, c .before .before .before .before .
 element-write-labels : tie.Need-element-write-labels Inv-loop μ-loop
 element-write-labels c = omega (arith, c .before .before .before .before .before .before .before .before .before .before .pre .orderMost)
 
-mul-shapes : tie.Need-mul-shapes Inv-loop μ-loop
-mul-shapes c = record { fits = omega (arith, c .before .before .before .before .before .before .before .before .before .before .pre .orderMost) }
+mul-layout : tie.Need-mul-layout Inv-loop μ-loop
+mul-layout c = record { fits = omega (arith, c .before .before .before .before .before .before .before .before .before .before .pre .orderMost) }
 
-element-write-shapes : tie.Need-element-write-shapes Inv-loop μ-loop
-element-write-shapes c = omega (arith, c .before .before .before .before .before .before .before .before .before .before .pre .orderMost)
+element-write-layout : tie.Need-element-write-layout Inv-loop μ-loop
+element-write-layout c = omega (arith, c .before .before .before .before .before .before .before .before .before .before .pre .orderMost)
 
 add-i : tie.Need-add-i Inv-loop μ-loop
 add-i c = record { fits = omega (arith, c .before .before .before .before .before .before .before .before .before .before .pre .orderMost) }
@@ -54,7 +54,7 @@ loop-less c = omega arith
 loop-again : tie.Need-loop-again Inv-loop μ-loop
 loop-again c =
     let s = c .before .before .before .before .before .before .before .before .before .before in
-    lay-step (s .args .bits .now) (s .args .gains .now) (s .args .order .now) (s .args .source .now) (s .args .labels .now) (s .args .shapes .now) (s .pre) (s .args .register) (c .before .before .before .before .loop .labels) (c .before .before .before .before .loop .shapes) (c .before .before .before .before .loop .at) (c .before .before .before .before .loop .next) (c .before .before .before .before .loop .i) (c .before .before .before .before .loop .inv) (c .before .before .tone-of-place .result) (omega arith) (c .before .before .tone-of-place .ensures) (c .lay .result) (c .lay .ensures)
+    lay-step (s .args .bits .now) (s .args .gains .now) (s .args .order .now) (s .args .source .now) (s .args .labels .now) (s .args .layouts .now) (s .pre) (s .args .register) (c .before .before .before .before .loop .labels) (c .before .before .before .before .loop .layouts) (c .before .before .before .before .loop .at) (c .before .before .before .before .loop .next) (c .before .before .before .before .loop .i) (c .before .before .before .before .loop .inv) (c .before .before .tone-of-place .result) (omega arith) (c .before .before .tone-of-place .ensures) (c .lay .result) (c .lay .ensures)
 
 returns : tie.Need-returns Inv-loop μ-loop
 returns c =
@@ -67,14 +67,14 @@ lay-all-spec =
     (tie.spec
     Inv-loop
     μ-loop
-    shape-table-requires
+    layout-table-requires
     loop-holds
     tone-of-place-requires
     lay-requires
     mul-labels
     element-write-labels
-    mul-shapes
-    element-write-shapes
+    mul-layout
+    element-write-layout
     add-i
     loop-less
     loop-again

@@ -9,17 +9,17 @@ use Rattle.mapper.proofs.lay_data.Tie as tie
 get-requires : tie.Need-get-requires
 get-requires c κs = search needs
 
-odd-label-requires : tie.Need-odd-label-requires
-odd-label-requires c κs =
+mapping-label-requires : tie.Need-mapping-label-requires
+mapping-label-requires c κs =
     let s = c .before .before in
-    got-small (s .args .source .now) (s .args .shapes .now) (s .args .at) (s .args .b) (c .get .result) (s .pre .0) (s .pre .1) (s .pre .2) (c .get .ensures)
+    got-small (s .args .source .now) (s .args .layouts .now) (s .args .at) (s .args .b) (c .get .result) (s .pre .0) (s .pre .1) (s .pre .2) (c .get .ensures)
 
 cast-label : tie.Need-cast-label
 cast-label c =
     let s = c .before .before .before in
     let g = c .before .get in
-    let l = odd-small (s .args .source .now) (s .args .shapes .now) (s .args .at) (s .args .b) (g .result) (s .pre .0) (s .pre .1) (s .pre .2) (g .ensures) in
-    record { fits = omega (arith, l, c .odd-label .ensures) }
+    let l = odd-small (s .args .source .now) (s .args .layouts .now) (s .args .at) (s .args .b) (g .result) (s .pre .0) (s .pre .1) (s .pre .2) (g .ensures) in
+    record { fits = omega (arith, l, c .mapping-label .ensures) }
 
 mul-t11 : tie.Need-mul-t11
 mul-t11 c = search needs
@@ -35,8 +35,8 @@ returns c =
     let s = c .before .before .before .before in
     let g = c .before .before .get in
     record {
-      stands = data-stands (s .args .source .now) (s .args .shapes .now) (s .args .at) (s .args .b) (g .result) (s .pre .0) (s .pre .1) (s .pre .2) (g .ensures)
-          (c .before .odd-label .result) (s .pre .4) (c .before .odd-label .ensures);
+      stands = data-stands (s .args .source .now) (s .args .layouts .now) (s .args .at) (s .args .b) (g .result) (s .pre .0) (s .pre .1) (s .pre .2) (g .ensures)
+          (c .before .mapping-label .result) (s .pre .4) (c .before .mapping-label .ensures);
       atIs = refl;
       registerIs = refl;
     }
@@ -46,7 +46,7 @@ lay-data-spec =
     tie.close
     (tie.spec
     get-requires
-    odd-label-requires
+    mapping-label-requires
     cast-label
     mul-t11
     element-copy-out-t14

@@ -22,7 +22,7 @@ returns c =
     let s = c .before .before .before in
     let f = c .before .before .filler-label in
     record {
-      stands = filler-stands (s .args .shapes .now) (s .args .register) (f .result .label) (s .pre) (f .ensures .label);
+      stands = filler-stands (s .args .layouts .now) (s .args .register) (f .result .label) (s .pre) (f .ensures .label);
       atIs = refl;
       registerIs = f .ensures .register;
     }

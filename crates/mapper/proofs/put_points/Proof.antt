@@ -10,13 +10,13 @@ use Rattle.mapper.proofs.put_points.Statement.{statement}
 use Rattle.mapper.proofs.put_points.Tie as tie
 
 abbrev Inv-loop : tie.InvT-loop
-Inv-loop labels shapes xs₀ ys₀ i₀ xs ys i = Putting labels shapes (length xs₀) xs ys i
+Inv-loop labels layouts xs₀ ys₀ i₀ xs ys i = Putting labels layouts (length xs₀) xs ys i
 
 abbrev μ-loop : tie.MeasureT-loop
-μ-loop labels shapes xs₀ ys₀ i₀ xs ys i = length xs₀ - i
+μ-loop labels layouts xs₀ ys₀ i₀ xs ys i = length xs₀ - i
 
 loop-holds : tie.Need-loop-holds Inv-loop μ-loop
-loop-holds c = put-start (c .args .labels .now) (c .args .shapes .now) (c .args .xs .now) (c .args .ys .now) (c .pre .same)
+loop-holds c = put-start (c .args .labels .now) (c .args .layouts .now) (c .args .xs .now) (c .args .ys .now) (c .pre .same)
 
 mul-point-by : tie.Need-mul-point-by Inv-loop μ-loop
 mul-point-by c = record { fits = omega (arith, c .before .before .pre .most, c .before .loop .inv .xsLength) }
@@ -58,7 +58,7 @@ loop-again c =
     let p = c .before .before .point-by in
     let g = c .struct-told2 .given in
     rw (toZ-ofZ w16 (p .result .x) (record { sfits = g .0 .1 }), toZ-ofZ w16 (p .result .y) (record { sfits = g .1 .0 .1 }))
-    (put-step (s .args .labels .now) (s .args .shapes .now) (length (s .args .xs .now)) (l .xs) (l .ys) (l .i) (l .inv) (omega (arith, l .inv .xsLength)) (p .result .x) (p .result .y) (p .ensures))
+    (put-step (s .args .labels .now) (s .args .layouts .now) (length (s .args .xs .now)) (l .xs) (l .ys) (l .i) (l .inv) (omega (arith, l .inv .xsLength)) (p .result .x) (p .result .y) (p .ensures))
 
 same-length : tie.Need-same-length Inv-loop μ-loop
 same-length c = c .before .loop .inv .xsLength

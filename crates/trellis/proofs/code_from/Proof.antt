@@ -24,8 +24,8 @@ loop-holds c = going-start (c .before .before .before .pre .2)
 add-loop : tie.Need-add-loop Inv-loop μ-loop
 add-loop c = omega (arith, c .loop .inv .room .inside, c .before .before .before .before .pre .1)
 
-sub-late : tie.Need-sub-late Inv-loop μ-loop
-sub-late c = omega arith
+sub-forced : tie.Need-sub-forced Inv-loop μ-loop
+sub-forced c = omega arith
 
 entry-requires : tie.Need-entry-requires Inv-loop μ-loop
 entry-requires c κs = omega arith
@@ -95,7 +95,7 @@ code-from-spec =
     μ-loop
     loop-holds
     add-loop
-    sub-late
+    sub-forced
     entry-requires
     add-entry
     entry-requires-2

@@ -17,22 +17,22 @@ high : (c : tie.After-inputs-of) → c .inputs-of .result .high < 67108864
 high c =
     let t = c .before .before .before .before .before in
     let a = t .args in
-    got-high (a .late) (a .c .state) (a .x) (a .y) (a .frame .now) (a .c .at) (c .before .before .taken-bits .result) (c .before .get .result) (c .inputs-of .result)
+    got-high (a .forced) (a .c .state) (a .x) (a .y) (a .frame .now) (a .c .at) (c .before .before .taken-bits .result) (c .before .get .result) (c .inputs-of .result)
     (t .pre .0) (t .pre .2) (t .pre .4 .bits) (c .before .before .taken-bits .ensures .0) (c .before .get .ensures) (c .inputs-of .ensures) (t .pre .1) (t .pre .3)
 
 coded : (c : tie.After-step) (v w : ℕ)
     → v ≡ labelNumber (c .step .result .low .v0) (c .step .result .low .v1) (c .before .inputs-of .result .high % 2 ^ (c .before .before .before .before .before .before .args .x - 2))
     → w ≡ labelNumber (c .step .result .low .w0) (c .step .result .low .w1) (c .before .inputs-of .result .high / 2 ^ (c .before .before .before .before .before .before .args .x - 2))
-    → PairCoded (c .before .before .before .before .before .before .args .late) (c .before .before .before .before .before .before .args .c .state)
+    → PairCoded (c .before .before .before .before .before .before .args .forced) (c .before .before .before .before .before .before .args .c .state)
     (c .before .before .before .before .before .before .args .x) (c .before .before .before .before .before .before .args .y)
-    (take (taken (c .before .before .before .before .before .before .args .late) (pair (c .before .before .before .before .before .before .args .x) (c .before .before .before .before .before .before .args .y)))
+    (take (taken (c .before .before .before .before .before .before .args .forced) (pair (c .before .before .before .before .before .before .args .x) (c .before .before .before .before .before .before .args .y)))
     (drop (c .before .before .before .before .before .before .args .c .at) (unpack (c .before .before .before .before .before .before .args .frame .now))))
     (c .before .inputs-of .result) v w
 coded c v w hv hw =
     let i = c .before in
     let t = i .before .before .before .before .before in
     let a = t .args in
-    got-pair (a .late) (a .c .state) (a .x) (a .y) (a .frame .now) (a .c .at) (i .before .before .taken-bits .result) (i .before .get .result) (i .inputs-of .result)
+    got-pair (a .forced) (a .c .state) (a .x) (a .y) (a .frame .now) (a .c .at) (i .before .before .taken-bits .result) (i .before .get .result) (i .inputs-of .result)
     (t .pre .0) (t .pre .2) (t .pre .4 .bits) (i .before .before .taken-bits .ensures .0) (i .before .get .ensures) (i .inputs-of .ensures)
     (c .step .result .low) v w (c .step .ensures .1) hv hw
 

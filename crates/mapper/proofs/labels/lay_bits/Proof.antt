@@ -15,11 +15,11 @@ cast-bit c = search needs
 shr-bit : tie.Need-shr-bit
 shr-bit c = search needs
 
-cast-odd-label : tie.Need-cast-odd-label
-cast-odd-label c = search needs
+cast-mapping-label : tie.Need-cast-mapping-label
+cast-mapping-label c = search needs
 
-odd-label-requires : tie.Need-odd-label-requires
-odd-label-requires c κs = search needs
+mapping-label-requires : tie.Need-mapping-label-requires
+mapping-label-requires c κs = search needs
 
 cast-t9 : tie.Need-cast-t9
 cast-t9 c = search needs
@@ -33,10 +33,10 @@ add-t8 c = search needs
 returns : tie.Need-returns
 returns c =
     let s = c .before .before .before in
-    let l = c .before .odd-label in
+    let l = c .before .mapping-label in
     let one : s .args .b ≡ 1 = omega (arith, s .pre .0) in
     rw one (record {
-      stands = one-stands (s .args .shapes .now) (labelFrom (s .args .label) (s .args .at)) (l .result) (s .pre .4) (l .ensures);
+      stands = one-stands (s .args .layouts .now) (labelFrom (s .args .label) (s .args .at)) (l .result) (s .pre .4) (l .ensures);
       atIs = refl;
       registerIs = refl;
     })
@@ -56,7 +56,7 @@ returns-2 c =
     let two : 2 ≤ s .args .b = omega arith in
     let owns = s .pre .2 two in
     rw (label-whole (s .args .label) (s .args .at) (owns .0)) (record {
-      stands = own-stands (s .args .shapes .now) (s .args .b) (s .args .label) (s .pre .4) two (s .pre .1) (owns .1);
+      stands = own-stands (s .args .layouts .now) (s .args .b) (s .args .label) (s .pre .4) two (s .pre .1) (owns .1);
       atIs = ap (λ (n : ℕ). s .args .at + n) (sym (min-eq-right two));
       registerIs = refl;
     })
@@ -67,8 +67,8 @@ lay-bits-spec =
     (tie.spec
     cast-bit
     shr-bit
-    cast-odd-label
-    odd-label-requires
+    cast-mapping-label
+    mapping-label-requires
     cast-t9
     element-copy-out-t10
     add-t8

@@ -1,7 +1,7 @@
 -- `mapper::labels::lay_label` meets its contract, by the class: bits of a label, two filler bits, or (0, 0).
 use mathlib.Core.Path.{refl}
 use native.Mathlib.Omega.{arith}
-use Rattle.constellation.proofs.Shaped.{silent-stands}
+use Rattle.constellation.proofs.MapByLayout.{silent-stands}
 use borrow.Author.Needs.{needs}
 use Rattle.mapper.proofs.labels.lay_label.Statement.{statement}
 use Rattle.mapper.proofs.labels.lay_label.Tie as tie

@@ -11,20 +11,20 @@ use Rattle.mapper.proofs.labels.lay_labels.Statement.{statement}
 use Rattle.mapper.proofs.labels.lay_labels.Tie as tie
 
 abbrev Inv-loop : tie.InvT-loop
-Inv-loop bits gains order entries source register labels₀ shapes₀ table at₀ next₀ i₀ labels shapes at next i =
-    LabelsLeft bits gains order entries source register labels shapes at next i
+Inv-loop bits gains order entries source register labels₀ layouts₀ table at₀ next₀ i₀ labels layouts at next i =
+    LabelsLeft bits gains order entries source register labels layouts at next i
 
 abbrev μ-loop : tie.MeasureT-loop
-μ-loop bits gains order entries source register labels₀ shapes₀ table at₀ next₀ i₀ labels shapes at next i = length order - i
+μ-loop bits gains order entries source register labels₀ layouts₀ table at₀ next₀ i₀ labels layouts at next i = length order - i
 
-shape-table-requires : tie.Need-shape-table-requires Inv-loop μ-loop
-shape-table-requires c κs = search needs
+layout-table-requires : tie.Need-layout-table-requires Inv-loop μ-loop
+layout-table-requires c κs = search needs
 
 loop-holds : tie.Need-loop-holds Inv-loop μ-loop
 loop-holds c =
     let s = c .before .before .before .before .before .before in
     labels-start (s .args .bits .now) (s .args .gains .now) (s .args .order .now) (s .args .entries .now) (s .args .source .now) (s .pre .0) (s .args .register)
-    (s .args .labels .now) (s .args .shapes .now) (s .pre .1) (s .pre .2)
+    (s .args .labels .now) (s .args .layouts .now) (s .pre .1) (s .pre .2)
 
 tone-of-place-requires : tie.Need-tone-of-place-requires Inv-loop μ-loop
 tone-of-place-requires c κs = search needs
@@ -39,8 +39,8 @@ lay-label-requires c κs =
     let p = c .before .before .tone-of-place in
     let k = c .label-at in
     let r = label-room (s .args .bits .now) (s .args .gains .now) (s .args .order .now) (s .args .entries .now) (s .args .source .now) (s .pre .0) (s .args .register)
-    (l .labels) (l .shapes) (l .at) (l .next) (l .i) (l .inv) (p .result) (omega arith) (p .ensures) (k .result) (k .ensures) in
-    (r .0, r .1, r .2, c .before .before .before .before .before .shape-table .ensures)
+    (l .labels) (l .layouts) (l .at) (l .next) (l .i) (l .inv) (p .result) (omega arith) (p .ensures) (k .result) (k .ensures) in
+    (r .0, r .1, r .2, c .before .before .before .before .before .layout-table .ensures)
 
 mul-labels : tie.Need-mul-labels Inv-loop μ-loop
 mul-labels c = record { fits = omega (arith, c .before .before .before .before .before .before .before .before .before .before .before .before .pre .0 .orderMost) }
@@ -48,11 +48,11 @@ mul-labels c = record { fits = omega (arith, c .before .before .before .before .
 element-write-labels : tie.Need-element-write-labels Inv-loop μ-loop
 element-write-labels c = omega (arith, c .before .before .before .before .before .before .before .before .before .before .before .before .pre .0 .orderMost)
 
-mul-shapes : tie.Need-mul-shapes Inv-loop μ-loop
-mul-shapes c = record { fits = omega (arith, c .before .before .before .before .before .before .before .before .before .before .before .before .pre .0 .orderMost) }
+mul-layout : tie.Need-mul-layout Inv-loop μ-loop
+mul-layout c = record { fits = omega (arith, c .before .before .before .before .before .before .before .before .before .before .before .before .pre .0 .orderMost) }
 
-element-write-shapes : tie.Need-element-write-shapes Inv-loop μ-loop
-element-write-shapes c = omega (arith, c .before .before .before .before .before .before .before .before .before .before .before .before .pre .0 .orderMost)
+element-write-layout : tie.Need-element-write-layout Inv-loop μ-loop
+element-write-layout c = omega (arith, c .before .before .before .before .before .before .before .before .before .before .before .before .pre .0 .orderMost)
 
 add-i : tie.Need-add-i Inv-loop μ-loop
 add-i c = record { fits = omega (arith, c .before .before .before .before .before .before .before .before .before .before .before .before .pre .0 .orderMost) }
@@ -67,7 +67,7 @@ loop-again c =
     let p = c .before .before .before .tone-of-place in
     let k = c .before .label-at in
     labels-step (s .args .bits .now) (s .args .gains .now) (s .args .order .now) (s .args .entries .now) (s .args .source .now) (s .pre .0) (s .args .register)
-    (l .labels) (l .shapes) (l .at) (l .next) (l .i) (l .inv) (p .result) (omega arith) (p .ensures) (k .result) (k .ensures) (c .lay-label .result) (c .lay-label .ensures)
+    (l .labels) (l .layouts) (l .at) (l .next) (l .i) (l .inv) (p .result) (omega arith) (p .ensures) (k .result) (k .ensures) (c .lay-label .result) (c .lay-label .ensures)
 
 returns : tie.Need-returns Inv-loop μ-loop
 returns c =
@@ -80,15 +80,15 @@ lay-labels-spec =
     (tie.spec
     Inv-loop
     μ-loop
-    shape-table-requires
+    layout-table-requires
     loop-holds
     tone-of-place-requires
     label-at-requires
     lay-label-requires
     mul-labels
     element-write-labels
-    mul-shapes
-    element-write-shapes
+    mul-layout
+    element-write-layout
     add-i
     loop-less
     loop-again

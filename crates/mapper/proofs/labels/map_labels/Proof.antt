@@ -1,7 +1,7 @@
 -- `mapper::labels::map_labels` meets its contract: all tones laid out, then their points.
 use mathlib.Core.Path.{_≡_, _∙_, sym}
 use lib.ListN.{length}
-use Rattle.frame.specs.Spelled.{spell}
+use Rattle.frame.specs.Labels.{bitsOfLabels}
 use Rattle.mapper.specs.Mapping.{classesBy}
 use Rattle.mapper.proofs.MapLoop.{put-room, maps-all}
 use Rattle.mapper.proofs.Tones.{length-classes}
@@ -17,7 +17,7 @@ put-points-requires c κs =
     let s = c .before .before .before .before .before .before .before .before .before .before .before .before in
     let l = c .before .before .before .before .lay-labels in
     put-room (s .args .bits .now) (s .args .gains .now) (s .args .order .now) (s .args .xs .now) (s .args .ys .now) (s .args .register)
-    (spell (s .args .entries .now) (s .args .source .now)) (l .result) (l .last .1 .1 .1 .1 .1 .1 .0) (l .last .1 .1 .1 .1 .1 .1 .1 .0)
+    (bitsOfLabels (s .args .entries .now) (s .args .source .now)) (l .result) (l .last .1 .1 .1 .1 .1 .1 .0) (l .last .1 .1 .1 .1 .1 .1 .1 .0)
     (s .pre .labels .orderMost) (s .pre .xsLength) (s .pre .ysLength) (l .ensures)
 
 same-length : tie.Need-same-length
@@ -35,7 +35,7 @@ returns c =
     let y : length (p .last .1 .1 .1 .0) ≡ length (s .args .ys .now) = search needs in
     let n = length-classes (s .args .bits .now) (s .args .gains .now) (s .args .order .now) in
     maps-all (classesBy (s .args .bits .now) (s .args .gains .now) (s .args .order .now)) (s .args .register)
-    (spell (s .args .entries .now) (s .args .source .now)) (l .result) (l .last .1 .1 .1 .1 .1 .1 .0) (l .last .1 .1 .1 .1 .1 .1 .1 .0) (l .ensures)
+    (bitsOfLabels (s .args .entries .now) (s .args .source .now)) (l .result) (l .last .1 .1 .1 .1 .1 .1 .0) (l .last .1 .1 .1 .1 .1 .1 .1 .0) (l .ensures)
     (p .last .1 .1 .0) (p .last .1 .1 .1 .0) (p .ensures) (x ∙ s .pre .xsLength ∙ sym n) (y ∙ s .pre .ysLength ∙ sym n)
 
 pub map-labels-spec : {M : Type 1} → statement M

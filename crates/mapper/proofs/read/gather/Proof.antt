@@ -1,6 +1,6 @@
 -- `mapper::read::gather` meets its contract. The invariant, for all points that have these labels: `monitor` is the first place before
 -- i that 14 refuses, and the bits put, with those of the tones left, are all sent bits. The measure is the tones left.
-use Rattle.mapper.proofs.ReadLoop.{read-at, Listening, listening-start, listening-end, put-room, listening-step, points-room}
+use Rattle.mapper.proofs.ReadLoop.{read-at, Demapping, demapping-start, demapping-end, put-room, demapping-step, points-room}
 use Rattle.mapper.proofs.Tones.{length-classes, tone-carries}
 use Rattle.mapper.specs.Labelled.{Labelled}
 use Rattle.mapper.specs.Reading.{ReadRoom}
@@ -18,7 +18,7 @@ use Rattle.mapper.proofs.read.gather.Tie as tie
 abbrev Inv-loop : tie.InvT-loop
 Inv-loop bits gains order labels register sent₀ writer₀ monitor₀ next₀ i₀ sent writer monitor next i =
     (xs ys : List ℤ) → ReadRoom bits order xs ys sent₀ → Labelled (classesBy bits gains order) xs ys labels
-    → Listening (classesBy bits gains order) register (points xs ys) sent₀ sent monitor next writer i
+    → Demapping (classesBy bits gains order) register (points xs ys) sent₀ sent monitor next writer i
 
 abbrev μ-loop : tie.MeasureT-loop
 μ-loop bits gains order labels register sent₀ writer₀ monitor₀ next₀ i₀ sent writer monitor next i = length order - i
@@ -29,7 +29,7 @@ new-requires c κs = search needs
 loop-holds : tie.Need-loop-holds Inv-loop μ-loop
 loop-holds c =
     let a = c .before .before .before .before .before .args in
-    λ xs ys room are. rw (c .new .ensures) (listening-start (classesBy (a .bits .now) (a .gains .now) (a .order .now)) (a .register) (points xs ys) (a .sent .now))
+    λ xs ys room are. rw (c .new .ensures) (demapping-start (classesBy (a .bits .now) (a .gains .now) (a .order .now)) (a .register) (points xs ys) (a .sent .now))
 
 tone-of-place-requires : tie.Need-tone-of-place-requires Inv-loop μ-loop
 tone-of-place-requires c κs = search needs
@@ -75,7 +75,7 @@ loop-again c =
     let h : l .i < length (a .order .now) = omega (arith, c .before .before .before .before .before .before .before .before .loop-test .taken) in
     λ xs ys room are.
     let reads = read-at (a .bits .now) (a .gains .now) (a .order .now) (a .labels .now) xs ys (points-room room) are (l .i) h (t .result) (t .ensures) (l .next) (u .result) (u .ensures) in
-    rw (c .or-here .ensures) (listening-step (l .inv xs ys room are) (u .result) reads (w .result) (w .last .1 .0) (w .kept .1 .0) (w .ensures))
+    rw (c .or-here .ensures) (demapping-step (l .inv xs ys room are) (u .result) reads (w .result) (w .last .1 .0) (w .kept .1 .0) (w .ensures))
 
 same-length : tie.Need-same-length Inv-loop μ-loop
 same-length c =
@@ -86,7 +86,7 @@ returns : tie.Need-returns Inv-loop μ-loop
 returns c =
     let a = c .before .before .before .before .before .before .before .args in
     let n = length-classes (a .bits .now) (a .gains .now) (a .order .now) in
-    λ xs ys room are. listening-end (c .before .loop .inv xs ys room are) (omega (arith, room .orderMost)) (omega arith)
+    λ xs ys room are. demapping-end (c .before .loop .inv xs ys room are) (omega (arith, room .orderMost)) (omega arith)
 
 pub gather-spec : {M : Type 1} → statement M
 gather-spec =

@@ -2,7 +2,7 @@
 use mathlib.Core.Path.{refl}
 use Rattle.g9932.specs.Sizes.{points}
 use Rattle.mapper.specs.Mapping.{classesBy}
-use Rattle.mapper.proofs.ReadLoop.{listening-off, points-room}
+use Rattle.mapper.proofs.ReadLoop.{demapping-off, points-room}
 use borrow.Author.Needs.{needs}
 use Rattle.mapper.proofs.read.read_tones.Statement.{statement}
 use Rattle.mapper.proofs.read.read_tones.Tie as tie
@@ -30,7 +30,7 @@ returns c =
     let s = c .before .before .before .before .before .before .before .before .before .before in
     let a = s .args in
     let e = c .before .before .before .before .see-points in
-    rw (c .new .ensures) (listening-off (classesBy (a .bits .now) (a .gains .now) (a .order .now)) (a .register) (points (a .xs .now) (a .ys .now)) (c .before .before .offgrid .given .0 .0) (a .sent .now)
+    rw (c .new .ensures) (demapping-off (classesBy (a .bits .now) (a .gains .now) (a .order .now)) (a .register) (points (a .xs .now) (a .ys .now)) (c .before .before .offgrid .given .0 .0) (a .sent .now)
     (rw (c .before .before .offgrid .given .1) at (e .ensures .offgridIs)))
 
 same-length : tie.Need-same-length

@@ -13,13 +13,13 @@ use Rattle.mapper.proofs.read.see_all.Statement.{statement}
 use Rattle.mapper.proofs.read.see_all.Tie as tie
 
 abbrev Inv-loop : tie.InvT-loop
-Inv-loop kinds xs ys labels₀ all₀ i₀ labels all i = (i ≤ length xs) × (length labels ≡ 4096) × SeesAll kinds xs ys labels i all
+Inv-loop layouts xs ys labels₀ all₀ i₀ labels all i = (i ≤ length xs) × (length labels ≡ 4096) × SeesAll layouts xs ys labels i all
 
 abbrev μ-loop : tie.MeasureT-loop
-μ-loop kinds xs ys labels₀ all₀ i₀ labels all i = length xs - i
+μ-loop layouts xs ys labels₀ all₀ i₀ labels all i = length xs - i
 
 loop-holds : tie.Need-loop-holds Inv-loop μ-loop
-loop-holds c = (omega arith, c .pre .labelsLength, see-start (c .args .kinds .now) (c .args .labels .now) (c .args .xs .now) (c .args .ys .now))
+loop-holds c = (omega arith, c .pre .labelsLength, see-start (c .args .layouts .now) (c .args .labels .now) (c .args .xs .now) (c .args .ys .now))
 
 mul-label-by : tie.Need-mul-label-by Inv-loop μ-loop
 mul-label-by c = record { fits = omega (arith, c .before .before .pre .xsMost) }
@@ -62,7 +62,7 @@ loop-again c =
     let m = c .before .before .before .before .before .before .before .pre .xsMost in
     let k = l .inv .1 in
     let seen = rw (toZ-ofZ w16 (getD (a .xs .now) (l .i) (pos 0)) (record { sfits = c .before .before .before .label-by-arg2 .given }), toZ-ofZ w16 (getD (a .ys .now) (l .i) (pos 0)) (record { sfits = c .before .before .label-by-arg3 .given })) at (c .before .label-by .ensures) in
-    (omega arith, length-set (l .labels) (l .i) (r .label) ∙ k, see-step (a .kinds .now) (l .labels) (a .xs .now) (a .ys .now) (l .all) (l .i) r (omega arith) seen (l .inv .2))
+    (omega arith, length-set (l .labels) (l .i) (r .label) ∙ k, see-step (a .layouts .now) (l .labels) (a .xs .now) (a .ys .now) (l .all) (l .i) r (omega arith) seen (l .inv .2))
 
 returns : tie.Need-returns Inv-loop μ-loop
 returns c =

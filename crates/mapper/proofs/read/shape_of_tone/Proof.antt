@@ -1,5 +1,5 @@
 -- `mapper::read::shape_of_tone` meets its contract, by the class.
-use Rattle.constellation.proofs.Shapes.{shape-at}
+use Rattle.constellation.proofs.Layouts.{layout-at}
 use Prim.Native.Nat.{_<_, _≤_}
 use native.Mathlib.Omega.{arith}
 use borrow.Author.Needs.{needs}
@@ -30,7 +30,7 @@ enum-told-2 c = search needs
 returns : tie.Need-returns
 returns c =
     let h : (1 ≤ c .before .before .class .given .0 .0) × (c .before .before .class .given .0 .0 ≤ 15) = rw (c .before .before .class .given .1) at (c .before .before .before .before .pre .0) in
-    rw (c .before .before .class .given .1, c .before .before .before .before .pre .1) (shape-at (c .before .before .class .given .0 .0) (h .0) (h .1))
+    rw (c .before .before .class .given .1, c .before .before .before .before .pre .1) (layout-at (c .before .before .class .given .0 .0) (h .0) (h .1))
 
 returns-2 : tie.Need-returns-2
 returns-2 c = rw (c .enum-told .given .1)
@@ -38,8 +38,8 @@ returns-2 c = rw (c .enum-told .given .1)
 returns-3 : tie.Need-returns-3
 returns-3 c = rw (c .enum-told2 .given .1)
 
-pub shape-of-tone-spec : {M : Type 1} → statement M
-shape-of-tone-spec =
+pub layout-of-tone-spec : {M : Type 1} → statement M
+layout-of-tone-spec =
     tie.close
     (tie.spec
     enum-known-class

@@ -2,7 +2,7 @@
 -- of, and the register is the one after the draws.
 use native.Mathlib.Omega.{arith}
 use mathlib.Core.Path.{refl, sym, _∙_}
-use Rattle.symbol.proofs.Undoing.{labels-room, coded-heard, hear-ready, breaks-at, coded-fits, coded-frame}
+use Rattle.symbol.proofs.Undoing.{labels-room, coded-decoded, decode-ready, breaks-at, coded-fits, coded-frame}
 use Rattle.symbol.proofs.Points.{points-refused, places-refused, places-passed, break-found, points-done}
 use Rattle.symbol.proofs.Answers.{as-told}
 use Rattle.g9932.specs.declared.Mode.the-variants.{Coded}
@@ -30,7 +30,7 @@ read-labels-requires-2 c κs =
     let a = c .before .before .before .before .before .before .before .before .before .before .before .before .before .before .before .before .before .args in
     let t = c .before .before .before .before .before .before .before .read-labels in
     let p = places-passed (t .result .offgrid) (t .result .monitor) _ (as-told (c .before .before .before .before .refused-place .ensures) (c .before .before .enum-told .given .1)) in
-    hear-ready (tables Coded (a .bits .now) (a .gains .now) (a .tones .now)) (a .size) (a .xs .now) (a .ys .now) (a .frame .now) (a .order .now) (a .entries .now) (a .labels .now) (a .held .now) (c .before .before .before .before .before .before .before .before .before .before .before .before .before .before .before .before .before .pre) refl (t .ensures) (p .0) (t .kept .1 .1 .1 .1 .1 .1 .1 .0)
+    decode-ready (tables Coded (a .bits .now) (a .gains .now) (a .tones .now)) (a .size) (a .xs .now) (a .ys .now) (a .frame .now) (a .order .now) (a .entries .now) (a .labels .now) (a .held .now) (c .before .before .before .before .before .before .before .before .before .before .before .before .before .before .before .before .before .pre) refl (t .ensures) (p .0) (t .kept .1 .1 .1 .1 .1 .1 .1 .0)
 
 enum-known-broken : tie.Need-enum-known-broken
 enum-known-broken c = search needs
@@ -52,7 +52,7 @@ same-length c = search needs
 returns : tie.Need-returns
 returns c =
     let a = c .before .before .before .before .before .before .before .before .before .before .before .before .before .before .before .before .args in
-    let h = coded-heard (tables Coded (a .bits .now) (a .gains .now) (a .tones .now)) (a .size) (a .xs .now) (a .ys .now) (a .frame .now) (a .order .now) (a .entries .now) (a .labels .now) (a .held .now) (c .before .before .before .before .before .before .before .before .before .before .before .before .before .before .before .before .pre) refl (c .before .before .before .before .before .before .read-labels .ensures) in
+    let h = coded-decoded (tables Coded (a .bits .now) (a .gains .now) (a .tones .now)) (a .size) (a .xs .now) (a .ys .now) (a .frame .now) (a .order .now) (a .entries .now) (a .labels .now) (a .held .now) (c .before .before .before .before .before .before .before .before .before .before .before .before .before .before .before .before .pre) refl (c .before .before .before .before .before .before .read-labels .ensures) in
     points-refused _ _ _ _ _ (places-refused _ _ _ _ _ _ (c .before .places .given .0 .0) h (as-told (c .before .before .before .refused-place .ensures) (c .before .places .given .1)))
 
 same-length-2 : tie.Need-same-length-2
@@ -67,7 +67,7 @@ returns-2 c =
     let t = c .before .before .before .before .before .before .before .before .before .before .before .before .before .read-labels in
     let p = places-passed (t .result .offgrid) (t .result .monitor) _ (as-told (c .before .before .before .before .before .before .before .before .before .before .refused-place .ensures) (c .before .before .before .before .before .before .before .before .enum-told .given .1)) in
     let b = c .before .before .before .before .before .read-labels2 in
-    let h = coded-heard (tables Coded (a .bits .now) (a .gains .now) (a .tones .now)) (a .size) (a .xs .now) (a .ys .now) (a .frame .now) (a .order .now) (a .entries .now) (a .labels .now) (a .held .now) (c .before .before .before .before .before .before .before .before .before .before .before .before .before .before .before .before .before .before .before .before .before .before .before .pre) refl (t .ensures) in
+    let h = coded-decoded (tables Coded (a .bits .now) (a .gains .now) (a .tones .now)) (a .size) (a .xs .now) (a .ys .now) (a .frame .now) (a .order .now) (a .entries .now) (a .labels .now) (a .held .now) (c .before .before .before .before .before .before .before .before .before .before .before .before .before .before .before .before .before .before .before .before .before .before .before .pre) refl (t .ensures) in
     let e = breaks-at (tables Coded (a .bits .now) (a .gains .now) (a .tones .now)) (a .size) (a .xs .now) (a .ys .now) (a .frame .now) (a .order .now) (a .entries .now) (a .labels .now) (a .held .now) (c .before .before .before .before .before .before .before .before .before .before .before .before .before .before .before .before .before .before .before .before .before .before .before .pre) refl (t .ensures) (p .0) (t .kept .1 .1 .1 .1 .1 .1 .1 .0) (b .result) (b .last .1 .1 .0) (b .ensures) in
     points-refused _ _ _ _ _ (break-found h (p .0) (p .1) _ (sym e ∙ c .before .broken .given .1))
 
@@ -87,7 +87,7 @@ returns-3 c =
     let p = places-passed (t .result .offgrid) (t .result .monitor) _ (as-told (c .before .before .before .before .before .before .before .before .before .before .before .before .before .before .refused-place .ensures) (c .before .before .before .before .before .before .before .before .before .before .before .before .enum-told .given .1)) in
     let b = c .before .before .before .before .before .before .before .before .before .read-labels2 in
     let none = c .before .before .before .before .before .enum-told2 .given .1 in
-    let h = coded-heard (tables Coded (a .bits .now) (a .gains .now) (a .tones .now)) (a .size) (a .xs .now) (a .ys .now) (a .frame .now) (a .order .now) (a .entries .now) (a .labels .now) (a .held .now) (c .before .before .before .before .before .before .before .before .before .before .before .before .before .before .before .before .before .before .before .before .before .before .before .before .before .before .before .pre) refl (t .ensures) in
+    let h = coded-decoded (tables Coded (a .bits .now) (a .gains .now) (a .tones .now)) (a .size) (a .xs .now) (a .ys .now) (a .frame .now) (a .order .now) (a .entries .now) (a .labels .now) (a .held .now) (c .before .before .before .before .before .before .before .before .before .before .before .before .before .before .before .before .before .before .before .before .before .before .before .before .before .before .before .pre) refl (t .ensures) in
     let e = breaks-at (tables Coded (a .bits .now) (a .gains .now) (a .tones .now)) (a .size) (a .xs .now) (a .ys .now) (a .frame .now) (a .order .now) (a .entries .now) (a .labels .now) (a .held .now) (c .before .before .before .before .before .before .before .before .before .before .before .before .before .before .before .before .before .before .before .before .before .before .before .before .before .before .before .pre) refl (t .ensures) (p .0) (t .kept .1 .1 .1 .1 .1 .1 .1 .0) (b .result) (b .last .1 .1 .0) (b .ensures) in
     let f = coded-frame (tables Coded (a .bits .now) (a .gains .now) (a .tones .now)) (a .size) (a .xs .now) (a .ys .now) (a .frame .now) (a .order .now) (a .entries .now) (a .labels .now) (a .held .now) (c .before .before .before .before .before .before .before .before .before .before .before .before .before .before .before .before .before .before .before .before .before .before .before .before .before .before .before .pre) refl (t .ensures) (p .0) (t .kept .1 .1 .1 .1 .1 .1 .1 .0) (b .result) (b .last .1 .1 .0) (b .ensures) (b .kept .1 .1 .0) (λ k i. omega (arith, c .before .before .before .before .before .before .before .slice-known5 .given k)) none (c .before .before .copy .last .1 .0) (c .before .before .copy .ensures) in
     points-done h (p .0) (p .1) (a .size) (c .before .before .before .before .before .before .before .before .before .before .before .before .before .before .before .before .before .before .before .before .before .before .before .before .before .before .before .pre .plain .sizeIs) (sym e ∙ none) (a .frame .now) (c .before .before .copy .last .1 .0) f

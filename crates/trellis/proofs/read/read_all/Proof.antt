@@ -3,7 +3,7 @@
 use mathlib.Core.Path.{_∙_}
 use native.Mathlib.Omega.{arith}
 use borrow.Author.Tests.{not-true, not-false}
-use Rattle.trellis.proofs.HearAll.{even-hearing, even-read, first-hearing, first-broken, odd-hearing, odd-read}
+use Rattle.trellis.proofs.DecodeAll.{even-decoding, even-read, first-decoding, first-broken, odd-decoding, odd-read}
 use borrow.Author.Needs.{needs}
 use Rattle.trellis.proofs.read.read_all.Statement.{statement}
 use Rattle.trellis.proofs.read.read_all.Tie as tie
@@ -17,7 +17,7 @@ label-at-requires c κs = omega (arith, c .before .before .before .before .befor
 read-first-requires : tie.Need-read-first-requires
 read-first-requires c κs =
     let a = c .before .before .before .before .before .before .before .args in
-    first-hearing (a .entries .now) (a .labels .now) (a .frame .now) (c .before .before .entry .result) (c .before .before .before .before .before .before .before .pre) (c .before .before .before .if1 .taken) (c .before .before .entry .ensures) (c .before .label-at .result) (c .before .label-at .ensures)
+    first-decoding (a .entries .now) (a .labels .now) (a .frame .now) (c .before .before .entry .result) (c .before .before .before .before .before .before .before .pre) (c .before .before .before .if1 .taken) (c .before .before .entry .ensures) (c .before .label-at .result) (c .before .label-at .ensures)
 
 same-length : tie.Need-same-length
 same-length c = c .before .before .before .before .before .read-first .kept .1 .1 .0
@@ -31,7 +31,7 @@ read-from-requires : tie.Need-read-from-requires
 read-from-requires c κs =
     let t = c .before .before .before .before .before .before .before .before .before .before .before .before .before in
     let a = t .args in
-    (t .pre .wide, t .pre .many, odd-hearing (a .entries .now) (a .labels .now) (a .frame .now) (c .before .before .before .before .before .before .before .before .entry .result) (t .pre) (c .before .before .before .before .before .before .before .before .before .if1 .taken) (c .before .before .before .before .before .before .before .before .entry .ensures) (c .before .before .before .before .before .before .before .label-at .result) (c .before .before .before .before .before .before .before .label-at .ensures) (c .before .before .before .before .before .read-first .result) (c .before .before .before .before .before .read-first .last .1 .1 .0) (c .before .before .before .before .before .read-first .ensures) (c .before .before .before .before .before .read-first .kept .1 .1 .0))
+    (t .pre .wide, t .pre .many, odd-decoding (a .entries .now) (a .labels .now) (a .frame .now) (c .before .before .before .before .before .before .before .before .entry .result) (t .pre) (c .before .before .before .before .before .before .before .before .before .if1 .taken) (c .before .before .before .before .before .before .before .before .entry .ensures) (c .before .before .before .before .before .before .before .label-at .result) (c .before .before .before .before .before .before .before .label-at .ensures) (c .before .before .before .before .before .read-first .result) (c .before .before .before .before .before .read-first .last .1 .1 .0) (c .before .before .before .before .before .read-first .ensures) (c .before .before .before .before .before .read-first .kept .1 .1 .0))
 
 same-length-2 : tie.Need-same-length-2
 same-length-2 c = c .before .before .read-from .kept .1 .1 .1 .1 .0 ∙ c .before .before .before .before .before .before .before .before .read-first .kept .1 .1 .0
@@ -52,7 +52,7 @@ read-from-requires-2 : tie.Need-read-from-requires-2
 read-from-requires-2 c κs =
     let t = c .before .before .before .before .before .before .before in
     let a = t .args in
-    (t .pre .wide, t .pre .many, rw (c .before .before .zero-state .ensures, c .before .new .ensures) (even-hearing (a .entries .now) (a .labels .now) (a .frame .now) (t .pre) (c .before .before .before .if1 .left)))
+    (t .pre .wide, t .pre .many, rw (c .before .before .zero-state .ensures, c .before .new .ensures) (even-decoding (a .entries .now) (a .labels .now) (a .frame .now) (t .pre) (c .before .before .before .if1 .left)))
 
 same-length-3 : tie.Need-same-length-3
 same-length-3 c = c .before .before .read-from2 .kept .1 .1 .1 .1 .0

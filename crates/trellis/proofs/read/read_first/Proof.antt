@@ -8,7 +8,7 @@ use Rattle.g9932.specs.Bits.{odd}
 use Rattle.g9932.specs.Trellis.{nextState}
 use Rattle.g9932.specs.declared.TrellisState.{TrellisState}
 use Rattle.trellis.proofs.OnePair.{empty-waits}
-use Rattle.trellis.proofs.HearPair.{heard-first}
+use Rattle.trellis.proofs.DecodePair.{decoded-first}
 use borrow.Author.Needs.{needs}
 use Rattle.trellis.proofs.read.read_first.Statement.{statement}
 use Rattle.trellis.proofs.read.read_first.Tie as tie
@@ -38,7 +38,7 @@ put-requires : tie.Need-put-requires
 unfolding odd
 put-requires c κs =
     let t = c .before .before .before .before .before .before .before in
-    let p = heard-first (t .args .y) (t .args .w) (t .pre .0) (t .pre .2) in
+    let p = decoded-first (t .args .y) (t .args .w) (t .pre .0) (t .pre .2) in
     let n = c .before .before .new .ensures in
     (omega arith, rw (c .weight .ensures .0) (p .small), rw n (omega (arith, t .pre .3)), rw n empty-waits)
 
@@ -49,7 +49,7 @@ returns : tie.Need-returns
 unfolding odd
 returns c =
     let t = c .before .before .before .before .before .before .before .before .before .before in
-    let p = heard-first (t .args .y) (t .args .w) (t .pre .0) (t .pre .2) in
+    let p = decoded-first (t .args .y) (t .args .w) (t .pre .0) (t .pre .2) in
     record {
       kept = p .kept;
       state = c .before .before .before .before .before .before .before .step .ensures .0 ∙ ap (λ (s : TrellisState). nextState s false (odd (t .args .w))) (c .before .before .before .before .before .before .before .before .zero-state .ensures) ∙ p .next;

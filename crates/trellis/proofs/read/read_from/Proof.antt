@@ -6,24 +6,24 @@ use native.Mathlib.Omega.{arith}
 use borrow.Author.Tests.{not-true, not-false}
 use lib.ListN.{length}
 use Rattle.trellis.proofs.Entries.{pair-wide}
-use Rattle.trellis.proofs.HearLoop.{Hearing, hearing-start, hearing-end, hear-room, hearing-broken, hearing-step}
+use Rattle.trellis.proofs.DecodeLoop.{Decoding, decoding-start, decoding-end, decode-room, decoding-broken, decoding-step}
 use Rattle.trellis.proofs.read.read_from.Statement.{statement}
 use Rattle.trellis.proofs.read.read_from.Tie as tie
 
 abbrev Inv-loop : tie.InvT-loop
-Inv-loop labels entries from frame₀ k₀ i₀ frame k i = Hearing k₀ k entries labels frame₀ frame i₀ i
+Inv-loop labels entries from frame₀ k₀ i₀ frame k i = Decoding k₀ k entries labels frame₀ frame i₀ i
 
 abbrev μ-loop : tie.MeasureT-loop
 μ-loop labels entries from frame₀ k₀ i₀ frame k i = length entries - i
 
 loop-holds : tie.Need-loop-holds Inv-loop μ-loop
-loop-holds c = hearing-start (c .before .before .before .pre .2)
+loop-holds c = decoding-start (c .before .before .before .pre .2)
 
 add-loop : tie.Need-add-loop Inv-loop μ-loop
 add-loop c = omega (arith, c .loop .inv .room .inside, c .before .before .before .before .pre .1)
 
-sub-late : tie.Need-sub-late Inv-loop μ-loop
-sub-late c = omega arith
+sub-forced : tie.Need-sub-forced Inv-loop μ-loop
+sub-forced c = omega arith
 
 entry-requires : tie.Need-entry-requires Inv-loop μ-loop
 entry-requires c κs = omega arith
@@ -48,7 +48,7 @@ read-pair-requires c κs =
     let a = c .before .before .before .before .before .before .before .before .before .before .args in
     let l = c .before .before .before .before .before .before .loop in
     let q = pair-wide (a .entries .now) (l .i) (c .before .before .before .before .entry .result) (c .before .before .before .entry2 .result) (c .before .before .before .before .before .before .before .before .before .before .pre .0) (omega arith) (c .before .before .before .before .entry .ensures) (c .before .before .before .entry2 .ensures) in
-    let r = hear-room (a .c) (l .k) (a .entries .now) (a .labels .now) (a .frame .now) (l .frame) (a .from) (l .i) (c .before .before .before .before .entry .result) (c .before .before .before .entry2 .result) _ (c .before .before .before .before .before .before .before .before .before .before .pre .0) (l .inv) (omega arith) (c .before .before .before .before .entry .ensures) (c .before .before .before .entry2 .ensures) refl (c .before .before .label-at .result) (c .before .label-at2 .result) (c .before .before .label-at .ensures) (c .before .label-at2 .ensures) in
+    let r = decode-room (a .c) (l .k) (a .entries .now) (a .labels .now) (a .frame .now) (l .frame) (a .from) (l .i) (c .before .before .before .before .entry .result) (c .before .before .before .entry2 .result) _ (c .before .before .before .before .before .before .before .before .before .before .pre .0) (l .inv) (omega arith) (c .before .before .before .before .entry .ensures) (c .before .before .before .entry2 .ensures) refl (c .before .before .label-at .result) (c .before .label-at2 .result) (c .before .before .label-at .ensures) (c .before .label-at2 .ensures) in
     (q .0, q .1, q .2, q .3, r)
 
 add-t22 : tie.Need-add-t22 Inv-loop μ-loop
@@ -61,7 +61,7 @@ returns : tie.Need-returns Inv-loop μ-loop
 returns c =
     let a = c .before .before .before .before .before .before .before .before .before .before .before .before .before .before .before .args in
     let l = c .before .before .before .before .before .before .before .before .before .before .before .loop in
-    hearing-broken (a .c) (l .k) (a .entries .now) (a .labels .now) (a .frame .now) (l .frame) (a .from) (l .i) (c .before .before .before .before .before .before .before .before .before .entry .result) (c .before .before .before .before .before .before .before .before .entry2 .result) _ (c .before .before .before .before .before .before .before .before .before .before .before .before .before .before .before .pre .0) (l .inv) (omega arith) (c .before .before .before .before .before .before .before .before .before .entry .ensures) (c .before .before .before .before .before .before .before .before .entry2 .ensures) refl (c .before .before .before .before .before .before .before .label-at .result) (c .before .before .before .before .before .before .label-at2 .result) (c .before .before .before .before .before .before .before .label-at .ensures) (c .before .before .before .before .before .before .label-at2 .ensures)
+    decoding-broken (a .c) (l .k) (a .entries .now) (a .labels .now) (a .frame .now) (l .frame) (a .from) (l .i) (c .before .before .before .before .before .before .before .before .before .entry .result) (c .before .before .before .before .before .before .before .before .entry2 .result) _ (c .before .before .before .before .before .before .before .before .before .before .before .before .before .before .before .pre .0) (l .inv) (omega arith) (c .before .before .before .before .before .before .before .before .before .entry .ensures) (c .before .before .before .before .before .before .before .before .entry2 .ensures) refl (c .before .before .before .before .before .before .before .label-at .result) (c .before .before .before .before .before .before .label-at2 .result) (c .before .before .before .before .before .before .before .label-at .ensures) (c .before .before .before .before .before .before .label-at2 .ensures)
     (c .before .before .before .before .read-pair .result) (c .before .before .before .before .read-pair .last .1 .1 .1 .1 .1 .1 .0) (c .before .before .before .before .read-pair .ensures) (not-true _ (c .if1 .taken))
 
 add-i : tie.Need-add-i Inv-loop μ-loop
@@ -74,14 +74,14 @@ loop-again : tie.Need-loop-again Inv-loop μ-loop
 loop-again c =
     let a = c .before .before .before .before .before .before .before .before .before .before .before .before .before .before .before .before .args in
     let l = c .before .before .before .before .before .before .before .before .before .before .before .before .loop in
-    hearing-step (a .c) (l .k) (a .entries .now) (a .labels .now) (a .frame .now) (l .frame) (a .from) (l .i) (c .before .before .before .before .before .before .before .before .before .before .entry .result) (c .before .before .before .before .before .before .before .before .before .entry2 .result) _ (c .before .before .before .before .before .before .before .before .before .before .before .before .before .before .before .before .pre .0) (l .inv) (omega arith) (c .before .before .before .before .before .before .before .before .before .before .entry .ensures) (c .before .before .before .before .before .before .before .before .before .entry2 .ensures) refl (c .before .before .before .before .before .before .before .before .label-at .result) (c .before .before .before .before .before .before .before .label-at2 .result) (c .before .before .before .before .before .before .before .before .label-at .ensures) (c .before .before .before .before .before .before .before .label-at2 .ensures)
+    decoding-step (a .c) (l .k) (a .entries .now) (a .labels .now) (a .frame .now) (l .frame) (a .from) (l .i) (c .before .before .before .before .before .before .before .before .before .before .entry .result) (c .before .before .before .before .before .before .before .before .before .entry2 .result) _ (c .before .before .before .before .before .before .before .before .before .before .before .before .before .before .before .before .pre .0) (l .inv) (omega arith) (c .before .before .before .before .before .before .before .before .before .before .entry .ensures) (c .before .before .before .before .before .before .before .before .before .entry2 .ensures) refl (c .before .before .before .before .before .before .before .before .label-at .result) (c .before .before .before .before .before .before .before .label-at2 .result) (c .before .before .before .before .before .before .before .before .label-at .ensures) (c .before .before .before .before .before .before .before .label-at2 .ensures)
     (c .before .before .before .before .before .read-pair .result) (c .before .before .before .before .before .read-pair .last .1 .1 .1 .1 .1 .1 .0) (c .before .before .before .before .before .read-pair .ensures) (not-false _ (c .before .if1 .left)) (c .before .before .before .before .before .read-pair .kept .1 .1 .1 .1 .1 .1 .0)
 
 same-length-2 : tie.Need-same-length-2 Inv-loop μ-loop
 same-length-2 c = c .before .before .loop .inv .kept
 
 returns-2 : tie.Need-returns-2 Inv-loop μ-loop
-returns-2 c = hearing-end (c .before .before .loop .inv) (omega arith)
+returns-2 c = decoding-end (c .before .before .loop .inv) (omega arith)
 
 pub read-from-spec : {M : Type 1} → statement M
 read-from-spec =
@@ -91,7 +91,7 @@ read-from-spec =
     μ-loop
     loop-holds
     add-loop
-    sub-late
+    sub-forced
     entry-requires
     add-entry
     entry-requires-2

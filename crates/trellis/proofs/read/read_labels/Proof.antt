@@ -2,8 +2,8 @@
 use mathlib.Core.Path.{_∙_, sym}
 use native.Mathlib.Omega.{arith}
 use Rattle.frame.proofs.Stores.{finished}
-use Rattle.trellis.proofs.HearAll.{read-room}
-use Rattle.trellis.proofs.HearLoop.{found-not}
+use Rattle.trellis.proofs.DecodeAll.{read-room}
+use Rattle.trellis.proofs.DecodeLoop.{found-not}
 use borrow.Author.Needs.{needs}
 use Rattle.trellis.proofs.read.read_labels.Statement.{statement}
 use Rattle.trellis.proofs.read.read_labels.Tie as tie

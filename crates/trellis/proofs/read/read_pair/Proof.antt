@@ -3,13 +3,13 @@ use mathlib.Core.Path.{_∙_}
 use lib.Pow.{pow-mono}
 use native.Mathlib.Omega.{arith}
 use native.Mathlib.Nat.{lt-of-lt-of-le}
-use Rattle.trellis.proofs.HearPair.{heard-high, heard-pair}
+use Rattle.trellis.proofs.DecodePair.{decoded-high, decoded-pair}
 use borrow.Author.Needs.{needs}
 use Rattle.trellis.proofs.read.read_pair.Statement.{statement}
 use Rattle.trellis.proofs.read.read_pair.Tie as tie
 
-hear-requires : tie.Need-hear-requires
-hear-requires c κs =
+decode-word-requires : tie.Need-decode-word-requires
+decode-word-requires c κs =
     let q = c .before .before .before .pre in
     (q .0, q .1, lt-of-lt-of-le (q .4 .vSmall) (pow-mono {j = 15} (q .1)), lt-of-lt-of-le (q .4 .wSmall) (pow-mono {j = 15} (q .3)))
 
@@ -23,13 +23,13 @@ taken-of-requires : tie.Need-taken-of-requires
 taken-of-requires c κs =
     let t = c .before .before .before .before .before .before .before .before in
     let a = t .args in
-    heard-high (a .x) (a .y) (a .v) (a .w) (t .pre .0) (t .pre .2) (t .pre .4 .vSmall) (t .pre .4 .wSmall) (c .before .before .before .before .hear .result) (c .before .before .before .before .hear .ensures) (t .pre .1) (t .pre .3)
+    decoded-high (a .x) (a .y) (a .v) (a .w) (t .pre .0) (t .pre .2) (t .pre .4 .vSmall) (t .pre .4 .wSmall) (c .before .before .before .before .decode-word .result) (c .before .before .before .before .decode-word .ensures) (t .pre .1) (t .pre .3)
 
 put-requires : tie.Need-put-requires
 put-requires c κs =
     let t = c .before .before .before .before .before .before .before .before .before in
     let a = t .args in
-    let p = heard-pair (a .x) (a .y) (a .v) (a .w) (t .pre .0) (t .pre .2) (t .pre .4 .vSmall) (t .pre .4 .wSmall) (c .before .before .before .before .before .hear .result) (c .before .before .before .before .before .hear .ensures) (a .late) (a .c .state) in
+    let p = decoded-pair (a .x) (a .y) (a .v) (a .w) (t .pre .0) (t .pre .2) (t .pre .4 .vSmall) (t .pre .4 .wSmall) (c .before .before .before .before .before .decode-word .result) (c .before .before .before .before .before .decode-word .ensures) (a .forced) (a .c .state) in
     let n = c .before .taken-bits .ensures in
     (omega (arith, n .1), rw (n .0, c .taken-of .ensures) (p .small), t .pre .4 .bytes, t .pre .4 .waits)
 
@@ -43,7 +43,7 @@ returns : tie.Need-returns
 returns c =
     let t = c .before .before .before .before .before .before .before .before .before .before .before .before .before in
     let a = t .args in
-    let p = heard-pair (a .x) (a .y) (a .v) (a .w) (t .pre .0) (t .pre .2) (t .pre .4 .vSmall) (t .pre .4 .wSmall) (c .before .before .before .before .before .before .before .before .before .hear .result) (c .before .before .before .before .before .before .before .before .before .hear .ensures) (a .late) (a .c .state) in
+    let p = decoded-pair (a .x) (a .y) (a .v) (a .w) (t .pre .0) (t .pre .2) (t .pre .4 .vSmall) (t .pre .4 .wSmall) (c .before .before .before .before .before .before .before .before .before .decode-word .result) (c .before .before .before .before .before .before .before .before .before .decode-word .ensures) (a .forced) (a .c .state) in
     record {
       kept = c .keeps .ensures ∙ p .kept;
       state = c .before .before .before .before .before .before .before .before .step .ensures .0 ∙ p .next;
@@ -54,7 +54,7 @@ pub read-pair-spec : {M : Type 1} → statement M
 read-pair-spec =
     tie.close
     (tie.spec
-    hear-requires
+    decode-word-requires
     step-requires
     taken-bits-requires
     taken-of-requires

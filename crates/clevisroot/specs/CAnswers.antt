@@ -1,0 +1,72 @@
+-- The answers as C has them: document 01's numbers, with 0 where there is nothing to tell.
+use Prim.Native.Nat.{ℕ, zero, suc, _≤_}
+use mathlib.Core.Bool.{Bool}
+use mathlib.Core.List.{List}
+use mathlib.Core.Option.{Option, none, some}
+use mathlib.Core.Path.{_≡_}
+use lib.IntN.{ℤ}
+use Rattle.g9932.specs.Bits.{weight}
+use Rattle.g9932.specs.Sizes.{Tables, Point, origin}
+use Rattle.g9932.specs.Refusals.{Verdict}
+use Rattle.g9932.specs.Answers.{Report, OneTone, Draw, reorderOf, encodeOf, readOf}
+use Rattle.g9932.specs.declared.Mode.{Mode}
+use Rattle.g9932.specs.declared.Mode.the-variants.{Uncoded, Coded}
+use Rattle.clevisroot.specs.declared.SymbolAnswer.{SymbolAnswer}
+use Rattle.clevisroot.specs.declared.PointAnswer.{PointAnswer}
+use Rattle.clevisroot.specs.declared.LabelAnswer.{LabelAnswer}
+use Rattle.clevisroot.specs.declared.DrawAnswer.{DrawAnswer}
+
+-- 0 is uncoded, anything else coded
+abbrev pub modeOf : ℕ → Mode
+modeOf zero = Uncoded
+modeOf (suc n) = Coded
+
+-- ---- calls with tables
+
+abbrev pub answerOf : Verdict → ℕ → SymbolAnswer
+answerOf v reg = record { number = v .number; place = v .place; size = v .size; reg = reg }
+
+abbrev pub reported : Report → SymbolAnswer
+reported a = answerOf (a .verdict) (a .register)
+
+-- what a C answer has room for
+pub record Small (v : Verdict) : Type 0 where
+  pub placeMost : v .place ≤ 8192
+  pub sizeMost : v .number ≡ 0 → v .size ≤ 61_440
+
+pub record Reordering (T : Tables) (tones bits : List ℕ) (a : SymbolAnswer) (tonesAfter bitsAfter : List ℕ) : Type 0 where
+  pub answer : a ≡ answerOf (reorderOf T tones bits .verdict) 0
+  pub tonesHold : tonesAfter ≡ reorderOf T tones bits .tones
+  pub bitsHold : bitsAfter ≡ reorderOf T tones bits .bits
+
+pub record Encoding (T : Tables) (f : List ℕ) (r : ℕ) (xs ys : List ℤ) (a : SymbolAnswer) (xsAfter ysAfter : List ℤ) : Type 0 where
+  pub answer : a ≡ reported (encodeOf T f r xs ys .report)
+  pub xsHold : xsAfter ≡ encodeOf T f r xs ys .xs
+  pub ysHold : ysAfter ≡ encodeOf T f r xs ys .ys
+
+pub record Reading (T : Tables) (xs ys : List ℤ) (r : ℕ) (f : List ℕ) (a : SymbolAnswer) (fAfter : List ℕ) : Type 0 where
+  pub answer : a ≡ reported (readOf T xs ys r f .report)
+  pub frameHolds : fAfter ≡ readOf T xs ys r f .frame
+
+-- ---- one-tone calls, and one draw: a refused one has point (0, 0), label 0, bit 0
+
+abbrev pub pointOr : Option Point → Point → Point
+pointOr (some p) q = p
+pointOr none q = q
+
+abbrev pub numberOr : Option ℕ → ℕ → ℕ
+numberOr (some n) m = n
+numberOr none m = m
+
+abbrev pub bitOr : Option Bool → ℕ → ℕ
+bitOr (some b) n = weight b
+bitOr none n = n
+
+abbrev pub pointAnswered : OneTone Point → PointAnswer
+pointAnswered a = record { number = a .number; x = pointOr (a .value) origin .px; y = pointOr (a .value) origin .py }
+
+abbrev pub labelAnswered : OneTone ℕ → LabelAnswer
+labelAnswered a = record { number = a .number; label = numberOr (a .value) 0 }
+
+abbrev pub drawAnswered : Draw → DrawAnswer
+drawAnswered a = record { number = a .number; bit = bitOr (a .bit) 0; reg = a .register }

@@ -1,0 +1,51 @@
+-- `constellation::demap::label_below` meets its contract: one product, whose upper half is the label.
+use Rattle.constellation.proofs.DemapByLayout.{square-le, product-le, down-law}
+use native.Mathlib.Omega.{arith}
+use borrow.Author.Needs.{needs}
+use Rattle.constellation.proofs.demap.label_below.Statement.{statement}
+use Rattle.constellation.proofs.demap.label_below.Tie as tie
+
+mul-lifted : tie.Need-mul-lifted
+mul-lifted c = search needs
+
+mul-lifted-2 : tie.Need-mul-lifted-2
+mul-lifted-2 c = search needs
+
+add-lifted : tie.Need-add-lifted
+add-lifted c = search needs
+
+cast-result : tie.Need-cast-result
+cast-result c = search needs
+
+mul-result : tie.Need-mul-result
+mul-result c = record { fits = omega (arith, square-le (c .args .m) (c .pre .0)) }
+
+mul-result-2 : tie.Need-mul-result-2
+mul-result-2 c = record { fits = omega (arith, square-le (c .args .m) (c .pre .0)) }
+
+cast-result-2 : tie.Need-cast-result-2
+cast-result-2 c = record { fits = omega (arith, square-le (c .args .m) (c .pre .0)) }
+
+mul-result-3 : tie.Need-mul-result-3
+mul-result-3 c = record { fits = omega (arith, product-le (c .args .m) (c .args .three) (c .args .word) (c .pre .0) (c .pre .1)) }
+
+cast-result-3 : tie.Need-cast-result-3
+cast-result-3 c = record { fits = omega (arith, product-le (c .args .m) (c .args .three) (c .args .word) (c .pre .0) (c .pre .1)) }
+
+returns : tie.Need-returns
+returns c = down-law (c .args .m) (c .args .three) (c .args .word)
+
+pub label-below-spec : {M : Type 1} → statement M
+label-below-spec =
+    tie.close
+    (tie.spec
+    mul-lifted
+    mul-lifted-2
+    add-lifted
+    cast-result
+    mul-result
+    mul-result-2
+    cast-result-2
+    mul-result-3
+    cast-result-3
+    returns)

@@ -1,0 +1,57 @@
+-- `constellation::demap::label_by` meets its contract: one label is left, and the grid tells whether it is the point's.
+use Rattle.constellation.proofs.DemapByLayout.{in-width, seen-law}
+use mir.ValLaws.{toZ-ofZ}
+use mir.Syntax.{w16}
+use borrow.Author.Needs.{needs}
+use Rattle.constellation.proofs.demap.label_by.Statement.{statement}
+use Rattle.constellation.proofs.demap.label_by.Tie as tie
+
+axis-bits-requires : tie.Need-axis-bits-requires
+axis-bits-requires c κs = search needs
+
+axis-bits-requires-2 : tie.Need-axis-bits-requires-2
+axis-bits-requires-2 c κs = search needs
+
+word-of-requires : tie.Need-word-of-requires
+word-of-requires c κs =
+    let s = c .before .before in
+    (in-width (s .args .layout) _ _ _ (s .pre) (c .before .axis-bits .ensures), in-width (s .args .layout) _ _ _ (s .pre) (c .axis-bits2 .ensures))
+
+top-of-requires : tie.Need-top-of-requires
+top-of-requires c κs = search needs
+
+label-below-requires : tie.Need-label-below-requires
+label-below-requires c κs = search needs
+
+is-origin-requires : tie.Need-is-origin-requires
+is-origin-requires c κs = search needs
+
+pick-requires : tie.Need-pick-requires
+pick-requires c κs = search needs
+
+returns : tie.Need-returns
+returns c =
+    let s = c .before .before .before .before .before .before .before .before .before .before in
+    let x = s .args .x in
+    let y = s .args .y in
+    let o = rw (toZ-ofZ w16 x (s .fits .x), toZ-ofZ w16 y (s .fits .y)) at (c .before .is-origin .ensures) in
+    let ax = rw (toZ-ofZ w16 x (s .fits .x)) at (c .before .before .before .before .before .before .before .before .before .axis-bits .ensures) in
+    let ay = rw (toZ-ofZ w16 y (s .fits .y)) at (c .before .before .before .before .before .before .before .before .axis-bits2 .ensures) in
+    let a = c .before .before .before .before .before .before .before .before .before .axis-bits .result in
+    let b = c .before .before .before .before .before .before .before .before .axis-bits2 .result in
+    let t = c .before .before .before .before .before .before .top-of .result in
+    seen-law (s .args .layout) x y (a .bits) (b .bits) (c .before .before .before .before .before .before .before .word-of .result) (t .three) (c .before .before .before .before .before .label-below .result) (a .on) (b .on) (t .on)
+    (c .before .is-origin .result) ax ay (c .before .before .before .before .before .before .before .word-of .ensures) (c .before .before .before .before .before .before .top-of .ensures) (c .before .before .before .before .before .label-below .ensures) o (c .pick .result) (c .pick .ensures)
+
+pub label-by-spec : {M : Type 1} → statement M
+label-by-spec =
+    tie.close
+    (tie.spec
+    axis-bits-requires
+    axis-bits-requires-2
+    word-of-requires
+    top-of-requires
+    label-below-requires
+    is-origin-requires
+    pick-requires
+    returns)

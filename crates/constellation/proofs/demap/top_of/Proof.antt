@@ -1,0 +1,17 @@
+-- `constellation::demap::top_of` meets its contract: each of the top six bits is tried.
+use Rattle.constellation.proofs.TopBits.{tops-law}
+use borrow.Author.Needs.{needs}
+use Rattle.constellation.proofs.demap.top_of.Statement.{statement}
+use Rattle.constellation.proofs.demap.top_of.Tie as tie
+
+pick-requires : tie.Need-pick-requires
+pick-requires c κs = search needs
+
+pick-requires-2 : tie.Need-pick-requires-2
+pick-requires-2 c κs = search needs
+
+returns : tie.Need-returns
+returns c = tops-law (c .before .before .args .layout) (c .before .before .args .six) (c .before .pick .result) (c .pick2 .result) (c .before .before .pre) (c .before .pick .ensures) (c .pick2 .ensures)
+
+pub top-of-spec : {M : Type 1} → statement M
+top-of-spec = tie.close (tie.spec pick-requires pick-requires-2 returns)

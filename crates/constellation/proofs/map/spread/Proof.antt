@@ -1,0 +1,22 @@
+-- `constellation::map::spread` meets its contract.
+use native.Mathlib.Omega.{arith}
+use Prim.Native.Nat.{_/_}
+use Rattle.constellation.proofs.Sizes.{four-lt}
+use borrow.Author.Needs.{needs}
+use Rattle.constellation.proofs.map.spread.Statement.{statement}
+use Rattle.constellation.proofs.map.spread.Tie as tie
+
+top-four-requires : tie.Need-top-four-requires
+top-four-requires c κs = search needs
+
+mul-result : tie.Need-mul-result
+mul-result c = record { fits = omega (arith, c .top-four .ensures, four-lt (c .before .args .a / 2048) (omega arith)) }
+
+add-result : tie.Need-add-result
+add-result c = record { fits = omega (arith, c .top-four .ensures, four-lt (c .before .args .a / 2048) (omega arith)) }
+
+returns : tie.Need-returns
+returns c = search needs
+
+pub spread-spec : {M : Type 1} → statement M
+spread-spec = tie.close (tie.spec top-four-requires mul-result add-result returns)

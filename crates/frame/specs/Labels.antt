@@ -1,0 +1,23 @@
+-- The bits that labels spell, one after the other, each by its own count.
+use Prim.Native.Nat.{ℕ, _^_, _≤_, _<_}
+use mathlib.Core.Bool.{Bool}
+use mathlib.Core.List.{List, [], _∷_, _++_}
+use lib.ListN.{getD}
+use Rattle.g9932.specs.Bits.{bits}
+
+abbrev pub bitsOfLabels : List ℕ → List ℕ → List Bool
+bitsOfLabels [] ls = []
+bitsOfLabels (e ∷ es) [] = []
+bitsOfLabels (e ∷ es) (l ∷ ls) = bits e l ++ bitsOfLabels es ls
+
+-- the first n labels have no more bits than their counts
+abbrev pub Within : List ℕ → List ℕ → ℕ → Type 0
+Within es ls n = (k : ℕ) → k < n → getD ls k 0 < 2 ^ getD es k 0
+
+-- The bit counts along the tones of t' fit the entries of b' past its zeros: a count of at least 2 has an entry of its own, two counts
+-- of 1 that follow each other share an entry of 2, and a count of 0 has none.
+pub data Fits : List ℕ → List ℕ → Type 0 where
+  none : Fits [] []
+  empty : {bs es : List ℕ} → Fits bs es → Fits (0 ∷ bs) es
+  own : {b : ℕ} {bs es : List ℕ} → 2 ≤ b → Fits bs es → Fits (b ∷ bs) (b ∷ es)
+  shared : {bs es : List ℕ} → Fits bs es → Fits (1 ∷ 1 ∷ bs) (2 ∷ es)

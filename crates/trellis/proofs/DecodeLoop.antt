@@ -1,0 +1,171 @@
+-- The loop that reads pair by pair: the frame bits so far and the reading of the rest make the whole reading.
+use mathlib.Core.Path.{_≡_, refl, sym, ap, _∙_}
+use mathlib.Core.Bool.{Bool, true, false}
+use mathlib.Core.List.{List, [], _∷_, _++_, append-assoc, append-nil}
+use Prim.Native.Nat.{ℕ, suc, _+_, _-_, _/_, _≤_, _<_}
+use native.Mathlib.Nat.{zero-add}
+use native.Mathlib.Omega.{arith}
+use lib.Dec.{ltb}
+use lib.ListN.{length, take, drop, getD, length-append, length-drop}
+use lib.Seq.{take-at, drop-at}
+use Rattle.frame.proofs.Labels.{labels-drop}
+use Rattle.frame.specs.Labels.{bitsOfLabels}
+use Rattle.frame.specs.Written.{written, count}
+use Rattle.g9932.proofs.Pairs.{takenTotal, read-on, read-stop}
+use Rattle.g9932.proofs.Words.{length-bits}
+use Rattle.g9932.specs.Bits.{bits}
+use Rattle.g9932.specs.Order.{Pair, pair, inTwos}
+use Rattle.g9932.specs.Trellis.{Word, Reading, frame, breaks, after as after', lastTwo, taken, width, decodedWord, decodedAt, obeysCode, takenBits, nextOf, readPairs}
+use Rattle.g9932.specs.declared.Found.{Found}
+use Rattle.g9932.specs.declared.Found.the-variants.{At, Nothing}
+use Rattle.trellis.specs.Coding.{Wide}
+use Rattle.trellis.specs.Reading.{decodedIn, DecodeRoom, ReadsPair, DecodeRoomFrom, readingFrom, ReadsFrom}
+use Rattle.trellis.specs.declared.read.Reader.{Reader}
+use Rattle.trellis.specs.declared.read.PairRead.{PairRead}
+use Rattle.trellis.proofs.Entries.{cut-pair, pair-wide, inTwos-short, forced-is}
+use Rattle.trellis.proofs.DecodePair.{length-takes}
+
+-- a reading with n pairs before it, whose frame bits are b
+abbrev afterPairs : ℕ → List Bool → Reading → Reading
+afterPairs n b (frame f) = frame (b ++ f)
+afterPairs n b (breaks k) = breaks (n + k)
+
+after-none : (r : Reading) → r ≡ afterPairs 0 [] r
+after-none (frame f) = refl
+after-none (breaks k) = ap breaks (sym (zero-add k))
+
+after-one : (n : ℕ) (b x : List Bool) (r : Reading) → afterPairs n b (after' x r) ≡ afterPairs (n + 1) (b ++ x) r
+after-one n b x (frame f) = ap frame (sym (append-assoc b x f))
+after-one n b x (breaks k) = ap breaks (let e : n + suc k ≡ n + 1 + k = omega arith in e)
+
+pub found-not : {n : ℕ} → _≡_ {A = Found} (At n) Nothing → ⊥
+found-not z = let q : _≡_ {A = ℕ} 0 1 = cc in omega arith
+
+pub record Decoding (c k : Reader) (es labels out₀ out : List ℕ) (from i : ℕ) : Type 0 where
+  pub kept : length out ≡ length out₀
+  pub room : DecodeRoomFrom k es i labels out
+  pub pairs : ℕ
+  pub numbered : pairs + (from + 1) / 2 ≡ (i + 1) / 2
+  pub done : List Bool
+  pub soFar : written (k .writer) out ≡ written (c .writer) out₀ ++ done
+  pub rest : readingFrom c es from labels ≡ afterPairs pairs done (readingFrom k es i labels)
+  pub counted : count (k .writer) + takenTotal (inTwos (drop i es)) ≡ count (c .writer) + takenTotal (inTwos (drop from es))
+
+pub decoding-start : {c : Reader} {es labels out : List ℕ} {from : ℕ} → DecodeRoomFrom c es from labels out → Decoding c c es labels out out from from
+decoding-start {c = c} {es = es} {labels = labels} {out = out} {from = from} r =
+    record {
+      kept = refl;
+      room = r;
+      pairs = 0;
+      numbered = omega arith;
+      done = [];
+      soFar = sym (append-nil (written (c .writer) out));
+      rest = after-none (readingFrom c es from labels);
+      counted = refl;
+    }
+
+pub decoding-end : {c k : Reader} {es labels out₀ out : List ℕ} {from i : ℕ} → Decoding c k es labels out₀ out from i → length es ≤ i + 1
+    → ReadsFrom c es from labels out₀ (record { broken = Nothing; writer = k .writer }) out
+unfolding readPairs
+decoding-end {c = c} {k = k} {es = es} {labels = labels} {from = from} {i = i} g h =
+    let e : inTwos (drop i es) ≡ [] = inTwos-short (drop i es) (simp length-drop (omega arith)) in
+    let r : readingFrom c es from labels ≡ frame (g .done ++ []) = g .rest ∙ rw e in
+    record {
+      broken = rw r;
+      whole = λ _. g .soFar ∙ rw (r, append-nil (g .done));
+      waits = g .room .waits;
+      counted = λ _. omega (arith, rw e at (g .counted));
+    }
+
+-- one pair more
+module _ (c k : Reader) (es labels out₀ out : List ℕ) (from i x y : ℕ) (forced : Bool) (wide : Wide es)
+    (g : Decoding c k es labels out₀ out from i) (more : i + 1 < length es) (hx : x ≡ getD es i 0) (hy : y ≡ getD es (i + 1) 0)
+    (hl : forced ≡ ltb (length es - i) 6) where
+  is-forced : forced ≡ lastTwo (inTwos (drop (i + 2) es))
+  is-forced = hl ∙ forced-is es i (omega arith)
+
+  module _ (v w : ℕ) (hv : v ≡ getD labels i 0) (hw : w ≡ getD labels (i + 1) 0) where
+    pub decode-room : DecodeRoom k (pair x y) v w out
+    decode-room =
+        let r = g .room in
+        let s = rw (cut-pair es i x y more hx hy) at (r .bytes) in
+        record {
+          vSmall = rw (hv, hx) (r .within i (omega arith));
+          wSmall = rw (hw, hy) (r .within (i + 1) more);
+          bytes = omega (arith, s, pair-wide es i x y wide more hx hy);
+          waits = r .waits;
+        }
+
+    -- the labels of the pair, and those after it
+    abbrev later : List Bool
+    later = bitsOfLabels (drop (i + 2) es) (drop (i + 2) labels)
+
+    cut-labels : bitsOfLabels (drop i es) (drop i labels) ≡ (bits x v ++ bits y w) ++ later
+    cut-labels =
+        let p = g .room .places in
+        let z : i + 1 + 1 ≡ i + 2 = omega arith in
+        labels-drop es labels i (omega arith) (omega arith)
+        ∙ ap (λ (l : List Bool). bits (getD es i 0) (getD labels i 0) ++ l) (labels-drop es labels (i + 1) more (omega arith))
+        ∙ sym (append-assoc (bits (getD es i 0) (getD labels i 0)) (bits (getD es (i + 1) 0) (getD labels (i + 1) 0)) (bitsOfLabels (drop (i + 1 + 1) es) (drop (i + 1 + 1) labels)))
+        ∙ rw (← hx, ← hy, ← hv, ← hw, z)
+
+    sized : length (bits x v ++ bits y w) ≡ width (pair x y)
+    sized = length-append (bits x v) (bits y w) ∙ rw (length-bits x v, length-bits y w)
+
+    decoded-is : decodedAt (pair x y) (bitsOfLabels (drop i es) (drop i labels)) ≡ decodedIn (pair x y) v w
+    decoded-is = ap (decodedWord x) (ap (take (width (pair x y))) cut-labels ∙ take-at (bits x v ++ bits y w) later (width (pair x y)) sized)
+
+    after-is : drop (width (pair x y)) (bitsOfLabels (drop i es) (drop i labels)) ≡ later
+    after-is = ap (drop (width (pair x y))) cut-labels ∙ drop-at (bits x v ++ bits y w) later (width (pair x y)) sized
+
+    module _ (p : PairRead) (after : List ℕ) (reads : ReadsPair k forced (pair x y) v w out p after) where
+      kept-is : p .kept ≡ obeysCode (lastTwo (inTwos (drop (i + 2) es))) (k .state) (decodedIn (pair x y) v w)
+      kept-is = reads .kept ∙ ap (λ (b : Bool). obeysCode b (k .state) (decodedIn (pair x y) v w)) is-forced
+
+      -- a pair that breaks the code
+      pub decoding-broken : p .kept ≡ false → ReadsFrom c es from labels out₀ (record { broken = At ((i + 1) / 2); writer = k .writer }) after
+      decoding-broken e =
+          let s : readPairs (k .state) (pair x y ∷ inTwos (drop (i + 2) es)) (bitsOfLabels (drop i es) (drop i labels)) ≡ breaks 0 =
+          read-stop (pair x y) (inTwos (drop (i + 2) es)) (k .state) (bitsOfLabels (drop i es) (drop i labels)) (rw decoded-is (sym kept-is ∙ e)) in
+          let r : readingFrom c es from labels ≡ breaks (g .pairs + 0) = g .rest ∙ rw (cut-pair es i x y more hx hy, s) in
+          record {
+            broken = rw r (ap At (let n = g .numbered in let m : (i + 1) / 2 ≡ (from + 1) / 2 + (g .pairs + 0) = omega arith in m));
+            whole = λ z. absurd (found-not z);
+            waits = g .room .waits;
+            counted = λ z. absurd (found-not z);
+          }
+
+      -- a pair that keeps it
+      pub decoding-step : p .kept ≡ true → length after ≡ length out → Decoding c (p .reader) es labels out₀ after from (i + 2)
+      decoding-step e same =
+          let u : Word = decodedIn (pair x y) v w in
+          let ps : List Pair = inTwos (drop (i + 2) es) in
+          let f : List Bool = bitsOfLabels (drop i es) (drop i labels) in
+          let j : taken forced (pair x y) ≡ taken (lastTwo ps) (pair x y) = ap (λ (b : Bool). taken b (pair x y)) is-forced in
+          let q = pair-wide es i x y wide more hx hy in
+          let s = rw (cut-pair es i x y more hx hy) at (g .room .bytes) in
+          let t = rw (cut-pair es i x y more hx hy) at (g .counted) in
+          let m = reads .puts .counted in
+          let n = length-takes x y v w (q .0) (q .2) (decode-room .vSmall) (decode-room .wSmall) forced in
+          let o : readPairs (k .state) (pair x y ∷ ps) f ≡ after' (takenBits (lastTwo ps) x u) (readPairs (nextOf (k .state) u) ps later) =
+          read-on (pair x y) ps (k .state) f u later decoded-is after-is (sym kept-is ∙ e) in
+          record {
+            kept = same ∙ g .kept;
+            room =
+                record {
+                  inside = omega arith;
+                  places = g .room .places;
+                  within = g .room .within;
+                  bytes = rw same (omega arith);
+                  waits = reads .puts .waits;
+                };
+            pairs = g .pairs + 1;
+            numbered = omega (arith, g .numbered);
+            done = g .done ++ takenBits forced x u;
+            soFar = reads .puts .holds ∙ rw (g .soFar, append-assoc);
+            rest =
+                g .rest
+                ∙ rw (cut-pair es i x y more hx hy, o, ← is-forced, reads .state)
+                (after-one (g .pairs) (g .done) (takenBits forced x u) (readPairs (nextOf (k .state) u) ps later));
+            counted = omega arith;
+          }

@@ -1,0 +1,27 @@
+-- `trellis::read::hear` meets its contract: u4 upward fits.
+use native.Mathlib.Omega.{arith}
+use Rattle.g9932.specs.Bits.{odd}
+use Rattle.trellis.specs.Reading.{decodedOf}
+use Rattle.trellis.proofs.DecodePair.{decoded-fits}
+use borrow.Author.Needs.{needs}
+use Rattle.trellis.proofs.read.decode_word.Statement.{statement}
+use Rattle.trellis.proofs.read.decode_word.Tie as tie
+
+sub-power : tie.Need-sub-power
+sub-power c = search needs
+
+power-requires : tie.Need-power-requires
+power-requires c κs = search needs
+
+mul-t17 : tie.Need-mul-t17
+mul-t17 c = record { fits = rw (c .power .ensures) (omega (arith, decoded-fits (c .before .args .w) (c .before .args .x) (c .before .pre .1) (c .before .pre .3))) }
+
+add-t18 : tie.Need-add-t18
+add-t18 c = record { fits = rw (c .power .ensures) (omega (arith, decoded-fits (c .before .args .w) (c .before .args .x) (c .before .pre .1) (c .before .pre .3))) }
+
+returns : tie.Need-returns
+unfolding odd decodedOf
+returns c = rw (c .power .ensures)
+
+pub decode-word-spec : {M : Type 1} → statement M
+decode-word-spec = tie.close (tie.spec sub-power power-requires mul-t17 add-t18 returns)
