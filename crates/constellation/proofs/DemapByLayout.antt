@@ -14,7 +14,7 @@ use Rattle.g9932.specs.Sizes.{point, origin}
 use Rattle.constellation.specs.Widened.{pairs, signWeight, interleaved}
 use Rattle.constellation.specs.Reading.{SoughtIs, Steps, Narrowed, topSix, inGrid}
 use Rattle.constellation.specs.Layouts.{layoutOf}
-use Rattle.constellation.specs.DemapByLayout.{silentLayout, Power, IsLayout, OnAxis, WordUp, TopsBy, LabelDown, Demaps}
+use Rattle.constellation.specs.DemapByLayout.{Power, IsLayout, OnAxis, WordUp, TopsBy, LabelDown, Demaps}
 use Rattle.constellation.proofs.Grid.{bit-rule, six-few}
 use Rattle.constellation.proofs.Mapping.{rule}
 use Rattle.constellation.proofs.Reading.{test, sought-law}

@@ -1,4 +1,4 @@
--- What reading finds by a tone's shape (specs/Shapes), and the steps to it.
+-- What reading finds by a layout (specs/Layouts), and the steps to it.
 use Prim.Native.Nat.{ℕ, _+_, _-_, _*_, _/_, _%_, _^_, _<_, _≤_}
 use mathlib.Core.Bool.{Bool, false}
 use mathlib.Core.List.{List, [], _∷_}
@@ -10,12 +10,8 @@ use Rattle.g9932.specs.Points.{labelOf, samePoint}
 use Rattle.g9932.specs.Sizes.{Point, origin}
 use Rattle.constellation.specs.Widened.{topFour, interleaved}
 use Rattle.constellation.specs.Reading.{SoughtIs, Steps, inGrid}
-use Rattle.constellation.specs.Layouts.{layoutOf}
+use Rattle.constellation.specs.Layouts.{layoutOf, silentLayout}
 use Rattle.constellation.specs.declared.demap.PointLabel.{PointLabel}
-
--- a silent tone's: no pairs, and both of the bits 7 and 15
-abbrev pub silentLayout : ℕ
-silentLayout = 33216
 
 -- the weights that the pairs give
 abbrev pub Power : ℕ → Type 0
@@ -53,7 +49,7 @@ pub record TopsBy (layout six : ℕ) (on : Bool) (three : ℕ) : Type 0 where
 abbrev pub LabelDown : ℕ → ℕ → ℕ → ℕ → Type 0
 LabelDown m three w l = (k v : ℕ) → k ≤ 6 → m ≡ 2 ^ k → w ≡ v * 2 ^ (2 * (6 - k)) → l ≡ three * 2 ^ (2 * k) + v % 2 ^ (2 * k)
 
--- the label of a point, by the shape of b bits; a silent tone's point is the origin
+-- the label of a point, by the layout of b bits; a silent tone's point is the origin
 pub record Demaps (layout : ℕ) (p : Point) (r : PointLabel) : Type 0 where
   pub sought : (b : ℕ) → 1 ≤ b → b ≤ 15 → layout ≡ layoutOf b → SoughtIs (record { found = r .on; label = r .label }) (labelOf b p)
   pub silent : layout ≡ silentLayout → r .on ≡ samePoint p origin

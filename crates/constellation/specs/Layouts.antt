@@ -1,18 +1,31 @@
--- What a tone's bit count asks of the functions that take many tones at a time, in one number of sixteen bits: 2 ^ (6 - k) in bits 0
--- to 6 and 2 ^ k in bits 8 to 14, k being its pairs; bit 7 where b is odd and at least 3; bit 15 where b is 1. A silent tone has a number of its own in each direction.
+-- A constellation as one number of sixteen bits, its layout: 2 ^ (6 - k) in bits 0 to 6 and 2 ^ k in bits 8 to 14, k being the pairs of
+-- plain bits that its labels have; bit 7 where b is odd and at least 3; bit 15 where b is 1. A silent tone's has no pairs, and both of
+-- the bits 7 and 15.
 use Prim.Native.Nat.{ℕ, _+_, _-_, _*_, _%_, _^_}
 use mathlib.Core.Bool.{cond}
 use mathlib.Core.List.{List, [], _∷_}
 use lib.Dec.{ltb}
+use Rattle.g9932.specs.declared.Class.{Class}
+use Rattle.g9932.specs.declared.Class.the-variants.{Data, Monitored, Silent}
 use Rattle.constellation.specs.Widened.{pairs}
 
+-- of b bits, 1 to 15
 abbrev pub layoutOf : ℕ → ℕ
 layoutOf b = 256 * 2 ^ pairs b + 2 ^ (6 - pairs b) + cond (ltb b 2) 32768 (128 * (b % 2))
 
--- by bit count, with 0 for a count of 0
+abbrev pub silentLayout : ℕ
+silentLayout = 33216
+
+-- of a tone: monitored ones have the 2-bit constellation
+abbrev pub classLayout : Class → ℕ
+classLayout (Data b) = layoutOf b
+classLayout Monitored = layoutOf 2
+classLayout Silent = silentLayout
+
+-- by bit count; 0 bits have a silent tone's
 abbrev pub layoutList : List ℕ
 layoutList =
-    0
+    33216
     ∷ 33088
     ∷ 320
     ∷ 448

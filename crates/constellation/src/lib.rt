@@ -36,12 +36,13 @@ const THREE_GRID: u64 = 0x0011_1010_0101_1100;
 
 const ODD_GRID: u64 = 0x035f_30fa_5f0c_fac0;
 
-// The shapes of the bit counts 0 to 15: see specs/Shapes. A caller makes the table once and lends it to its loop.
+// The layouts of the bit counts 1 to 15, and for 0 a silent tone's: see specs/Layouts. A caller makes the table once and lends it to its
+// loop.
 pub fn layout_table() -> [u16; 16]
     ensures { λ r. ⌜ r ≡ layoutList ⌝ }
 {
     [
-        0,
+        0x81c0,
         0x8140,
         0x0140,
         0x01c0,

@@ -1,4 +1,6 @@
 // Packed bits: the FRAME test, and bits got and put by words, lowest first.
+pub mod by_place;
+
 ghost use mathlib.Core.Path.{_≡_};
 ghost use mathlib.Core.List.{[], _++_};
 ghost use Prim.Native.Nat.{ℕ, _+_, _-_, _*_, _/_, _%_, _^_, _≤_, _<_};

@@ -1,4 +1,3 @@
-pub mod Mapping
+-- What the passes ask and do: frame to labels to points, and back.
+pub mod Writing
 pub mod Reading
-pub mod Labelled
-pub mod Collecting

@@ -1,50 +1,95 @@
--- What the reader's loop asks and does.
-use Prim.Native.Nat.{ℕ, _^_, _≤_, _<_}
-use mathlib.Core.Bool.{true}
-use mathlib.Core.List.{List}
+-- Points to labels by place, and these to frame bits.
+use Prim.Native.Nat.{ℕ, _+_, _*_, _^_, _≤_, _<_}
+use mathlib.Core.Bool.{Bool, true, false, not}
+use mathlib.Core.List.{List, [], _∷_, _++_}
 use mathlib.Core.Path.{_≡_}
-use lib.IntN.{ℤ}
-use lib.ListN.{length}
+use lib.Dec.{eqb}
+use lib.IntN.{ℤ, pos}
+use lib.ListN.{length, getD}
+use Rattle.constellation.specs.DemapByLayout.{IsLayout, Demaps}
+use Rattle.frame.specs.Labels.{bitsOfLabels, Within, labelsAt, Rising}
 use Rattle.frame.specs.Written.{written, Waits, count}
-use Rattle.g9932.specs.Bits.{bits, first}
-use Rattle.g9932.specs.Sizes.{entry, Point}
-use Rattle.g9932.specs.Filler.{afterDraws, draws, registerAfter}
-use Rattle.g9932.specs.Symbol.{load, inConstellation, isFiller, toneBits, offgridTest, monitorTest, gatherBits}
-use Rattle.g9932.specs.declared.Class.{Class}
-use Rattle.g9932.specs.declared.Found.the-variants.{Nothing}
-use Rattle.mapper.specs.declared.read.ToneRead.{ToneRead}
-use Rattle.mapper.specs.declared.read.TonesRead.{TonesRead}
+use Rattle.frame.specs.declared.BitWriter.{BitWriter}
+use Rattle.g9932.specs.Bits.{num, orAt, first}
+use Rattle.g9932.specs.Filler.{drawn, afterDraws}
+use Rattle.g9932.specs.Order.{sum}
+use Rattle.g9932.specs.Sizes.{entry, Point, point}
+use Rattle.g9932.specs.declared.Found.{Found}
+use Rattle.g9932.specs.declared.Found.the-variants.{At, Nothing}
+use Rattle.mapper.specs.declared.read.FillerRead.{FillerRead}
 
--- ---- one tone, its point being in its constellation
+-- ---- points
 
-pub record ReadsTone (c : Class) (r : ℕ) (p : Point) (t : ToneRead) : Type 0 where
-  pub on : inConstellation c p ≡ true
-  pub fillerIs : t .filler ≡ isFiller c r p
-  pub bitsIs : t .bits ≡ load c
-  pub carried : bits (t .bits) (t .label) ≡ toneBits c p
-  pub small : t .label < 2 ^ t .bits
-  pub most : t .bits ≤ 15
-  pub registerIs : t .register ≡ afterDraws (draws c) r
+abbrev pub pointAt : List ℤ → List ℤ → ℕ → Point
+pointAt xs ys i = point (getD xs i (pos 0)) (getD ys i (pos 0))
 
--- ---- all tones
+pub record DemapNeeds (layouts : List ℕ) (xs ys : List ℤ) : Type 0 where
+  pub layoutsLength : length layouts ≡ length xs
+  pub ysLength : length ys ≡ length xs
+  pub layouts : (i : ℕ) → i < length xs → IsLayout (entry layouts i)
 
-pub record PointsRoom (b order : List ℕ) (xs ys : List ℤ) : Type 0 where
-  pub bitsMost : (k : ℕ) → entry b k ≤ 15
-  pub orderMost : length order ≤ 4096
-  pub xsLength : length xs ≡ length order
-  pub ysLength : length ys ≡ length order
+pub record LabelNeeds (layouts : List ℕ) (xs ys : List ℤ) (labels : List ℕ) : Type 0 where
+  pub points : DemapNeeds layouts xs ys
+  pub labelsLength : length labels ≡ length xs
 
-pub record ReadRoom (b order : List ℕ) (xs ys : List ℤ) (sent : List ℕ) : Type 0 where
-  pub bitsMost : (k : ℕ) → entry b k ≤ 15
-  pub orderMost : length order ≤ 4096
-  pub xsLength : length xs ≡ length order
-  pub ysLength : length ys ≡ length order
-  pub sentLength : length sent ≡ 7688
+-- l is the label of a point that a tone of this layout can have; or it can't have it
+abbrev pub LabelIs : ℕ → Point → ℕ → Type 0
+LabelIs layout p l = Demaps layout p (record { on = true; label = l })
 
-pub record ReadsAll (cs : List Class) (r : ℕ) (q : List Point) (t : TonesRead) (after : List ℕ) : Type 0 where
-  pub offgridIs : t .offgrid ≡ first (offgridTest cs q) (length cs)
-  pub monitorIs : t .offgrid ≡ Nothing → t .monitor ≡ first (monitorTest r cs q) (length cs)
-  pub registerIs : t .offgrid ≡ Nothing → t .register ≡ registerAfter r cs
-  pub gathered : t .offgrid ≡ Nothing → written (t .writer) after ≡ gatherBits cs q
-  pub waits : Waits (t .writer)
-  pub counted : count (t .writer) ≤ 61_440
+abbrev pub Off : ℕ → Point → Type 0
+Off layout p = (l : ℕ) × Demaps layout p (record { on = false; label = l })
+
+-- every point has its label, or one has none
+pub record DemapsAll (layouts : List ℕ) (xs ys : List ℤ) (labels : List ℕ) (all : Bool) : Type 0 where
+  pub every : all ≡ true → (i : ℕ) → i < length xs → LabelIs (entry layouts i) (pointAt xs ys i) (entry labels i)
+  pub some : all ≡ false → (i : ℕ) × (i < length xs) × Off (entry layouts i) (pointAt xs ys i)
+  pub labelsLength : length labels ≡ length xs
+
+-- the first place whose point is off, those before it being on
+abbrev pub OffAt : List ℕ → List ℤ → List ℤ → Found → Type 0
+OffAt layouts xs ys (At k) =
+    (k < length xs) × Off (entry layouts k) (pointAt xs ys k) × ((i : ℕ) → i < k → (l : ℕ) × LabelIs (entry layouts i) (pointAt xs ys i) l)
+OffAt layouts xs ys Nothing = (i : ℕ) → i < length xs → (l : ℕ) × LabelIs (entry layouts i) (pointAt xs ys i) l
+
+pub record DemapsPoints (layouts : List ℕ) (xs ys : List ℤ) (labels : List ℕ) (r : Found) : Type 0 where
+  pub off : OffAt layouts xs ys r
+  pub labelled : r ≡ Nothing → (i : ℕ) → i < length xs → LabelIs (entry layouts i) (pointAt xs ys i) (entry labels i)
+  pub labelsLength : length labels ≡ length xs
+
+-- ---- filler bits
+
+-- the first of the places whose label isn't the next two filler bits
+unfoldable pub wrongFiller : ℕ → List ℕ → List ℕ → Found → Found
+wrongFiller r [] ls found = found
+wrongFiller r (p ∷ ms) ls found = wrongFiller (afterDraws 2 r) ms ls (orAt found (not (eqb (entry ls p) (num (drawn 2 r)))) p)
+
+pub record ChecksFiller (ms : List ℕ) (r : ℕ) (labels : List ℕ) (f : FillerRead) : Type 0 where
+  pub monitorIs : f .monitor ≡ wrongFiller r ms labels Nothing
+  pub registerIs : f .register ≡ afterDraws (2 * length ms) r
+
+-- ---- labels that two tones of 1 bit share
+
+-- the labels of two places become one at the first
+abbrev pub joinOnes : List ℕ → List ℕ
+joinOnes [] = []
+joinOnes (a ∷ []) = a ∷ []
+joinOnes (a ∷ b ∷ ls) = a + 2 * b ∷ b ∷ joinOnes ls
+
+pub record JoinNeeds (labels : List ℕ) (from : ℕ) : Type 0 where
+  pub inside : from ≤ length labels
+  pub ones : (i : ℕ) → from ≤ i → i < length labels → entry labels i < 2
+
+-- ---- labels to frame bits
+
+pub record CollectNeeds (w : BitWriter) (es ps labels frame : List ℕ) : Type 0 where
+  pub same : length ps ≡ length es
+  pub counts : (k : ℕ) → entry es k ≤ 15
+  pub places : Rising ps (length labels)
+  pub within : Within es (labelsAt ps labels) (length es)
+  pub bytes : count w + sum es + 64 ≤ 8 * length frame
+  pub waits : Waits w
+
+pub record CollectsLabels (w : BitWriter) (es ps labels frame : List ℕ) (v : BitWriter) (after : List ℕ) : Type 0 where
+  pub whole : written v after ≡ written w frame ++ bitsOfLabels es (labelsAt ps labels)
+  pub waits : Waits v
+  pub counted : count v ≡ count w + sum es

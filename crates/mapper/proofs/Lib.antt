@@ -1,9 +1,0 @@
-pub mod Tones
-pub mod OneTone
-pub mod MapLoop
-pub mod EntryBits
-pub mod EntryPlaces
-pub mod LabelLoop
-pub mod ReadLoop
-pub mod Labelled
-pub mod CollectLoop

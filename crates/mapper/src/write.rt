@@ -1,0 +1,71 @@
+// Frame bits to labels, and labels to points.
+ghost use mathlib.Core.Path.{_≡_};
+ghost use mathlib.Core.List.{_++_};
+ghost use Prim.Native.Nat.{_≤_};
+ghost use lib.ListN.{length, take, drop};
+ghost use Rattle.mapper.specs.Writing.{CutNeeds, CutsLabels, splitOnes, FillerNeeds, SetsFiller, PutNeeds, PutsPoints};
+use frame::by_place::place_at;
+use frame::by_place::put_label;
+
+// Cuts a frame's bits, from bit `start` on, into the labels of the entries, each at its place. Called by proved code only.
+pub fn cut_labels(frame: &[u8], start: usize, entries: &[u8], places: &[u16], labels: &mut [u16])
+    requires { ⌜ CutNeeds (now frame) start (now entries) (now places) (now labels) ⌝ }
+    ensures { λ _. ⌜ CutsLabels (now (frame .entry)) start (now (entries .entry)) (now (places .entry)) (now (labels .exit)) ⌝ }
+{
+    let mut at = start;
+    let mut j = 0;
+    while j < entries.len() {
+        let n = entries[j] as usize;
+        put_label(labels, place_at(places, j), frame::get(frame, at, n) as u16);
+        at += n;
+        j += 1;
+    }
+}
+
+// From place `from` on, two tones of 1 bit share a label, which stands at the first one's place: it keeps the lower bit, and the
+// second one gets the upper. Called by proved code only.
+pub fn split_shared(labels: &mut [u16], from: usize)
+    requires { ⌜ from ≤ length (now labels) ⌝ }
+    ensures { λ _. ⌜ now (labels .exit) ≡ take from (now (labels .entry)) ++ splitOnes (drop from (now (labels .entry))) ⌝ }
+{
+    let mut i = from;
+    while i + 1 < labels.len() {
+        let both = labels[i];
+        labels[i] = both % 2;
+        labels[i + 1] = both / 2;
+        i += 2;
+    }
+}
+
+// Puts the filler bits of the monitored places, and answers the register after the draws. Called by proved code only.
+pub fn set_filler(monitored: &[u16], register: u32, labels: &mut [u16]) -> u32
+    requires { ⌜ FillerNeeds (now monitored) (now labels) ⌝ }
+    ensures { λ r. ⌜ SetsFiller (now (monitored .entry)) register (now (labels .entry)) r (now (labels .exit)) ⌝ }
+{
+    let mut next = register;
+    let mut k = 0;
+    while k < monitored.len() {
+        let f = prbs::filler_label(next);
+        put_label(labels, place_at(monitored, k), f.label as u16);
+        next = f.register;
+        k += 1;
+    }
+    next
+}
+
+// The points of the labels, by the layouts of the places. The steps are the same at every place: the compiler takes several places
+// at a time. Called by proved code only.
+pub fn put_points(layouts: &[u16], labels: &[u16], xs: &mut [i16], ys: &mut [i16])
+    requires { ⌜ PutNeeds (now layouts) (now labels) (now xs) (now ys) ⌝ }
+    ensures { λ _. ⌜ PutsPoints (now (layouts .entry)) (now (labels .entry)) (now (xs .exit)) (now (ys .exit)) ⌝ }
+{
+    let mut i = 0;
+    while i < xs.len() {
+        let p = constellation::map::point_by(layouts[i], labels[i]);
+        let x = p.x;
+        let y = p.y;
+        xs[i] = x;
+        ys[i] = y;
+        i += 1;
+    }
+}
