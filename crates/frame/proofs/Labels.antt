@@ -11,7 +11,7 @@ use lib.ListN.{length, take, drop, getD, set}
 use lib.Seq.{drop-cons, take-suc, take-suc-set, length-take-le, getD-set-same, getD-set-other}
 use Rattle.g9932.specs.Bits.{bits}
 use Rattle.g9932.specs.Sizes.{entry}
-use Rattle.frame.specs.Labels.{bitsOfLabels, Within, labelsAt, Rising}
+use Rattle.frame.specs.Labels.{bitsOfLabels, Within, labelsAt, Rising, Placed}
 
 -- a label after the others
 pub labels-more : (es ls : List ℕ) (e l : ℕ) → length es ≡ length ls → bitsOfLabels (es ++ (e ∷ [])) (ls ++ (l ∷ [])) ≡ bitsOfLabels es ls ++ bits e l
@@ -71,3 +71,6 @@ at-set (p ∷ ps) ls zero x r h =
     λ i. getD-set-same ls p x 0 (r .below 0 (omega arith)) i ∷ at-past ps ls p x (λ j k e. let l = r .rises 0 (suc j) (omega arith) (omega arith) in omega (arith, e, l)) i
 at-set (p ∷ ps) ls (suc j) x r h =
     λ i. getD-set-other ls (entry ps j) p x 0 (λ e. let l = r .rises 0 (suc j) (omega arith) h in omega (arith, e, l)) i ∷ at-set ps ls j x (rising-tail p ps (length ls) r) (omega arith) i
+
+pub placed-length : {es ps ls : List ℕ} → Placed es ps ls → length (labelsAt ps ls) ≡ length es
+placed-length {ps = ps} {ls = ls} p = length-at ps ls ∙ p .same

@@ -2,6 +2,7 @@
 use Prim.Native.Nat.{ℕ, _^_, _≤_, _<_}
 use mathlib.Core.Bool.{Bool}
 use mathlib.Core.List.{List, [], _∷_, _++_, map}
+use mathlib.Core.Path.{_≡_}
 use lib.ListN.{length, getD}
 use Rattle.g9932.specs.Bits.{bits}
 use Rattle.g9932.specs.Sizes.{entry}
@@ -23,6 +24,11 @@ labelsAt ps ls = map (entry ls) ps
 pub record Rising (ps : List ℕ) (n : ℕ) : Type 0 where
   pub below : (j : ℕ) → j < length ps → entry ps j < n
   pub rises : (j k : ℕ) → j < k → k < length ps → entry ps j < entry ps k
+
+-- each entry has a place in a list of labels
+pub record Placed (es ps ls : List ℕ) : Type 0 where
+  pub same : length ps ≡ length es
+  pub rising : Rising ps (length ls)
 
 -- The bit counts along the tones of t' fit the entries of b' past its zeros: a count of at least 2 has an entry of its own, two counts
 -- of 1 that follow each other share an entry of 2, and a count of 0 has none.

@@ -14,7 +14,7 @@ use Rattle.g9932.specs.Bits.{first}
 use Rattle.g9932.specs.Sizes.{Tables, pack, frameBits, Point, points}
 use Rattle.g9932.specs.Refusals.{Verdict, refused}
 use Rattle.g9932.specs.Order.{count, isOne, bitsOf, entries, reorderedTones, reorderedBits}
-use Rattle.g9932.specs.Trellis.{zeroState, encodePairs, frame, readPairs, sentOf, readingOf}
+use Rattle.g9932.specs.Trellis.{zeroState, encodePairs, frame, readPairs, sentOf, readingOf, takenTotal}
 use Rattle.g9932.specs.Symbol.{classesOf, orderOf, pairsIn, sizeOf, sentIn, writtenPoints, offgridTest, monitorTest, gatherBits, readingIn}
 use Rattle.g9932.specs.Answers.{reportBy, breakIn, pointsVerdict, Read, readOf}
 use Rattle.g9932.specs.declared.Class.the-variants.{Silent}
@@ -26,7 +26,6 @@ use Rattle.g9932.proofs.Accepted.{Accepted, AcceptedCoded, accepted-tables}
 use Rattle.g9932.proofs.Constellations.{turnedPoint}
 use Rattle.g9932.proofs.Formed.{Formed}
 use Rattle.g9932.proofs.Packed.{length-frame}
-use Rattle.g9932.proofs.Pairs.{takenTotal}
 use Rattle.g9932.proofs.Reordering.{nonzero-entries}
 use Rattle.g9932.proofs.Search.{first-no, first-all, first-ext}
 use Rattle.g9932.proofs.Symbols.{length-gather}

@@ -12,7 +12,7 @@ use Rattle.frame.proofs.Stores.{finished}
 use Rattle.g9932.specs.Bits.{bits, first}
 use Rattle.g9932.specs.Sizes.{Tables, unpack, pack, bytesFor, points}
 use Rattle.g9932.specs.Order.{Pair, sum, bitsOf, entries, pairsOf, reorderedTones}
-use Rattle.g9932.specs.Trellis.{Reading, frame, breaks, zeroState, readPairs, readingOf}
+use Rattle.g9932.specs.Trellis.{Reading, frame, breaks, zeroState, readPairs, readingOf, takenTotal}
 use Rattle.g9932.specs.Symbol.{load, orderOf, classesOf, pairsIn, sizeOf, offgridTest, gatherBits, readingIn}
 use Rattle.g9932.specs.Answers.{breakIn, frameIn}
 use Rattle.g9932.specs.declared.Found.{Found}
@@ -22,7 +22,7 @@ use Rattle.g9932.specs.declared.Mode.the-variants.{Uncoded, Coded}
 use Rattle.g9932.proofs.Accepted.{Accepted, AcceptedCoded, accepted-tables}
 use Rattle.g9932.proofs.Formed.{formed-ok}
 use Rattle.g9932.proofs.Packed.{Bytes}
-use Rattle.g9932.proofs.Pairs.{takenTotal, sentTotal, length-read}
+use Rattle.g9932.proofs.Pairs.{sentTotal, length-read}
 use Rattle.g9932.proofs.Search.{first-no}
 use Rattle.g9932.proofs.Symbols.{length-gather}
 use Rattle.guarantees.proofs.Operations.{length-points, length-classes}

@@ -13,13 +13,12 @@ use Rattle.frame.specs.Labels.{Fits}
 use Rattle.g9932.specs.Sizes.{Tables, entry, frameBits, unpack, bytesFor}
 use Rattle.g9932.specs.Refusals.{tableVerdict}
 use Rattle.g9932.specs.Order.{sum, bitsOf, entries, entryCount, pairsOf, reorderedTones, reorderedBits}
-use Rattle.g9932.specs.Trellis.{zeroState, encodePairs, sentOf}
+use Rattle.g9932.specs.Trellis.{zeroState, encodePairs, sentOf, takenTotal}
 use Rattle.g9932.specs.Symbol.{load, orderOf, bitsIn, classesOf, pairsIn, sizeOf, writePoints, sentIn, writtenPoints}
 use Rattle.g9932.specs.declared.Mode.{Mode}
 use Rattle.g9932.specs.declared.Mode.the-variants.{Uncoded, Coded}
 use Rattle.g9932.proofs.Accepted.{Accepted, AcceptedCoded, accepted-tables}
 use Rattle.g9932.proofs.Packed.{frame-length, length-frame}
-use Rattle.g9932.proofs.Pairs.{takenTotal}
 use Rattle.g9932.proofs.Prefixes.{encode-take, write-take}
 use Rattle.g9932.proofs.Symbols.{loads}
 use Rattle.guarantees.proofs.Sent.{load-classes, loads-sum, size-uncoded, length-sentOf}

@@ -1,75 +1,76 @@
 -- All pairs of the entries: with a 0 in front where their count is odd.
 use mathlib.Core.Path.{_≡_, _∙_}
-use mathlib.Core.Bool.{false}
+use mathlib.Core.Bool.{Bool, false}
 use mathlib.Core.List.{List}
 use Prim.Native.Nat.{ℕ, _+_, _*_, _%_, _≤_, _<_}
 use native.Mathlib.Omega.{arith}
-use native.Mathlib.Nat.{zero-add}
 use lib.ListN.{length, take, drop, getD, set, length-set}
+use lib.Seq.{drop-drop}
 use Rattle.frame.proofs.Labels.{labels-set, within-set}
 use Rattle.frame.specs.Labels.{bitsOfLabels}
-use Rattle.g9932.proofs.Pairs.{takenTotal}
 use Rattle.g9932.specs.Bits.{bits}
 use Rattle.g9932.specs.Order.{pair, inTwos, pairsOf}
 use Rattle.g9932.specs.Sizes.{unpack}
-use Rattle.g9932.specs.Trellis.{taken, sentBits, zeroState}
-use Rattle.trellis.specs.Coding.{codedWord, firstCoder, CodesPair, RoomFrom, CodesFrom, CodedWhole, Ready}
+use Rattle.g9932.specs.Trellis.{taken, sentBits, zeroState, takenTotal}
+use Rattle.trellis.specs.Coding.{codedWord, firstCoder, CodesPair, CodeNeeds, CodesFrom, CodesFrame, FrameNeeds}
 use Rattle.trellis.specs.declared.PairCode.{PairCode}
 use Rattle.trellis.proofs.CodeLoop.{encode-step}
 use Rattle.trellis.proofs.Entries.{whole-pairs, padded-pairs, not-forced}
 
--- an even count
-module _ (es frame labels : List ℕ) (ready : Ready es frame labels) (even : length es % 2 ≡ 1 → ⊥) where
-  pub even-room : RoomFrom firstCoder es 0 frame labels
-  even-room =
-      record {
-        inside = omega arith;
-        even = omega (arith, even);
-        bits = rw (← (whole-pairs es even)) (omega (arith, ready .bits));
-        small = ready .small;
-        places = ready .places;
-        within = λ k h. absurd (omega arith);
-      }
+module _ (frame : List ℕ) (start : ℕ) (es labels : List ℕ) (needs : FrameNeeds frame start es) (same : length labels ≡ length es) where
+  -- an even count
+  module _ (even : length es % 2 ≡ 1 → ⊥) where
+    pub even-needs : CodeNeeds (firstCoder start) es 0 frame labels
+    even-needs =
+        record {
+          inside = omega arith;
+          even = omega (arith, even);
+          bits = rw (← (whole-pairs es even)) (omega (arith, needs .bits));
+          small = needs .small;
+          places = omega (arith, same);
+          within = λ k h. absurd (omega arith);
+        }
 
-  pub even-coded : (after : List ℕ) → CodesFrom firstCoder es 0 frame labels after → CodedWhole es frame after
-  even-coded after c = record { whole = c .whole ∙ rw (whole-pairs es even); within = c .within }
+    pub even-coded : (after : List ℕ) → CodesFrom (firstCoder start) es 0 frame labels after → CodesFrame frame start es after
+    even-coded after c = record { whole = c .whole ∙ rw (whole-pairs es even); within = c .within }
 
--- an odd count: the first pair has x = 0
-module _ (es frame labels : List ℕ) (y : ℕ) (ready : Ready es frame labels) (odd : length es % 2 ≡ 1) (hy : y ≡ getD es 0 0) where
-  taken-first : takenTotal (pairsOf es) ≡ taken false (pair 0 y) + takenTotal (inTwos (drop 1 es))
-  taken-first = rw (padded-pairs es y (ready .few) odd hy, ← (not-forced es (ready .few) odd))
+  -- an odd count: the first pair has x = 0
+  module _ (y : ℕ) (odd : length es % 2 ≡ 1) (hy : y ≡ getD es 0 0) where
+    taken-first : takenTotal (pairsOf es) ≡ taken false (pair 0 y) + takenTotal (inTwos (drop 1 es))
+    taken-first = rw (padded-pairs es y (needs .few) odd hy, ← (not-forced es (needs .few) odd))
 
-  pub first-room : (2 ≤ y) × (y ≤ 15) × (y ≤ 8 * length frame + 1)
-  first-room =
-      let a = ready .wide 0 (omega (arith, ready .few)) in
-      let t = taken-first in
-      let b = ready .bits in
-      (rw hy (a .0), rw hy (a .1), omega arith)
-
-  module _ (p : PairCode) (first : CodesPair firstCoder false (pair 0 y) frame p) where
-    here : 0 < length labels
-    here = omega (arith, ready .few, ready .places)
-
-    pub odd-room : RoomFrom (p .coder) es 1 frame (set labels 0 (p .w))
-    odd-room =
+    pub first-needs : (2 ≤ y) × (y ≤ 15) × (start + y ≤ 8 * length frame + 1) × (length frame ≤ 7680)
+    first-needs =
+        let a = needs .wide 0 (omega (arith, needs .few)) in
         let t = taken-first in
-        record {
-          inside = omega (arith, ready .few);
-          even = omega (arith, ready .few);
-          bits = rw (first .at) (omega (arith, ready .bits));
-          small = ready .small;
-          places = rw (length-set labels 0 (p .w)) (ready .places);
-          within = within-set es labels 0 (p .w) here (λ k h. absurd (omega arith)) (rw (← hy) (first .wSmall));
-        }
+        let b = needs .bits in
+        (rw hy (a .0), rw hy (a .1), omega arith, needs .small)
 
-    pub odd-coded : (after : List ℕ) → CodesFrom (p .coder) es 1 frame (set labels 0 (p .w)) after → CodedWhole es frame after
-    unfolding bits
-    odd-coded after g =
-        let n : bitsOfLabels (take 1 es) (take 1 (set labels 0 (p .w))) ≡ sentBits 0 (codedWord firstCoder false (pair 0 y) frame) =
-        labels-set es labels 0 (p .w) (omega (arith, ready .few)) here ∙ rw (← hy) (first .sends) in
-        record {
-          whole =
-              g .whole
-              ∙ rw (n, padded-pairs es y (ready .few) odd hy, first .state, first .at, encode-step false zeroState (pair 0 y) (inTwos (drop 1 es)) (unpack frame) (not-forced es (ready .few) odd), zero-add (taken false (pair 0 y)));
-          within = g .within;
-        }
+    module _ (p : PairCode) (first : CodesPair (firstCoder start) false (pair 0 y) frame p) where
+      here : 0 < length labels
+      here = omega (arith, needs .few, same)
+
+      pub odd-needs : CodeNeeds (p .coder) es 1 frame (set labels 0 (p .w))
+      odd-needs =
+          let t = taken-first in
+          record {
+            inside = omega (arith, needs .few);
+            even = omega (arith, needs .few);
+            bits = rw (first .at) (omega (arith, needs .bits));
+            small = needs .small;
+            places = rw (length-set labels 0 (p .w)) (omega (arith, same));
+            within = within-set es labels 0 (p .w) here (λ k h. absurd (omega arith)) (rw (← hy) (first .wSmall));
+          }
+
+      pub odd-coded : (after : List ℕ) → CodesFrom (p .coder) es 1 frame (set labels 0 (p .w)) after → CodesFrame frame start es after
+      unfolding bits
+      odd-coded after g =
+          let f : List Bool = drop start (unpack frame) in
+          let n : bitsOfLabels (take 1 es) (take 1 (set labels 0 (p .w))) ≡ sentBits 0 (codedWord (firstCoder start) false (pair 0 y) frame) =
+          labels-set es labels 0 (p .w) (omega (arith, needs .few)) here ∙ rw (← hy) (first .sends) in
+          record {
+            whole =
+                g .whole
+                ∙ rw (n, padded-pairs es y (needs .few) odd hy, first .state, first .at, ← (drop-drop (taken false (pair 0 y)) start (unpack frame)), encode-step false zeroState (pair 0 y) (inTwos (drop 1 es)) f (not-forced es (needs .few) odd));
+            within = g .within;
+          }

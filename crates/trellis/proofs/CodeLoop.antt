@@ -14,7 +14,7 @@ use Rattle.g9932.specs.Order.{Pair, pair, inTwos}
 use Rattle.g9932.specs.Sizes.{unpack}
 use Rattle.g9932.specs.Trellis.{lastTwo, taken, wordOf, sentBits, nextOf, encodePairs}
 use Rattle.g9932.specs.declared.TrellisState.{TrellisState}
-use Rattle.trellis.specs.Coding.{codedWord, PairRoom, CodesPair, Wide, RoomFrom, CodesFrom}
+use Rattle.trellis.specs.Coding.{codedWord, PairNeeds, CodesPair, Wide, CodeNeeds, CodesFrom}
 use Rattle.trellis.specs.declared.Coder.{Coder}
 use Rattle.trellis.specs.declared.PairCode.{PairCode}
 use Rattle.trellis.proofs.Entries.{cut-pair, inTwos-short, forced-is}
@@ -28,19 +28,19 @@ encode-step forced s p ps f h = rw h
 
 pub record Going (c k : Coder) (es frame labels₀ labels : List ℕ) (from i : ℕ) : Type 0 where
   pub kept : length labels ≡ length labels₀
-  pub room : RoomFrom k es i frame labels
+  pub needs : CodeNeeds k es i frame labels
   pub whole :
       bitsOfLabels (take i es) (take i labels) ++ encodePairs (k .state) (inTwos (drop i es)) (drop (k .at) (unpack frame))
       ≡ bitsOfLabels (take from es) (take from labels₀) ++ encodePairs (c .state) (inTwos (drop from es)) (drop (c .at) (unpack frame))
 
-pub going-start : {c : Coder} {es frame labels : List ℕ} {from : ℕ} → RoomFrom c es from frame labels → Going c c es frame labels labels from from
-going-start r = record { kept = refl; room = r; whole = refl }
+pub going-start : {c : Coder} {es frame labels : List ℕ} {from : ℕ} → CodeNeeds c es from frame labels → Going c c es frame labels labels from from
+going-start r = record { kept = refl; needs = r; whole = refl }
 
 pub going-end : {c k : Coder} {es frame labels₀ labels : List ℕ} {from i : ℕ} → Going c k es frame labels₀ labels from i → length es ≤ i + 1
     → CodesFrom c es from frame labels₀ labels
 unfolding encodePairs
 going-end {es = es} {labels = labels} {i = i} g h =
-    let r = g .room in
+    let r = g .needs in
     let e : inTwos (drop i es) ≡ [] = inTwos-short (drop i es) (simp length-drop (omega arith)) in
     let n : i ≡ length es = omega (arith, r .inside, r .even) in
     record {
@@ -63,15 +63,15 @@ module _ (c k : Coder) (es frame labels₀ labels : List ℕ) (from i x y : ℕ)
   is-forced : forced ≡ lastTwo (inTwos (drop (i + 2) es))
   is-forced = hl ∙ forced-is es i (omega arith)
 
-  pub pair-room : PairRoom k forced (pair x y) frame
-  pair-room =
-      let r = g .room in
+  pub pair-needs : PairNeeds k forced (pair x y) frame
+  pair-needs =
+      let r = g .needs in
       let b = rw cut at (r .bits) in
       record { bits = rw is-forced (omega (arith, b)); small = r .small }
 
   pub going-step : (p : PairCode) → CodesPair k forced (pair x y) frame p → Going c (p .coder) es frame labels₀ (set (set labels i (p .v)) (i + 1) (p .w)) from (i + 2)
   going-step p q =
-      let r = g .room in
+      let r = g .needs in
       let f : List Bool = drop (k .at) (unpack frame) in
       let e = rw (cut, encode-step forced (k .state) (pair x y) (inTwos (drop (i + 2) es)) f is-forced) at (g .whole) in
       let j : taken forced (pair x y) ≡ taken (lastTwo (inTwos (drop (i + 2) es))) (pair x y) = ap (λ (b : Bool). taken b (pair x y)) is-forced in
@@ -92,7 +92,7 @@ module _ (c k : Coder) (es frame labels₀ labels : List ℕ) (from i x y : ℕ)
       ∙ ap (λ (l : List Bool). bitsOfLabels (take i es) (take i labels) ++ l) (rw (← hx, ← hy) (q .sends)) in
       record {
         kept = m ∙ g .kept;
-        room =
+        needs =
             record {
               inside = omega arith;
               even = omega (arith, r .even);

@@ -11,15 +11,15 @@ use lib.Seq.{take-at, drop-at}
 use Rattle.frame.proofs.Labels.{labels-drop}
 use Rattle.frame.specs.Labels.{bitsOfLabels}
 use Rattle.frame.specs.Written.{written, count}
-use Rattle.g9932.proofs.Pairs.{takenTotal, read-on, read-stop}
+use Rattle.g9932.proofs.Pairs.{read-on, read-stop}
 use Rattle.g9932.proofs.Words.{length-bits}
 use Rattle.g9932.specs.Bits.{bits}
 use Rattle.g9932.specs.Order.{Pair, pair, inTwos}
-use Rattle.g9932.specs.Trellis.{Word, Reading, frame, breaks, after as after', lastTwo, taken, width, decodedWord, decodedAt, obeysCode, takenBits, nextOf, readPairs}
+use Rattle.g9932.specs.Trellis.{Word, Reading, frame, breaks, after as after', lastTwo, taken, width, decodedWord, decodedAt, obeysCode, takenBits, nextOf, readPairs, takenTotal}
 use Rattle.g9932.specs.declared.Found.{Found}
 use Rattle.g9932.specs.declared.Found.the-variants.{At, Nothing}
 use Rattle.trellis.specs.Coding.{Wide}
-use Rattle.trellis.specs.Reading.{decodedIn, DecodeRoom, ReadsPair, DecodeRoomFrom, readingFrom, ReadsFrom}
+use Rattle.trellis.specs.Reading.{decodedIn, PairNeeds, ReadsPair, ReadNeeds, readingFrom, ReadsFrom}
 use Rattle.trellis.specs.declared.read.Reader.{Reader}
 use Rattle.trellis.specs.declared.read.PairRead.{PairRead}
 use Rattle.trellis.proofs.Entries.{cut-pair, pair-wide, inTwos-short, forced-is}
@@ -43,7 +43,7 @@ found-not z = let q : _≡_ {A = ℕ} 0 1 = cc in omega arith
 
 pub record Decoding (c k : Reader) (es labels out₀ out : List ℕ) (from i : ℕ) : Type 0 where
   pub kept : length out ≡ length out₀
-  pub room : DecodeRoomFrom k es i labels out
+  pub needs : ReadNeeds k es i labels out
   pub pairs : ℕ
   pub numbered : pairs + (from + 1) / 2 ≡ (i + 1) / 2
   pub done : List Bool
@@ -51,11 +51,11 @@ pub record Decoding (c k : Reader) (es labels out₀ out : List ℕ) (from i : �
   pub rest : readingFrom c es from labels ≡ afterPairs pairs done (readingFrom k es i labels)
   pub counted : count (k .writer) + takenTotal (inTwos (drop i es)) ≡ count (c .writer) + takenTotal (inTwos (drop from es))
 
-pub decoding-start : {c : Reader} {es labels out : List ℕ} {from : ℕ} → DecodeRoomFrom c es from labels out → Decoding c c es labels out out from from
+pub decoding-start : {c : Reader} {es labels out : List ℕ} {from : ℕ} → ReadNeeds c es from labels out → Decoding c c es labels out out from from
 decoding-start {c = c} {es = es} {labels = labels} {out = out} {from = from} r =
     record {
       kept = refl;
-      room = r;
+      needs = r;
       pairs = 0;
       numbered = omega arith;
       done = [];
@@ -73,7 +73,7 @@ decoding-end {c = c} {k = k} {es = es} {labels = labels} {from = from} {i = i} g
     record {
       broken = rw r;
       whole = λ _. g .soFar ∙ rw (r, append-nil (g .done));
-      waits = g .room .waits;
+      waits = g .needs .waits;
       counted = λ _. omega (arith, rw e at (g .counted));
     }
 
@@ -85,9 +85,9 @@ module _ (c k : Reader) (es labels out₀ out : List ℕ) (from i x y : ℕ) (fo
   is-forced = hl ∙ forced-is es i (omega arith)
 
   module _ (v w : ℕ) (hv : v ≡ getD labels i 0) (hw : w ≡ getD labels (i + 1) 0) where
-    pub decode-room : DecodeRoom k (pair x y) v w out
-    decode-room =
-        let r = g .room in
+    pub pair-needs : PairNeeds k (pair x y) v w out
+    pair-needs =
+        let r = g .needs in
         let s = rw (cut-pair es i x y more hx hy) at (r .bytes) in
         record {
           vSmall = rw (hv, hx) (r .within i (omega arith));
@@ -102,7 +102,7 @@ module _ (c k : Reader) (es labels out₀ out : List ℕ) (from i x y : ℕ) (fo
 
     cut-labels : bitsOfLabels (drop i es) (drop i labels) ≡ (bits x v ++ bits y w) ++ later
     cut-labels =
-        let p = g .room .places in
+        let p = g .needs .places in
         let z : i + 1 + 1 ≡ i + 2 = omega arith in
         labels-drop es labels i (omega arith) (omega arith)
         ∙ ap (λ (l : List Bool). bits (getD es i 0) (getD labels i 0) ++ l) (labels-drop es labels (i + 1) more (omega arith))
@@ -119,43 +119,43 @@ module _ (c k : Reader) (es labels out₀ out : List ℕ) (from i x y : ℕ) (fo
     after-is = ap (drop (width (pair x y))) cut-labels ∙ drop-at (bits x v ++ bits y w) later (width (pair x y)) sized
 
     module _ (p : PairRead) (after : List ℕ) (reads : ReadsPair k forced (pair x y) v w out p after) where
-      kept-is : p .kept ≡ obeysCode (lastTwo (inTwos (drop (i + 2) es))) (k .state) (decodedIn (pair x y) v w)
-      kept-is = reads .kept ∙ ap (λ (b : Bool). obeysCode b (k .state) (decodedIn (pair x y) v w)) is-forced
+      obeys-is : p .obeys ≡ obeysCode (lastTwo (inTwos (drop (i + 2) es))) (k .state) (decodedIn (pair x y) v w)
+      obeys-is = reads .obeys ∙ ap (λ (b : Bool). obeysCode b (k .state) (decodedIn (pair x y) v w)) is-forced
 
       -- a pair that breaks the code
-      pub decoding-broken : p .kept ≡ false → ReadsFrom c es from labels out₀ (record { broken = At ((i + 1) / 2); writer = k .writer }) after
+      pub decoding-broken : p .obeys ≡ false → ReadsFrom c es from labels out₀ (record { broken = At ((i + 1) / 2); writer = k .writer }) after
       decoding-broken e =
           let s : readPairs (k .state) (pair x y ∷ inTwos (drop (i + 2) es)) (bitsOfLabels (drop i es) (drop i labels)) ≡ breaks 0 =
-          read-stop (pair x y) (inTwos (drop (i + 2) es)) (k .state) (bitsOfLabels (drop i es) (drop i labels)) (rw decoded-is (sym kept-is ∙ e)) in
+          read-stop (pair x y) (inTwos (drop (i + 2) es)) (k .state) (bitsOfLabels (drop i es) (drop i labels)) (rw decoded-is (sym obeys-is ∙ e)) in
           let r : readingFrom c es from labels ≡ breaks (g .pairs + 0) = g .rest ∙ rw (cut-pair es i x y more hx hy, s) in
           record {
             broken = rw r (ap At (let n = g .numbered in let m : (i + 1) / 2 ≡ (from + 1) / 2 + (g .pairs + 0) = omega arith in m));
             whole = λ z. absurd (found-not z);
-            waits = g .room .waits;
+            waits = g .needs .waits;
             counted = λ z. absurd (found-not z);
           }
 
-      -- a pair that keeps it
-      pub decoding-step : p .kept ≡ true → length after ≡ length out → Decoding c (p .reader) es labels out₀ after from (i + 2)
+      -- a pair that obeys it
+      pub decoding-step : p .obeys ≡ true → length after ≡ length out → Decoding c (p .reader) es labels out₀ after from (i + 2)
       decoding-step e same =
           let u : Word = decodedIn (pair x y) v w in
           let ps : List Pair = inTwos (drop (i + 2) es) in
           let f : List Bool = bitsOfLabels (drop i es) (drop i labels) in
           let j : taken forced (pair x y) ≡ taken (lastTwo ps) (pair x y) = ap (λ (b : Bool). taken b (pair x y)) is-forced in
           let q = pair-wide es i x y wide more hx hy in
-          let s = rw (cut-pair es i x y more hx hy) at (g .room .bytes) in
+          let s = rw (cut-pair es i x y more hx hy) at (g .needs .bytes) in
           let t = rw (cut-pair es i x y more hx hy) at (g .counted) in
           let m = reads .puts .counted in
-          let n = length-takes x y v w (q .0) (q .2) (decode-room .vSmall) (decode-room .wSmall) forced in
+          let n = length-takes x y v w (q .0) (q .2) (pair-needs .vSmall) (pair-needs .wSmall) forced in
           let o : readPairs (k .state) (pair x y ∷ ps) f ≡ after' (takenBits (lastTwo ps) x u) (readPairs (nextOf (k .state) u) ps later) =
-          read-on (pair x y) ps (k .state) f u later decoded-is after-is (sym kept-is ∙ e) in
+          read-on (pair x y) ps (k .state) f u later decoded-is after-is (sym obeys-is ∙ e) in
           record {
             kept = same ∙ g .kept;
-            room =
+            needs =
                 record {
                   inside = omega arith;
-                  places = g .room .places;
-                  within = g .room .within;
+                  places = g .needs .places;
+                  within = g .needs .within;
                   bytes = rw same (omega arith);
                   waits = reads .puts .waits;
                 };

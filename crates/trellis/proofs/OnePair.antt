@@ -8,7 +8,6 @@ use native.Mathlib.Omega.{arith}
 use lib.ListN.{length, take, drop, length-drop}
 use lib.Pow.{pow-mono}
 use lib.Seq.{length-take-le}
-use Rattle.frame.specs.Written.{emptyWriter, written, Waits}
 use Rattle.g9932.specs.Bits.{bit, bits, num, odd}
 use Rattle.g9932.specs.Order.{pair}
 use Rattle.g9932.specs.Sizes.{unpack}
@@ -125,28 +124,21 @@ first-coded s y f low sent h hf hl hs =
     }
 
 -- as the code has it
-module _ (l : List ℕ) (y g : ℕ) (h : 2 ≤ y) (room : y ≤ 8 * length l + 1) (hg : g ≡ num (take (y - 1) (drop 0 (unpack l)))) where
+module _ (l : List ℕ) (at y g : ℕ) (h : 2 ≤ y) (room : at + y ≤ 8 * length l + 1) (hg : g ≡ num (take (y - 1) (drop at (unpack l)))) where
   pub got-first : (s : TrellisState) (low : LowBits) (sent : ℕ) → low ≡ lowBits (s .s0) false (odd g) false → sent ≡ labelNumber (low .w0) (low .w1) (g / 2)
-      → FirstCoded s y (take (taken false (pair 0 y)) (drop 0 (unpack l))) sent
+      → FirstCoded s y (take (taken false (pair 0 y)) (drop at (unpack l))) sent
   got-first s low sent hl hs =
       let e : 0 + y - 1 ≡ y - 1 = omega arith in
-      rw e (first-coded s y (take (y - 1) (unpack l)) low sent h (length-part l 0 (y - 1) (omega arith)) (rw hg at hl) (rw hg at hs))
+      rw e (first-coded s y (take (y - 1) (drop at (unpack l))) low sent h (length-part l at (y - 1) (omega arith)) (rw hg at hl) (rw hg at hs))
 
-  pub got-next : (s : TrellisState) → nextState s false (odd g) ≡ nextOf s (wordOf false s 0 (take (taken false (pair 0 y)) (drop 0 (unpack l))))
+  pub got-next : (s : TrellisState) → nextState s false (odd g) ≡ nextOf s (wordOf false s 0 (take (taken false (pair 0 y)) (drop at (unpack l))))
   unfolding wordOf
   got-next s =
       let e : 0 + y - 1 ≡ y - 1 = omega arith in
-      rw (e, hg, bit-num (take (y - 1) (unpack l)) 0, div-one)
+      rw (e, hg, bit-num (take (y - 1) (drop at (unpack l))) 0, div-one)
 
   pub got-low : y ≤ 15 → g / 2 < 536870912
   got-low k =
-      let b : g < 2 ^ (y - 1) = rw hg (num-take-lt (y - 1) (unpack l)) in
+      let b : g < 2 ^ (y - 1) = rw hg (num-take-lt (y - 1) (drop at (unpack l))) in
       let d : 2 ^ (y - 1) ≤ 2 ^ 29 = pow-mono {j = 29} (omega arith) in
       lt-of-le-of-lt (div-le-self g 2) (lt-of-lt-of-le b d)
-
-pub written-empty : (l : List ℕ) → written emptyWriter l ≡ []
-unfolding written unpack bits
-written-empty l = refl
-
-pub empty-waits : Waits emptyWriter
-empty-waits = record { few = omega arith; small = omega arith }

@@ -5,11 +5,10 @@ use mathlib.Core.List.{List, _++_}
 use mathlib.Core.Path.{_≡_}
 use lib.ListN.{length, take, drop, getD}
 use Rattle.frame.specs.Labels.{bitsOfLabels, Within}
-use Rattle.g9932.proofs.Pairs.{takenTotal}
 use Rattle.g9932.specs.Bits.{_⊕_, weight, odd, bits}
 use Rattle.g9932.specs.Order.{inTwos, pairsOf, Pair}
 use Rattle.g9932.specs.Sizes.{unpack}
-use Rattle.g9932.specs.Trellis.{Word, taken, wordOf, sentBits, nextOf, zeroState, encodePairs}
+use Rattle.g9932.specs.Trellis.{Word, taken, wordOf, sentBits, nextOf, zeroState, encodePairs, takenTotal}
 use Rattle.g9932.specs.declared.TrellisState.{TrellisState}
 use Rattle.trellis.specs.declared.Coder.{Coder}
 use Rattle.trellis.specs.declared.Inputs.{Inputs}
@@ -29,7 +28,7 @@ labelNumber b0 b1 high = weight b0 + 2 * weight b1 + 4 * high
 abbrev pub codedWord : Coder → Bool → Pair → List ℕ → Word
 codedWord c forced p frame = wordOf forced (c .state) (p .x) (take (taken forced p) (drop (c .at) (unpack frame)))
 
-pub record PairRoom (c : Coder) (forced : Bool) (p : Pair) (frame : List ℕ) : Type 0 where
+pub record PairNeeds (c : Coder) (forced : Bool) (p : Pair) (frame : List ℕ) : Type 0 where
   pub bits : c .at + taken forced p ≤ 8 * length frame
   pub small : length frame ≤ 7680
 
@@ -41,17 +40,17 @@ pub record CodesPair (c : Coder) (forced : Bool) (p : Pair) (frame : List ℕ) (
   pub vSmall : r .v < 2 ^ p .x
   pub wSmall : r .w < 2 ^ p .y
 
--- the coder at the start
-abbrev pub firstCoder : Coder
-firstCoder = record { state = zeroState; at = 0 }
+-- the coder at the start, the frame's bits beginning at one of its bytes' bits
+abbrev pub firstCoder : ℕ → Coder
+firstCoder start = record { state = zeroState; at = start }
 
--- ---- the pairs from an entry on
+-- ---- the pairs from an entry on; the labels are those of the entries, in their order
 
 -- every entry is 2 to 15
 abbrev pub Wide : List ℕ → Type 0
 Wide es = (k : ℕ) → k < length es → (2 ≤ getD es k 0) × (getD es k 0 ≤ 15)
 
-pub record RoomFrom (c : Coder) (es : List ℕ) (i : ℕ) (frame labels : List ℕ) : Type 0 where
+pub record CodeNeeds (c : Coder) (es : List ℕ) (i : ℕ) (frame labels : List ℕ) : Type 0 where
   pub inside : i ≤ length es
   pub even : (length es - i) % 2 ≡ 0
   pub bits : c .at + takenTotal (inTwos (drop i es)) ≤ 8 * length frame
@@ -65,15 +64,14 @@ pub record CodesFrom (c : Coder) (es : List ℕ) (i : ℕ) (frame labels after :
 
 -- ---- all pairs
 
--- the labels spell the sent bits
-pub record CodedWhole (es frame after : List ℕ) : Type 0 where
-  pub whole : bitsOfLabels es after ≡ encodePairs zeroState (pairsOf es) (unpack frame)
+-- the bits of the labels are the sent bits
+pub record CodesFrame (frame : List ℕ) (start : ℕ) (es after : List ℕ) : Type 0 where
+  pub whole : bitsOfLabels es after ≡ encodePairs zeroState (pairsOf es) (drop start (unpack frame))
   pub within : Within es after (length es)
 
-pub record Ready (es frame labels : List ℕ) : Type 0 where
+pub record FrameNeeds (frame : List ℕ) (start : ℕ) (es : List ℕ) : Type 0 where
   pub wide : Wide es
   pub few : 4 ≤ length es
   pub many : length es ≤ 4096
-  pub bits : takenTotal (pairsOf es) ≤ 8 * length frame
+  pub bits : start + takenTotal (pairsOf es) ≤ 8 * length frame
   pub small : length frame ≤ 7680
-  pub places : length es ≤ length labels

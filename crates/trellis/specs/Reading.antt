@@ -5,12 +5,12 @@ use mathlib.Core.List.{List, [], _++_}
 use mathlib.Core.Path.{_≡_}
 use lib.ListN.{length, drop}
 use Rattle.frame.specs.Labels.{bitsOfLabels, Within}
-use Rattle.frame.specs.Written.{emptyWriter, written, Waits, count, Put, Framed}
-use Rattle.g9932.proofs.Pairs.{takenTotal}
+use Rattle.frame.specs.Written.{written, Waits, count, Put}
+use Rattle.frame.specs.declared.BitWriter.{BitWriter}
 use Rattle.g9932.specs.Answers.{breakIn, frameIn}
 use Rattle.g9932.specs.Bits.{_⊕_, weight, odd, bits}
 use Rattle.g9932.specs.Order.{inTwos, pairsOf, Pair}
-use Rattle.g9932.specs.Trellis.{Word, Reading, decodedWord, obeysCode, takenBits, nextOf, zeroState, readPairs}
+use Rattle.g9932.specs.Trellis.{Word, Reading, decodedWord, obeysCode, takenBits, nextOf, zeroState, readPairs, takenTotal}
 use Rattle.g9932.specs.declared.Found.{Found}
 use Rattle.g9932.specs.declared.Found.the-variants.{At, Nothing}
 use Rattle.trellis.specs.Coding.{labelNumber, Wide}
@@ -44,24 +44,24 @@ takenNumber false u = labelNumber (u .u1) (u .u2) (weight (u .u3) + 2 * u .high)
 abbrev pub decodedIn : Pair → ℕ → ℕ → Word
 decodedIn p v w = decodedWord (p .x) (bits (p .x) v ++ bits (p .y) w)
 
-pub record DecodeRoom (c : Reader) (p : Pair) (v w : ℕ) (frame : List ℕ) : Type 0 where
+pub record PairNeeds (c : Reader) (p : Pair) (v w : ℕ) (frame : List ℕ) : Type 0 where
   pub vSmall : v < 2 ^ p .x
   pub wSmall : w < 2 ^ p .y
   pub bytes : c .writer .next + 8 ≤ length frame
   pub waits : Waits (c .writer)
 
 pub record ReadsPair (c : Reader) (forced : Bool) (p : Pair) (v w : ℕ) (frame : List ℕ) (r : PairRead) (after : List ℕ) : Type 0 where
-  pub kept : r .kept ≡ obeysCode forced (c .state) (decodedIn p v w)
+  pub obeys : r .obeys ≡ obeysCode forced (c .state) (decodedIn p v w)
   pub state : r .reader .state ≡ nextOf (c .state) (decodedIn p v w)
   pub puts : Put (c .writer) frame (takenBits forced (p .x) (decodedIn p v w)) (r .reader .writer) after
 
--- the reader at the start
-abbrev pub firstReader : Reader
-firstReader = record { state = zeroState; writer = emptyWriter }
+-- the reader at the start, behind what a writer has put
+abbrev pub firstReader : BitWriter → Reader
+firstReader w = record { state = zeroState; writer = w }
 
--- ---- the pairs from an entry on
+-- ---- the pairs from an entry on; the labels are those of the entries, in their order
 
-pub record DecodeRoomFrom (c : Reader) (es : List ℕ) (i : ℕ) (labels frame : List ℕ) : Type 0 where
+pub record ReadNeeds (c : Reader) (es : List ℕ) (i : ℕ) (labels frame : List ℕ) : Type 0 where
   pub inside : i ≤ length es
   pub places : length es ≤ length labels
   pub within : Within es labels (length es)
@@ -87,20 +87,16 @@ pub record ReadsFrom (c : Reader) (es : List ℕ) (i : ℕ) (labels frame : List
 abbrev pub readingOfAll : List ℕ → List ℕ → Reading
 readingOfAll es labels = readPairs zeroState (pairsOf es) (bitsOfLabels es labels)
 
-pub record ReadWhole (es labels : List ℕ) (r : PairsRead) (after : List ℕ) : Type 0 where
+pub record ReadsLabels (w : BitWriter) (es labels before : List ℕ) (r : PairsRead) (after : List ℕ) : Type 0 where
   pub broken : r .broken ≡ breakIn (readingOfAll es labels)
-  pub whole : r .broken ≡ Nothing → written (r .writer) after ≡ frameIn (readingOfAll es labels)
+  pub whole : r .broken ≡ Nothing → written (r .writer) after ≡ written w before ++ frameIn (readingOfAll es labels)
   pub waits : Waits (r .writer)
-  pub counted : r .broken ≡ Nothing → count (r .writer) ≡ takenTotal (pairsOf es)
+  pub counted : r .broken ≡ Nothing → count (r .writer) ≡ count w + takenTotal (pairsOf es)
 
-pub record DecodeReady (es labels frame : List ℕ) : Type 0 where
+pub record LabelNeeds (w : BitWriter) (es labels frame : List ℕ) : Type 0 where
   pub wide : Wide es
   pub few : 4 ≤ length es
   pub many : length es ≤ 4096
-  pub places : length es ≤ length labels
   pub within : Within es labels (length es)
-  pub bytes : takenTotal (pairsOf es) + 64 ≤ 8 * length frame
-
-pub record ReadsAll (es labels : List ℕ) (r : Found) (after : List ℕ) : Type 0 where
-  pub broken : r ≡ breakIn (readingOfAll es labels)
-  pub framed : r ≡ Nothing → Framed (frameIn (readingOfAll es labels)) after
+  pub bytes : count w + takenTotal (pairsOf es) + 64 ≤ 8 * length frame
+  pub waits : Waits w

@@ -4,12 +4,15 @@ pub mod read;
 ghost use mathlib.Core.Path.{_≡_};
 ghost use mathlib.Core.Bool.{Bool, true, false};
 ghost use Prim.Native.Nat.{ℕ, _+_, _-_, _*_, _/_, _%_, _^_, _≤_, _<_};
-ghost use lib.ListN.{length, take, drop, getD};
+ghost use lib.ListN.{length, take, drop, getD, set};
+ghost use Rattle.frame.specs.Labels.{labelsAt, Rising, Placed};
 ghost use Rattle.g9932.specs.Bits.{weight as weightOf, bits};
 ghost use Rattle.g9932.specs.Order.{pair, pairsOf};
 ghost use Rattle.g9932.specs.Sizes.{unpack};
 ghost use Rattle.g9932.specs.Trellis.{taken, zeroState, encodePairs};
-ghost use Rattle.trellis.specs.Coding.{inputsOf, labelNumber, PairRoom, CodesPair, RoomFrom, CodesFrom, Wide, Ready, CodedWhole, firstCoder};
+ghost use Rattle.trellis.specs.Coding.{inputsOf, labelNumber, PairNeeds, CodesPair, CodeNeeds, CodesFrom, Wide, FrameNeeds, CodesFrame, firstCoder};
+use frame::by_place::place_at;
+use frame::by_place::put_label;
 use g9932::TrellisState;
 
 // The bits u1 to u3 of a pair's word and, as a number, u4 upward.
@@ -109,7 +112,7 @@ fn zero_state() -> TrellisState
 
 // Codes a pair with x at least 2.
 fn code_pair(c: Coder, frame: &[u8], forced: bool, x: usize, y: usize) -> PairCode
-    requires { ⌜ (2 ≤ x) × (x ≤ 15) × (2 ≤ y) × (y ≤ 15) × PairRoom c forced (pair x y) (now frame) ⌝ }
+    requires { ⌜ (2 ≤ x) × (x ≤ 15) × (2 ≤ y) × (y ≤ 15) × PairNeeds c forced (pair x y) (now frame) ⌝ }
     ensures { λ r. ⌜ CodesPair c forced (pair x y) (now (frame .entry)) r ⌝ }
 {
     let s = c.state;
@@ -137,35 +140,50 @@ fn entry(entries: &[u8], i: usize) -> usize
     entries[i] as usize
 }
 
-// Codes the pairs of the entries from `from` on.
-fn code_from(c: Coder, frame: &[u8], entries: &[u8], from: usize, labels: &mut [u16])
-    requires { ⌜ Wide (now entries) × (length (now entries) ≤ 4096) × RoomFrom c (now entries) from (now frame) (now labels) ⌝ }
-    ensures { λ _. ⌜ CodesFrom c (now (entries .entry)) from (now (frame .entry)) (now (labels .entry)) (now (labels .exit)) ⌝ }
+// Puts the label of an entry at its place.
+fn put_entry(labels: &mut [u16], places: &[u16], i: usize, label: u32)
+    requires { ⌜ (i < length (now places)) × (label < 65536) × Rising (now places) (length (now labels)) ⌝ }
+    ensures { λ _. ⌜ labelsAt (now (places .entry)) (now (labels .exit)) ≡ set (labelsAt (now (places .entry)) (now (labels .entry))) i label ⌝ }
+{
+    put_label(labels, place_at(places, i), label as u16);
+}
+
+// Codes the pairs of the entries from `from` on. The label of an entry goes to its place.
+fn code_from(
+    c: Coder,
+    frame: &[u8],
+    entries: &[u8],
+    places: &[u16],
+    from: usize,
+    labels: &mut [u16],
+)
+    requires { ⌜ Wide (now entries) × (length (now entries) ≤ 4096) × Placed (now entries) (now places) (now labels) × CodeNeeds c (now entries) from (now frame) (labelsAt (now places) (now labels)) ⌝ }
+    ensures { λ _. ⌜ CodesFrom c (now (entries .entry)) from (now (frame .entry)) (labelsAt (now (places .entry)) (now (labels .entry))) (labelsAt (now (places .entry)) (now (labels .exit))) ⌝ }
 {
     let mut k = c;
     let mut i = from;
     while i + 1 < entries.len() {
         let forced = entries.len() - i < 6;
         let p = code_pair(k, frame, forced, entry(entries, i), entry(entries, i + 1));
-        labels[i] = p.v as u16;
-        labels[i + 1] = p.w as u16;
+        put_entry(labels, places, i, p.v);
+        put_entry(labels, places, i + 1, p.w);
         k = p.coder;
         i += 2;
     }
 }
 
 // Codes a first pair with x = 0: its bits are u2 and u4 upward, and v isn't sent.
-fn code_first(frame: &[u8], y: usize) -> PairCode
-    requires { ⌜ (2 ≤ y) × (y ≤ 15) × (y ≤ 8 * length (now frame) + 1) ⌝ }
-    ensures { λ r. ⌜ CodesPair firstCoder false (pair 0 y) (now (frame .entry)) r ⌝ }
+fn code_first(frame: &[u8], start: usize, y: usize) -> PairCode
+    requires { ⌜ (2 ≤ y) × (y ≤ 15) × (start + y ≤ 8 * length (now frame) + 1) × (length (now frame) ≤ 7680) ⌝ }
+    ensures { λ r. ⌜ CodesPair (firstCoder start) false (pair 0 y) (now (frame .entry)) r ⌝ }
 {
-    let f = frame::get(frame, 0, y - 1);
+    let f = frame::get(frame, start, y - 1);
     let t = zero_state().step(false, f % 2 == 1, false);
     let low = t.low;
     let after = t.next;
     let coder = Coder {
         state: after,
-        at: y - 1,
+        at: start + (y - 1),
     };
     PairCode {
         v: 0,
@@ -174,21 +192,28 @@ fn code_first(frame: &[u8], y: usize) -> PairCode
     }
 }
 
-// Codes a frame: the labels of the entries of b', a first pair having x = 0 where their count is odd. Called by proved code only.
-pub fn encode_labels(frame: &[u8], entries: &[u8], labels: &mut [u16])
-    requires { ⌜ Ready (now entries) (now frame) (now labels) ⌝ }
-    ensures { λ _. ⌜ CodedWhole (now (entries .entry)) (now (frame .entry)) (now (labels .exit)) ⌝ }
+// Codes a frame, whose bits begin at bit `start`: the labels of the entries of b', each at its place. A first pair has x = 0 where
+// the count of entries is odd. Called by proved code only.
+pub fn encode_labels(
+    frame: &[u8],
+    start: usize,
+    entries: &[u8],
+    places: &[u16],
+    labels: &mut [u16],
+)
+    requires { ⌜ FrameNeeds (now frame) start (now entries) × Placed (now entries) (now places) (now labels) ⌝ }
+    ensures { λ _. ⌜ CodesFrame (now (frame .entry)) start (now (entries .entry)) (labelsAt (now (places .entry)) (now (labels .exit))) ⌝ }
 {
     if entries.len() % 2 == 1 {
-        let first = code_first(frame, entry(entries, 0));
+        let first = code_first(frame, start, entry(entries, 0));
         let coder = first.coder;
-        labels[0] = first.w as u16;
-        code_from(coder, frame, entries, 1, labels);
+        put_entry(labels, places, 0, first.w);
+        code_from(coder, frame, entries, places, 1, labels);
         return;
     }
-    let start = Coder {
+    let coder = Coder {
         state: zero_state(),
-        at: 0,
+        at: start,
     };
-    code_from(start, frame, entries, 0, labels);
+    code_from(coder, frame, entries, places, 0, labels);
 }

@@ -3,10 +3,11 @@ ghost use mathlib.Core.Path.{_≡_};
 ghost use mathlib.Core.Bool.{true, false};
 ghost use Prim.Native.Nat.{ℕ, _+_, _-_, _*_, _^_, _≤_, _<_};
 ghost use lib.ListN.{length, getD};
+ghost use Rattle.frame.specs.Labels.{labelsAt, Placed, Rising};
 ghost use Rattle.g9932.specs.Order.{pair};
 ghost use Rattle.g9932.specs.Trellis.{obeysCode};
 ghost use Rattle.trellis.specs.Coding.{Wide};
-ghost use Rattle.trellis.specs.Reading.{firstReader, decodedOf, wordBy, takenNumber, DecodeRoom, ReadsPair, DecodeRoomFrom, ReadsFrom, ReadWhole, DecodeReady, ReadsAll};
+ghost use Rattle.trellis.specs.Reading.{firstReader, decodedOf, wordBy, takenNumber, PairNeeds, ReadsPair, ReadNeeds, ReadsFrom, LabelNeeds, ReadsLabels};
 use super::entry;
 use super::label;
 use super::power;
@@ -14,6 +15,8 @@ use super::taken_bits;
 use super::weight;
 use super::zero_state;
 use frame::BitWriter;
+use frame::by_place::label_at;
+use frame::by_place::place_at;
 use g9932::Found;
 use g9932::TrellisState;
 
@@ -44,8 +47,8 @@ fn decode_word(v: u32, w: u32, x: usize) -> DecodedWord
     }
 }
 
-// Whether a pair keeps the code.
-fn keeps(s: TrellisState, forced: bool, u: DecodedWord) -> bool
+// Whether a pair obeys the code.
+fn obeys_code(s: TrellisState, forced: bool, u: DecodedWord) -> bool
     ensures { λ r. ⌜ r ≡ obeysCode forced s (wordBy u) ⌝ }
 {
     if forced {
@@ -72,9 +75,9 @@ pub struct Reader {
     pub writer: BitWriter,
 }
 
-// A pair read: whether it keeps the code, and the reader after it.
+// A pair read: whether it obeys the code, and the reader after it.
 pub struct PairRead {
-    pub kept: bool,
+    pub obeys: bool,
     pub reader: Reader,
 }
 
@@ -88,7 +91,7 @@ fn read_pair(
     w: u32,
     frame: &mut [u8],
 ) -> PairRead
-    requires { ⌜ (2 ≤ x) × (x ≤ 15) × (2 ≤ y) × (y ≤ 15) × DecodeRoom c (pair x y) v w (now frame) ⌝ }
+    requires { ⌜ (2 ≤ x) × (x ≤ 15) × (2 ≤ y) × (y ≤ 15) × PairNeeds c (pair x y) v w (now frame) ⌝ }
     ensures { λ r. ⌜ ReadsPair c forced (pair x y) v w (now (frame .entry)) r (now (frame .exit)) ⌝ }
 {
     let s = c.state;
@@ -101,15 +104,15 @@ fn read_pair(
         writer: writer.put(frame, taken_bits(forced, x, y), taken_of(forced, u)),
     };
     PairRead {
-        kept: keeps(s, forced, u),
+        obeys: obeys_code(s, forced, u),
         reader,
     }
 }
 
 // Reads a first pair with x = 0: it has no label v.
-fn read_first(y: usize, w: u32, frame: &mut [u8]) -> PairRead
-    requires { ⌜ (2 ≤ y) × (y ≤ 15) × (w < 2 ^ y) × (8 ≤ length (now frame)) ⌝ }
-    ensures { λ r. ⌜ ReadsPair firstReader false (pair 0 y) 0 w (now (frame .entry)) r (now (frame .exit)) ⌝ }
+fn read_first(writer: BitWriter, y: usize, w: u32, frame: &mut [u8]) -> PairRead
+    requires { ⌜ (2 ≤ y) × (y ≤ 15) × PairNeeds (firstReader writer) (pair 0 y) 0 w (now frame) ⌝ }
+    ensures { λ r. ⌜ ReadsPair (firstReader writer) false (pair 0 y) 0 w (now (frame .entry)) r (now (frame .exit)) ⌝ }
 {
     let w0 = w % 2 == 1;
     let w1 = w / 2 % 2 == 1;
@@ -117,20 +120,20 @@ fn read_first(y: usize, w: u32, frame: &mut [u8]) -> PairRead
     let next = t.next;
     let reader = Reader {
         state: next,
-        writer: BitWriter::new().put(frame, y - 1, weight(w0) + 2 * (w / 4)),
+        writer: writer.put(frame, y - 1, weight(w0) + 2 * (w / 4)),
     };
     PairRead {
-        kept: !(w0 ^ w1),
+        obeys: !(w0 ^ w1),
         reader,
     }
 }
 
-// A label.
-fn label_at(labels: &[u16], i: usize) -> u32
-    requires { ⌜ i < length (now labels) ⌝ }
-    ensures { λ r. ⌜ r ≡ getD (now (labels .entry)) i 0 ⌝ }
+// The label of an entry, from its place.
+fn entry_label(labels: &[u16], places: &[u16], i: usize) -> u32
+    requires { ⌜ (i < length (now places)) × Rising (now places) (length (now labels)) ⌝ }
+    ensures { λ r. ⌜ r ≡ getD (labelsAt (now (places .entry)) (now (labels .entry))) i 0 ⌝ }
 {
-    labels[i] as u32
+    label_at(labels, place_at(places, i)) as u32
 }
 
 // Pairs read: the first that breaks the code, and the writer after the last.
@@ -140,9 +143,16 @@ pub struct PairsRead {
 }
 
 // Reads the pairs of the entries from `from` on. Entry i is of pair (i + 1) / 2.
-fn read_from(c: Reader, labels: &[u16], entries: &[u8], from: usize, frame: &mut [u8]) -> PairsRead
-    requires { ⌜ Wide (now entries) × (length (now entries) ≤ 4096) × DecodeRoomFrom c (now entries) from (now labels) (now frame) ⌝ }
-    ensures { λ r. ⌜ ReadsFrom c (now (entries .entry)) from (now (labels .entry)) (now (frame .entry)) r (now (frame .exit)) ⌝ }
+fn read_from(
+    c: Reader,
+    labels: &[u16],
+    entries: &[u8],
+    places: &[u16],
+    from: usize,
+    frame: &mut [u8],
+) -> PairsRead
+    requires { ⌜ Wide (now entries) × (length (now entries) ≤ 4096) × Placed (now entries) (now places) (now labels) × ReadNeeds c (now entries) from (labelsAt (now places) (now labels)) (now frame) ⌝ }
+    ensures { λ r. ⌜ ReadsFrom c (now (entries .entry)) from (labelsAt (now (places .entry)) (now (labels .entry))) (now (frame .entry)) r (now (frame .exit)) ⌝ }
 {
     let mut k = c;
     let mut i = from;
@@ -153,13 +163,13 @@ fn read_from(c: Reader, labels: &[u16], entries: &[u8], from: usize, frame: &mut
             forced,
             entry(entries, i),
             entry(entries, i + 1),
-            label_at(labels, i),
-            label_at(labels, i + 1),
+            entry_label(labels, places, i),
+            entry_label(labels, places, i + 1),
             frame,
         );
-        let kept = p.kept;
+        let obeys = p.obeys;
         let old = k.writer;
-        if !kept {
+        if !obeys {
             return PairsRead {
                 broken: Found::At((i + 1) / 2),
                 writer: old,
@@ -175,42 +185,34 @@ fn read_from(c: Reader, labels: &[u16], entries: &[u8], from: usize, frame: &mut
     }
 }
 
-// Reads all pairs: a first one with x = 0 where the count of entries is odd.
-fn read_all(labels: &[u16], entries: &[u8], frame: &mut [u8]) -> PairsRead
-    requires { ⌜ DecodeReady (now entries) (now labels) (now frame) ⌝ }
-    ensures { λ r. ⌜ ReadWhole (now (entries .entry)) (now (labels .entry)) r (now (frame .exit)) ⌝ }
+// Reads the labels of the entries back, each from its place: the first pair that breaks the code, or else the frame's bits put behind
+// those that a writer has put. A first pair has x = 0 where the count of entries is odd. Called by proved code only.
+pub fn read_labels(
+    writer: BitWriter,
+    labels: &[u16],
+    entries: &[u8],
+    places: &[u16],
+    frame: &mut [u8],
+) -> PairsRead
+    requires { ⌜ Placed (now entries) (now places) (now labels) × LabelNeeds writer (now entries) (labelsAt (now places) (now labels)) (now frame) ⌝ }
+    ensures { λ r. ⌜ ReadsLabels writer (now (entries .entry)) (labelsAt (now (places .entry)) (now (labels .entry))) (now (frame .entry)) r (now (frame .exit)) ⌝ }
 {
     if entries.len() % 2 == 1 {
-        let first = read_first(entry(entries, 0), label_at(labels, 0), frame);
-        let kept = first.kept;
+        let first = read_first(writer, entry(entries, 0), entry_label(labels, places, 0), frame);
+        let obeys = first.obeys;
         let reader = first.reader;
-        if !kept {
-            let writer = reader.writer;
+        if !obeys {
+            let after = reader.writer;
             return PairsRead {
                 broken: Found::At(0),
-                writer,
+                writer: after,
             };
         }
-        return read_from(reader, labels, entries, 1, frame);
+        return read_from(reader, labels, entries, places, 1, frame);
     }
-    let start = Reader {
+    let reader = Reader {
         state: zero_state(),
-        writer: BitWriter::new(),
+        writer,
     };
-    read_from(start, labels, entries, 0, frame)
-}
-
-// Reads labels back: the first pair that breaks the code, or else the frame, at the start of a buffer. Called by proved code only.
-pub fn read_labels(labels: &[u16], entries: &[u8], frame: &mut [u8]) -> Found
-    requires { ⌜ DecodeReady (now entries) (now labels) (now frame) ⌝ }
-    ensures { λ r. ⌜ ReadsAll (now (entries .entry)) (now (labels .entry)) r (now (frame .exit)) ⌝ }
-{
-    let all = read_all(labels, entries, frame);
-    let broken = all.broken;
-    let writer = all.writer;
-    if let Found::At(k) = broken {
-        return Found::At(k);
-    }
-    writer.finish(frame);
-    Found::Nothing
+    read_from(reader, labels, entries, places, 0, frame)
 }

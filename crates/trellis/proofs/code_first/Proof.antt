@@ -22,14 +22,17 @@ zero-state-requires c κs = search needs
 step-requires : tie.Need-step-requires
 step-requires c κs = search needs
 
-sub-t8 : tie.Need-sub-t8
-sub-t8 c = search needs
+sub-t9 : tie.Need-sub-t9
+sub-t9 c = search needs
+
+add-t13 : tie.Need-add-t13
+add-t13 c = search needs
 
 label-requires : tie.Need-label-requires
 label-requires c κs =
     let g = c .before .before .before .before in
     let t = g .before .before in
-    got-low (t .args .frame .now) (t .args .y) (g .get .result) (t .pre .0) (t .pre .2) (g .get .ensures) (t .pre .1)
+    got-low (t .args .frame .now) (t .args .start) (t .args .y) (g .get .result) (t .pre .0) (t .pre .2) (g .get .ensures) (t .pre .1)
 
 returns : tie.Need-returns
 unfolding odd bits
@@ -39,10 +42,10 @@ returns c =
     let t = g .before .before in
     let z = p .before .zero-state .ensures in
     let l = p .step .ensures .1 ∙ ap (λ (s : TrellisState). lowBits (s .s0) false (odd (g .get .result)) false) z in
-    let f = got-first (t .args .frame .now) (t .args .y) (g .get .result) (t .pre .0) (t .pre .2) (g .get .ensures) zeroState (p .step .result .low) (c .label .result) l (c .label .ensures) in
+    let f = got-first (t .args .frame .now) (t .args .start) (t .args .y) (g .get .result) (t .pre .0) (t .pre .2) (g .get .ensures) zeroState (p .step .result .low) (c .label .result) l (c .label .ensures) in
     let n = p .step .ensures .0 ∙ ap (λ (s : TrellisState). nextState s false (odd (g .get .result))) z in
     record {
-      state = n ∙ got-next (t .args .frame .now) (t .args .y) (g .get .result) (t .pre .0) (t .pre .2) (g .get .ensures) zeroState;
+      state = n ∙ got-next (t .args .frame .now) (t .args .start) (t .args .y) (g .get .result) (t .pre .0) (t .pre .2) (g .get .ensures) zeroState;
       at = omega arith;
       sends = f .sends;
       vSmall = omega arith;
@@ -52,4 +55,4 @@ returns c =
 pub code-first-spec : {M : Type 1} → statement M
 code-first-spec =
     tie.close
-    (tie.spec sub-get get-requires zero-state-requires step-requires sub-t8 label-requires returns)
+    (tie.spec sub-get get-requires zero-state-requires step-requires sub-t9 add-t13 label-requires returns)

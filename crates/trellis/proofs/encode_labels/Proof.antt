@@ -1,64 +1,78 @@
 -- `trellis::encode_labels` meets its contract: an odd count of entries begins with the pair of a 0 and the first entry, an even one
 -- with the first two.
 use mathlib.Core.Path.{_∙_}
-use lib.Pow.{pow-mono}
-use lib.ListN.{length-set}
-use native.Mathlib.Omega.{arith}
 use native.Mathlib.Nat.{lt-of-lt-of-le}
-use Rattle.trellis.proofs.CodeAll.{even-room, even-coded, first-room, odd-room, odd-coded}
+use native.Mathlib.Omega.{arith}
+use lib.Pow.{pow-mono}
+use Rattle.trellis.proofs.CodeAll.{even-needs, even-coded, first-needs, odd-needs, odd-coded}
+use Rattle.frame.specs.Labels.{Placed, labelsAt}
+use Rattle.frame.proofs.Labels.{placed-length}
 use borrow.Author.Needs.{needs}
 use Rattle.trellis.proofs.encode_labels.Statement.{statement}
 use Rattle.trellis.proofs.encode_labels.Tie as tie
 
 entry-requires : tie.Need-entry-requires
-entry-requires c κs = omega (arith, c .before .before .before .before .pre .few)
+entry-requires c κs = omega (arith, c .before .before .before .before .before .pre .0 .few)
 
 code-first-requires : tie.Need-code-first-requires
 code-first-requires c κs =
-    let a = c .before .before .before .before .before .args in
-    first-room (a .entries .now) (a .frame .now) (a .labels .now) (c .entry .result) (c .before .before .before .before .before .pre) (c .before .if1 .taken) (c .entry .ensures)
+    let s = c .before .before .before .before .before .before in
+    let a = s .args in
+    let y = c .entry in
+    first-needs (a .frame .now) (a .start) (a .entries .now) (labelsAt (a .places .now) (a .labels .now)) (s .pre .0) (placed-length (s .pre .1)) (y .result) (c .before .if1 .taken) (y .ensures)
 
-cast-labels : tie.Need-cast-labels
-cast-labels c =
-    let a = c .before .before .before .before .before .before .before .before .args in
-    let q = first-room (a .entries .now) (a .frame .now) (a .labels .now) (c .before .before .before .entry .result) (c .before .before .before .before .before .before .before .before .pre) (c .before .before .before .before .if1 .taken) (c .before .before .before .entry .ensures) in
-    record { fits = lt-of-lt-of-le (c .before .before .code-first .ensures .wSmall) (pow-mono {j = 16} (omega arith)) }
-
-slice-write-labels : tie.Need-slice-write-labels
-slice-write-labels c = omega (arith, c .before .before .before .before .before .before .before .before .pre .few, c .before .before .before .before .before .before .before .before .pre .places)
+put-entry-requires : tie.Need-put-entry-requires
+put-entry-requires c κs =
+    let s = c .before .before .before .before .before .before .before .before .before in
+    let a = s .args in
+    let y = c .before .before .before .entry in
+    let q = first-needs (a .frame .now) (a .start) (a .entries .now) (labelsAt (a .places .now) (a .labels .now)) (s .pre .0) (placed-length (s .pre .1)) (y .result) (c .before .before .before .before .if1 .taken) (y .ensures) in
+    (omega (arith, s .pre .0 .few, s .pre .1 .same), lt-of-lt-of-le (c .before .before .code-first .ensures .wSmall) (pow-mono {j = 16} (omega arith)), s .pre .1 .rising)
 
 code-from-requires : tie.Need-code-from-requires
 code-from-requires c κs =
-    let t = c .before .before .before .before .before .before .before .before .before in
-    let a = t .args in
-    (t .pre .wide, t .pre .many, odd-room (a .entries .now) (a .frame .now) (a .labels .now) (c .before .before .before .before .entry .result) (t .pre) (c .before .before .before .before .before .if1 .taken) (c .before .before .before .before .entry .ensures) (c .before .before .before .code-first .result) (c .before .before .before .code-first .ensures))
+    let s = c .before .before .before .before .before .before .before .before .before .before .before .before .before in
+    let a = s .args in
+    let y = c .before .before .before .before .before .before .before .entry in
+    let p = c .before .before .before .before .before .before .code-first in
+    let w = c .before .before .before .put-entry in
+    let n = odd-needs (a .frame .now) (a .start) (a .entries .now) (labelsAt (a .places .now) (a .labels .now)) (s .pre .0) (placed-length (s .pre .1)) (y .result) (c .before .before .before .before .before .before .before .before .if1 .taken) (y .ensures) (p .result) (p .ensures) in
+    let placed : Placed (a .entries .now) (a .places .now) (w .last .0) = record { same = s .pre .1 .same; rising = rw (w .kept .0) (s .pre .1 .rising) } in
+    (s .pre .0 .wide, s .pre .0 .many, placed, rw (w .ensures) n)
 
 same-length : tie.Need-same-length
-same-length c = c .before .before .code-from .kept .1 .1 .1 .1 .0 ∙ length-set (c .before .before .before .before .before .before .before .before .before .before .before .before .args .labels .now) 0 (c .before .before .before .before .before .before .code-first .result .w)
+same-length c = c .before .before .code-from .kept .1 .1 .1 .1 .1 .0 ∙ c .before .before .before .before .before .before .put-entry .kept .0
 
 returns : tie.Need-returns
 returns c =
-    let t = c .before .before .before .before .before .before .before .before .before .before .before .before in
-    let a = t .args in
-    odd-coded (a .entries .now) (a .frame .now) (a .labels .now) (c .before .before .before .before .before .before .before .entry .result) (t .pre) (c .before .before .before .before .before .before .before .before .if1 .taken) (c .before .before .before .before .before .before .before .entry .ensures) (c .before .before .before .before .before .before .code-first .result) (c .before .before .before .before .before .before .code-first .ensures) (c .before .before .code-from .last .1 .1 .1 .1 .0) (c .before .before .code-from .ensures)
+    let s = c .before .before .before .before .before .before .before .before .before .before .before .before .before .before .before .before in
+    let a = s .args in
+    let y = c .before .before .before .before .before .before .before .before .before .before .entry in
+    let p = c .before .before .before .before .before .before .before .before .before .code-first in
+    let w = c .before .before .before .before .before .before .put-entry in
+    let f = c .before .before .code-from in
+    odd-coded (a .frame .now) (a .start) (a .entries .now) (labelsAt (a .places .now) (a .labels .now)) (s .pre .0) (placed-length (s .pre .1)) (y .result) (c .before .before .before .before .before .before .before .before .before .before .before .if1 .taken) (y .ensures) (p .result) (p .ensures)
+    (labelsAt (a .places .now) (f .last .1 .1 .1 .1 .1 .0)) (rw (w .ensures) at (f .ensures))
 
 zero-state-requires : tie.Need-zero-state-requires
 zero-state-requires c κs = search needs
 
 code-from-requires-2 : tie.Need-code-from-requires-2
 code-from-requires-2 c κs =
-    let t = c .before .before .before .before .before .before in
-    let a = t .args in
-    (t .pre .wide, t .pre .many, rw (c .before .zero-state .ensures) (even-room (a .entries .now) (a .frame .now) (a .labels .now) (t .pre) (c .before .before .if1 .left)))
+    let s = c .before .before .before .before .before .before .before in
+    let a = s .args in
+    (s .pre .0 .wide, s .pre .0 .many, s .pre .1, rw (c .before .zero-state .ensures) (even-needs (a .frame .now) (a .start) (a .entries .now) (labelsAt (a .places .now) (a .labels .now)) (s .pre .0) (placed-length (s .pre .1)) (c .before .before .if1 .left)))
 
 same-length-2 : tie.Need-same-length-2
-same-length-2 c = c .before .before .code-from2 .kept .1 .1 .1 .1 .0
+same-length-2 c = c .before .before .code-from2 .kept .1 .1 .1 .1 .1 .0
 
 returns-2 : tie.Need-returns-2
 returns-2 c =
-    let t = c .before .before .before .before .before .before .before .before .before in
-    let a = t .args in
-    even-coded (a .entries .now) (a .frame .now) (a .labels .now) (t .pre) (c .before .before .before .before .before .if1 .left) (c .before .before .code-from2 .last .1 .1 .1 .1 .0) (rw (c .before .before .before .before .zero-state .ensures) at (c .before .before .code-from2 .ensures))
+    let s = c .before .before .before .before .before .before .before .before .before .before in
+    let a = s .args in
+    let f = c .before .before .code-from2 in
+    even-coded (a .frame .now) (a .start) (a .entries .now) (labelsAt (a .places .now) (a .labels .now)) (s .pre .0) (placed-length (s .pre .1)) (c .before .before .before .before .before .if1 .left)
+    (labelsAt (a .places .now) (f .last .1 .1 .1 .1 .1 .0)) (rw (c .before .before .before .before .zero-state .ensures) at (f .ensures))
 
 pub encode-labels-spec : {M : Type 1} → statement M
 encode-labels-spec =
@@ -66,8 +80,7 @@ encode-labels-spec =
     (tie.spec
     entry-requires
     code-first-requires
-    cast-labels
-    slice-write-labels
+    put-entry-requires
     code-from-requires
     same-length
     returns

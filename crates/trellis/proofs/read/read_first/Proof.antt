@@ -7,7 +7,6 @@ use native.Mathlib.Nat.{lt-of-lt-of-le}
 use Rattle.g9932.specs.Bits.{odd}
 use Rattle.g9932.specs.Trellis.{nextState}
 use Rattle.g9932.specs.declared.TrellisState.{TrellisState}
-use Rattle.trellis.proofs.OnePair.{empty-waits}
 use Rattle.trellis.proofs.DecodePair.{decoded-first}
 use borrow.Author.Needs.{needs}
 use Rattle.trellis.proofs.read.read_first.Statement.{statement}
@@ -19,9 +18,6 @@ zero-state-requires c κs = search needs
 step-requires : tie.Need-step-requires
 step-requires c κs = search needs
 
-new-requires : tie.Need-new-requires
-new-requires c κs = search needs
-
 sub-put : tie.Need-sub-put
 sub-put c = search needs
 
@@ -29,18 +25,21 @@ weight-requires : tie.Need-weight-requires
 weight-requires c κs = search needs
 
 mul-put : tie.Need-mul-put
-mul-put c = record { fits = omega (arith, lt-of-lt-of-le (c .before .before .before .before .before .before .before .pre .2) (pow-mono {j = 15} (c .before .before .before .before .before .before .before .pre .1))) }
+mul-put c =
+    let t = c .before .before .before .before .before .before in
+    record { fits = omega (arith, lt-of-lt-of-le (t .pre .2 .wSmall) (pow-mono {j = 15} (t .pre .1))) }
 
 add-put : tie.Need-add-put
-add-put c = record { fits = omega (arith, c .weight .ensures .1, lt-of-lt-of-le (c .before .before .before .before .before .before .before .pre .2) (pow-mono {j = 15} (c .before .before .before .before .before .before .before .pre .1))) }
+add-put c =
+    let t = c .before .before .before .before .before .before in
+    record { fits = omega (arith, c .weight .ensures .1, lt-of-lt-of-le (t .pre .2 .wSmall) (pow-mono {j = 15} (t .pre .1))) }
 
 put-requires : tie.Need-put-requires
 unfolding odd
 put-requires c κs =
-    let t = c .before .before .before .before .before .before .before in
-    let p = decoded-first (t .args .y) (t .args .w) (t .pre .0) (t .pre .2) in
-    let n = c .before .before .new .ensures in
-    (omega arith, rw (c .weight .ensures .0) (p .small), rw n (omega (arith, t .pre .3)), rw n empty-waits)
+    let t = c .before .before .before .before .before .before in
+    let p = decoded-first (t .args .y) (t .args .w) (t .pre .0) (t .pre .2 .wSmall) in
+    (omega arith, rw (c .weight .ensures .0) (p .small), t .pre .2 .bytes, t .pre .2 .waits)
 
 same-length : tie.Need-same-length
 same-length c = search needs
@@ -48,12 +47,16 @@ same-length c = search needs
 returns : tie.Need-returns
 unfolding odd
 returns c =
-    let t = c .before .before .before .before .before .before .before .before .before .before in
-    let p = decoded-first (t .args .y) (t .args .w) (t .pre .0) (t .pre .2) in
+    let put = c .before .before in
+    let weight = put .before in
+    let step = weight .before .before .before in
+    let zero = step .before in
+    let t = zero .before .before in
+    let p = decoded-first (t .args .y) (t .args .w) (t .pre .0) (t .pre .2 .wSmall) in
     record {
-      kept = p .kept;
-      state = c .before .before .before .before .before .before .before .step .ensures .0 ∙ ap (λ (s : TrellisState). nextState s false (odd (t .args .w))) (c .before .before .before .before .before .before .before .before .zero-state .ensures) ∙ p .next;
-      puts = rw (c .before .before .before .before .before .new .ensures, c .before .before .before .weight .ensures .0, p .takes) at (c .before .before .put .ensures);
+      obeys = p .kept;
+      state = step .step .ensures .0 ∙ ap (λ (s : TrellisState). nextState s false (odd (t .args .w))) (zero .zero-state .ensures) ∙ p .next;
+      puts = rw (weight .weight .ensures .0, p .takes) at (put .put .ensures);
     }
 
 pub read-first-spec : {M : Type 1} → statement M
@@ -62,7 +65,6 @@ read-first-spec =
     (tie.spec
     zero-state-requires
     step-requires
-    new-requires
     sub-put
     weight-requires
     mul-put

@@ -1,26 +1,28 @@
--- `trellis::read::read_from` meets its contract. The invariant: every pair before entry i keeps the code, and their frame bits,
+-- `trellis::read::read_from` meets its contract. The invariant: every pair before entry i obeys the code, and their frame bits,
 -- before the reading of the pairs left, make the whole reading. The measure is the entries left.
 use mathlib.Core.Path.{refl, _∙_}
 use Prim.Native.Nat.{_-_}
-use native.Mathlib.Omega.{arith}
-use borrow.Author.Tests.{not-true, not-false}
 use lib.ListN.{length}
+use borrow.Author.Tests.{not-true, not-false}
+use native.Mathlib.Omega.{arith}
+use Rattle.trellis.proofs.DecodeLoop.{Decoding, decoding-start, decoding-end, pair-needs, decoding-broken, decoding-step}
 use Rattle.trellis.proofs.Entries.{pair-wide}
-use Rattle.trellis.proofs.DecodeLoop.{Decoding, decoding-start, decoding-end, decode-room, decoding-broken, decoding-step}
+use Rattle.frame.specs.Labels.{labelsAt}
+use borrow.Author.Needs.{needs}
 use Rattle.trellis.proofs.read.read_from.Statement.{statement}
 use Rattle.trellis.proofs.read.read_from.Tie as tie
 
 abbrev Inv-loop : tie.InvT-loop
-Inv-loop labels entries from frame₀ k₀ i₀ frame k i = Decoding k₀ k entries labels frame₀ frame i₀ i
+Inv-loop labels entries places from frame₀ k₀ i₀ frame k i = Decoding k₀ k entries (labelsAt places labels) frame₀ frame i₀ i
 
 abbrev μ-loop : tie.MeasureT-loop
-μ-loop labels entries from frame₀ k₀ i₀ frame k i = length entries - i
+μ-loop labels entries places from frame₀ k₀ i₀ frame k i = length entries - i
 
 loop-holds : tie.Need-loop-holds Inv-loop μ-loop
-loop-holds c = decoding-start (c .before .before .before .pre .2)
+loop-holds c = decoding-start (c .before .before .before .before .pre .3)
 
 add-loop : tie.Need-add-loop Inv-loop μ-loop
-add-loop c = omega (arith, c .loop .inv .room .inside, c .before .before .before .before .pre .1)
+add-loop c = omega (arith, c .loop .inv .needs .inside, c .before .before .before .before .before .pre .1)
 
 sub-forced : tie.Need-sub-forced Inv-loop μ-loop
 sub-forced c = omega arith
@@ -34,35 +36,46 @@ add-entry c = omega arith
 entry-requires-2 : tie.Need-entry-requires-2 Inv-loop μ-loop
 entry-requires-2 c κs = omega arith
 
-label-at-requires : tie.Need-label-at-requires Inv-loop μ-loop
-label-at-requires c κs = omega (arith, c .before .before .before .loop .inv .room .places)
+entry-label-requires : tie.Need-entry-label-requires Inv-loop μ-loop
+entry-label-requires c κs = (omega (arith, c .before .before .before .before .before .before .before .before .pre .2 .same), c .before .before .before .before .before .before .before .before .pre .2 .rising)
 
-add-label-at : tie.Need-add-label-at Inv-loop μ-loop
-add-label-at c = omega arith
+add-entry-label : tie.Need-add-entry-label Inv-loop μ-loop
+add-entry-label c = omega arith
 
-label-at-requires-2 : tie.Need-label-at-requires-2 Inv-loop μ-loop
-label-at-requires-2 c κs = omega (arith, c .before .before .before .before .loop .inv .room .places)
+entry-label-requires-2 : tie.Need-entry-label-requires-2 Inv-loop μ-loop
+entry-label-requires-2 c κs = (omega (arith, c .before .before .before .before .before .before .before .before .before .pre .2 .same), c .before .before .before .before .before .before .before .before .before .pre .2 .rising)
 
 read-pair-requires : tie.Need-read-pair-requires Inv-loop μ-loop
 read-pair-requires c κs =
-    let a = c .before .before .before .before .before .before .before .before .before .before .args in
+    let s = c .before .before .before .before .before .before .before .before .before .before .before in
+    let a = s .args in
     let l = c .before .before .before .before .before .before .loop in
-    let q = pair-wide (a .entries .now) (l .i) (c .before .before .before .before .entry .result) (c .before .before .before .entry2 .result) (c .before .before .before .before .before .before .before .before .before .before .pre .0) (omega arith) (c .before .before .before .before .entry .ensures) (c .before .before .before .entry2 .ensures) in
-    let r = decode-room (a .c) (l .k) (a .entries .now) (a .labels .now) (a .frame .now) (l .frame) (a .from) (l .i) (c .before .before .before .before .entry .result) (c .before .before .before .entry2 .result) _ (c .before .before .before .before .before .before .before .before .before .before .pre .0) (l .inv) (omega arith) (c .before .before .before .before .entry .ensures) (c .before .before .before .entry2 .ensures) refl (c .before .before .label-at .result) (c .before .label-at2 .result) (c .before .before .label-at .ensures) (c .before .label-at2 .ensures) in
+    let x = c .before .before .before .before .entry in
+    let y = c .before .before .before .entry2 in
+    let v = c .before .before .entry-label in
+    let w = c .before .entry-label2 in
+    let q = pair-wide (a .entries .now) (l .i) (x .result) (y .result) (s .pre .0) (omega arith) (x .ensures) (y .ensures) in
+    let r = pair-needs (a .c) (l .k) (a .entries .now) (labelsAt (a .places .now) (a .labels .now)) (a .frame .now) (l .frame) (a .from) (l .i) (x .result) (y .result) _ (s .pre .0) (l .inv) (omega arith) (x .ensures) (y .ensures) refl (v .result) (w .result) (v .ensures) (w .ensures) in
     (q .0, q .1, q .2, q .3, r)
 
-add-t22 : tie.Need-add-t22 Inv-loop μ-loop
-add-t22 c = omega arith
+add-t23 : tie.Need-add-t23 Inv-loop μ-loop
+add-t23 c = omega arith
 
 same-length : tie.Need-same-length Inv-loop μ-loop
 same-length c = c .before .before .before .before .read-pair .kept .1 .1 .1 .1 .1 .1 .0 ∙ c .before .before .before .before .before .before .before .before .before .before .before .loop .inv .kept
 
 returns : tie.Need-returns Inv-loop μ-loop
 returns c =
-    let a = c .before .before .before .before .before .before .before .before .before .before .before .before .before .before .before .args in
+    let s = c .before .before .before .before .before .before .before .before .before .before .before .before .before .before .before .before in
+    let a = s .args in
     let l = c .before .before .before .before .before .before .before .before .before .before .before .loop in
-    decoding-broken (a .c) (l .k) (a .entries .now) (a .labels .now) (a .frame .now) (l .frame) (a .from) (l .i) (c .before .before .before .before .before .before .before .before .before .entry .result) (c .before .before .before .before .before .before .before .before .entry2 .result) _ (c .before .before .before .before .before .before .before .before .before .before .before .before .before .before .before .pre .0) (l .inv) (omega arith) (c .before .before .before .before .before .before .before .before .before .entry .ensures) (c .before .before .before .before .before .before .before .before .entry2 .ensures) refl (c .before .before .before .before .before .before .before .label-at .result) (c .before .before .before .before .before .before .label-at2 .result) (c .before .before .before .before .before .before .before .label-at .ensures) (c .before .before .before .before .before .before .label-at2 .ensures)
-    (c .before .before .before .before .read-pair .result) (c .before .before .before .before .read-pair .last .1 .1 .1 .1 .1 .1 .0) (c .before .before .before .before .read-pair .ensures) (not-true _ (c .if1 .taken))
+    let x = c .before .before .before .before .before .before .before .before .before .entry in
+    let y = c .before .before .before .before .before .before .before .before .entry2 in
+    let v = c .before .before .before .before .before .before .before .entry-label in
+    let w = c .before .before .before .before .before .before .entry-label2 in
+    let p = c .before .before .before .before .read-pair in
+    decoding-broken (a .c) (l .k) (a .entries .now) (labelsAt (a .places .now) (a .labels .now)) (a .frame .now) (l .frame) (a .from) (l .i) (x .result) (y .result) _ (s .pre .0) (l .inv) (omega (arith, c .before .before .before .before .before .before .before .before .before .before .loop-test .taken)) (x .ensures) (y .ensures) refl (v .result) (w .result) (v .ensures) (w .ensures)
+    (p .result) (p .last .1 .1 .1 .1 .1 .1 .0) (p .ensures) (not-true _ (c .if1 .taken))
 
 add-i : tie.Need-add-i Inv-loop μ-loop
 add-i c = omega arith
@@ -72,10 +85,16 @@ loop-less c = omega arith
 
 loop-again : tie.Need-loop-again Inv-loop μ-loop
 loop-again c =
-    let a = c .before .before .before .before .before .before .before .before .before .before .before .before .before .before .before .before .args in
+    let s = c .before .before .before .before .before .before .before .before .before .before .before .before .before .before .before .before .before in
+    let a = s .args in
     let l = c .before .before .before .before .before .before .before .before .before .before .before .before .loop in
-    decoding-step (a .c) (l .k) (a .entries .now) (a .labels .now) (a .frame .now) (l .frame) (a .from) (l .i) (c .before .before .before .before .before .before .before .before .before .before .entry .result) (c .before .before .before .before .before .before .before .before .before .entry2 .result) _ (c .before .before .before .before .before .before .before .before .before .before .before .before .before .before .before .before .pre .0) (l .inv) (omega arith) (c .before .before .before .before .before .before .before .before .before .before .entry .ensures) (c .before .before .before .before .before .before .before .before .before .entry2 .ensures) refl (c .before .before .before .before .before .before .before .before .label-at .result) (c .before .before .before .before .before .before .before .label-at2 .result) (c .before .before .before .before .before .before .before .before .label-at .ensures) (c .before .before .before .before .before .before .before .label-at2 .ensures)
-    (c .before .before .before .before .before .read-pair .result) (c .before .before .before .before .before .read-pair .last .1 .1 .1 .1 .1 .1 .0) (c .before .before .before .before .before .read-pair .ensures) (not-false _ (c .before .if1 .left)) (c .before .before .before .before .before .read-pair .kept .1 .1 .1 .1 .1 .1 .0)
+    let x = c .before .before .before .before .before .before .before .before .before .before .entry in
+    let y = c .before .before .before .before .before .before .before .before .before .entry2 in
+    let v = c .before .before .before .before .before .before .before .before .entry-label in
+    let w = c .before .before .before .before .before .before .before .entry-label2 in
+    let p = c .before .before .before .before .before .read-pair in
+    decoding-step (a .c) (l .k) (a .entries .now) (labelsAt (a .places .now) (a .labels .now)) (a .frame .now) (l .frame) (a .from) (l .i) (x .result) (y .result) _ (s .pre .0) (l .inv) (omega (arith, c .before .before .before .before .before .before .before .before .before .before .before .loop-test .taken)) (x .ensures) (y .ensures) refl (v .result) (w .result) (v .ensures) (w .ensures)
+    (p .result) (p .last .1 .1 .1 .1 .1 .1 .0) (p .ensures) (not-false _ (c .before .if1 .left)) (p .kept .1 .1 .1 .1 .1 .1 .0)
 
 same-length-2 : tie.Need-same-length-2 Inv-loop μ-loop
 same-length-2 c = c .before .before .loop .inv .kept
@@ -95,11 +114,11 @@ read-from-spec =
     entry-requires
     add-entry
     entry-requires-2
-    label-at-requires
-    add-label-at
-    label-at-requires-2
+    entry-label-requires
+    add-entry-label
+    entry-label-requires-2
     read-pair-requires
-    add-t22
+    add-t23
     same-length
     returns
     add-i

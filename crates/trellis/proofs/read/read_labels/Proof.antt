@@ -1,55 +1,99 @@
--- `trellis::read::read_labels` meets its contract: the first pair that breaks the code, or the frame finished.
-use mathlib.Core.Path.{_∙_, sym}
+-- `trellis::read::read_labels` meets its contract: an odd count of entries begins with the pair of a 0 and the first entry, which
+-- may break the code itself; an even one with the first two.
+use mathlib.Core.Path.{_∙_}
+use borrow.Author.Tests.{not-true, not-false}
 use native.Mathlib.Omega.{arith}
-use Rattle.frame.proofs.Stores.{finished}
-use Rattle.trellis.proofs.DecodeAll.{read-room}
-use Rattle.trellis.proofs.DecodeLoop.{found-not}
+use Rattle.trellis.proofs.DecodeAll.{even-needs, even-read, first-needs, first-broken, odd-needs, odd-read}
+use Rattle.frame.specs.Labels.{labelsAt}
+use Rattle.frame.proofs.Labels.{placed-length}
 use borrow.Author.Needs.{needs}
 use Rattle.trellis.proofs.read.read_labels.Statement.{statement}
 use Rattle.trellis.proofs.read.read_labels.Tie as tie
 
-read-all-requires : tie.Need-read-all-requires
-read-all-requires c κs = search needs
+entry-requires : tie.Need-entry-requires
+entry-requires c κs = omega (arith, c .before .before .before .before .before .pre .1 .few)
 
-enum-known-broken : tie.Need-enum-known-broken
-enum-known-broken c = search needs
+entry-label-requires : tie.Need-entry-label-requires
+entry-label-requires c κs = (omega (arith, c .before .before .before .before .before .before .pre .1 .few, c .before .before .before .before .before .before .pre .0 .same), c .before .before .before .before .before .before .pre .0 .rising)
+
+read-first-requires : tie.Need-read-first-requires
+read-first-requires c κs =
+    let s = c .before .before .before .before .before .before .before .before in
+    let a = s .args in
+    let y = c .before .before .entry in
+    let l = c .before .entry-label in
+    first-needs (a .writer) (a .entries .now) (labelsAt (a .places .now) (a .labels .now)) (a .frame .now) (s .pre .1) (placed-length (s .pre .0)) (y .result) (c .before .before .before .if1 .taken) (y .ensures) (l .result) (l .ensures)
 
 same-length : tie.Need-same-length
-same-length c = c .before .before .before .before .before .before .read-all .kept .1 .1 .0
+same-length c = c .before .before .before .before .before .read-first .kept .1 .1 .1 .0
 
 returns : tie.Need-returns
-returns c = record { broken = sym (c .before .broken .given .1) ∙ c .before .before .before .before .before .before .read-all .ensures .broken; framed = λ z. absurd (found-not z) }
+returns c =
+    let s = c .before .before .before .before .before .before .before .before .before .before .before .before .before .before in
+    let a = s .args in
+    let y = c .before .before .before .before .before .before .before .before .entry in
+    let l = c .before .before .before .before .before .before .before .entry-label in
+    let p = c .before .before .before .before .before .read-first in
+    first-broken (a .writer) (a .entries .now) (labelsAt (a .places .now) (a .labels .now)) (a .frame .now) (s .pre .1) (placed-length (s .pre .0)) (y .result) (c .before .before .before .before .before .before .before .before .before .if1 .taken) (y .ensures) (l .result) (l .ensures)
+    (p .result) (p .last .1 .1 .1 .0) (p .ensures) (not-true _ (c .before .if2 .taken))
 
-enum-told : tie.Need-enum-told
-enum-told c = search needs
-
-finish-requires : tie.Need-finish-requires
-finish-requires c κs =
-    let w = c .before .before .before .before .before .before .read-all in
-    (read-room (c .before .before .before .before .before .before .before .before .before .before .before .pre) (w .kept .1 .1 .0) (w .ensures) (c .before .enum-told .given .1), w .ensures .waits)
+read-from-requires : tie.Need-read-from-requires
+read-from-requires c κs =
+    let s = c .before .before .before .before .before .before .before .before .before .before .before .before .before .before in
+    let a = s .args in
+    let y = c .before .before .before .before .before .before .before .before .entry in
+    let l = c .before .before .before .before .before .before .before .entry-label in
+    let p = c .before .before .before .before .before .read-first in
+    let n = odd-needs (a .writer) (a .entries .now) (labelsAt (a .places .now) (a .labels .now)) (a .frame .now) (s .pre .1) (placed-length (s .pre .0)) (y .result) (c .before .before .before .before .before .before .before .before .before .if1 .taken) (y .ensures) (l .result) (l .ensures) (p .result) (p .last .1 .1 .1 .0) (p .ensures) (p .kept .1 .1 .1 .0) in
+    (s .pre .1 .wide, s .pre .1 .many, s .pre .0, n)
 
 same-length-2 : tie.Need-same-length-2
-same-length-2 c = c .before .before .finish .kept .1 .0 ∙ c .before .before .before .before .before .before .before .before .before .read-all .kept .1 .1 .0
+same-length-2 c = c .before .before .read-from .kept .1 .1 .1 .1 .1 .0 ∙ c .before .before .before .before .before .before .before .before .read-first .kept .1 .1 .1 .0
 
 returns-2 : tie.Need-returns-2
 returns-2 c =
-    let w = c .before .before .before .before .before .before .before .before .before .read-all in
-    let none = c .before .before .before .before .enum-told .given .1 in
-    let h = read-room (c .before .before .before .before .before .before .before .before .before .before .before .before .before .before .pre) (w .kept .1 .1 .0) (w .ensures) none in
-    record {
-      broken = sym none ∙ w .ensures .broken;
-      framed = λ _. rw (w .ensures .whole none) at (finished (w .result .writer) (w .last .1 .1 .0) (c .before .before .finish .last .1 .0) (omega arith) (omega (arith, c .before .before .finish .kept .1 .0)) (w .ensures .waits) (c .before .before .finish .ensures));
-    }
+    let s = c .before .before .before .before .before .before .before .before .before .before .before .before .before .before .before .before .before in
+    let a = s .args in
+    let y = c .before .before .before .before .before .before .before .before .before .before .before .entry in
+    let l = c .before .before .before .before .before .before .before .before .before .before .entry-label in
+    let p = c .before .before .before .before .before .before .before .before .read-first in
+    let f = c .before .before .read-from in
+    odd-read (a .writer) (a .entries .now) (labelsAt (a .places .now) (a .labels .now)) (a .frame .now) (s .pre .1) (placed-length (s .pre .0)) (y .result) (c .before .before .before .before .before .before .before .before .before .before .before .before .if1 .taken) (y .ensures) (l .result) (l .ensures)
+    (p .result) (p .last .1 .1 .1 .0) (p .ensures) (not-false _ (c .before .before .before .before .if2 .left)) (f .result) (f .last .1 .1 .1 .1 .1 .0) (f .ensures)
+
+zero-state-requires : tie.Need-zero-state-requires
+zero-state-requires c κs = search needs
+
+read-from-requires-2 : tie.Need-read-from-requires-2
+read-from-requires-2 c κs =
+    let s = c .before .before .before .before .before .before .before in
+    let a = s .args in
+    (s .pre .1 .wide, s .pre .1 .many, s .pre .0, rw (c .before .zero-state .ensures) (even-needs (a .writer) (a .entries .now) (labelsAt (a .places .now) (a .labels .now)) (a .frame .now) (s .pre .1) (placed-length (s .pre .0)) (c .before .before .if1 .left)))
+
+same-length-3 : tie.Need-same-length-3
+same-length-3 c = c .before .before .read-from2 .kept .1 .1 .1 .1 .1 .0
+
+returns-3 : tie.Need-returns-3
+returns-3 c =
+    let s = c .before .before .before .before .before .before .before .before .before .before in
+    let a = s .args in
+    let f = c .before .before .read-from2 in
+    even-read (a .writer) (a .entries .now) (labelsAt (a .places .now) (a .labels .now)) (a .frame .now) (s .pre .1) (placed-length (s .pre .0)) (c .before .before .before .before .before .if1 .left)
+    (f .result) (f .last .1 .1 .1 .1 .1 .0) (rw (c .before .before .before .before .zero-state .ensures) at (f .ensures))
 
 pub read-labels-spec : {M : Type 1} → statement M
 read-labels-spec =
     tie.close
     (tie.spec
-    read-all-requires
-    enum-known-broken
+    entry-requires
+    entry-label-requires
+    read-first-requires
     same-length
     returns
-    enum-told
-    finish-requires
+    read-from-requires
     same-length-2
-    returns-2)
+    returns-2
+    zero-state-requires
+    read-from-requires-2
+    same-length-3
+    returns-3)

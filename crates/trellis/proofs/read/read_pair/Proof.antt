@@ -33,8 +33,8 @@ put-requires c κs =
     let n = c .before .taken-bits .ensures in
     (omega (arith, n .1), rw (n .0, c .taken-of .ensures) (p .small), t .pre .4 .bytes, t .pre .4 .waits)
 
-keeps-requires : tie.Need-keeps-requires
-keeps-requires c κs = search needs
+obeys-code-requires : tie.Need-obeys-code-requires
+obeys-code-requires c κs = search needs
 
 same-length : tie.Need-same-length
 same-length c = search needs
@@ -45,7 +45,7 @@ returns c =
     let a = t .args in
     let p = decoded-pair (a .x) (a .y) (a .v) (a .w) (t .pre .0) (t .pre .2) (t .pre .4 .vSmall) (t .pre .4 .wSmall) (c .before .before .before .before .before .before .before .before .before .decode-word .result) (c .before .before .before .before .before .before .before .before .before .decode-word .ensures) (a .forced) (a .c .state) in
     record {
-      kept = c .keeps .ensures ∙ p .kept;
+      obeys = c .obeys-code .ensures ∙ p .kept;
       state = c .before .before .before .before .before .before .before .before .step .ensures .0 ∙ p .next;
       puts = rw (c .before .before .before .before .before .taken-bits .ensures .0, c .before .before .before .before .taken-of .ensures, p .takes) at (c .before .before .before .put .ensures);
     }
@@ -59,6 +59,6 @@ read-pair-spec =
     taken-bits-requires
     taken-of-requires
     put-requires
-    keeps-requires
+    obeys-code-requires
     same-length
     returns)
