@@ -13,9 +13,9 @@ use Rattle.g9932.specs.Sizes.{Tables, unpack, Point}
 use Rattle.g9932.specs.Refusals.{accepted, refused}
 use Rattle.g9932.specs.Order.{sum, count, bitsOf, entryCount, pairCount}
 use Rattle.g9932.specs.Trellis.{Word, lowBitsOf, sentBits}
-use Rattle.g9932.specs.Points.{pointOf}
+use Rattle.g9932.specs.Points.{pointOf, negated}
 use Rattle.g9932.specs.Filler.{nextRegister, drawn, registerAfter}
-use Rattle.g9932.specs.Symbol.{orderOf, bitsIn, classesOf, pairsIn, sizeOf, sentIn, writePoints, writtenPoints}
+use Rattle.g9932.specs.Symbol.{orderOf, bitsIn, classesOf, pairsIn, sizeOf, sentIn, writePoints, writtenPoints, firstMonitored}
 use Rattle.g9932.specs.Answers.{encodeOf, Read, readOf, toneDone, mapLabel, readPoint}
 use Rattle.g9932.specs.declared.Class.{Class}
 use Rattle.g9932.specs.declared.Class.the-variants.{Data}
@@ -24,7 +24,7 @@ use Rattle.g9932.specs.declared.Mode.the-variants.{Uncoded, Coded}
 use Rattle.g9932.proofs.Figures as Figures
 use Rattle.g9932.proofs.Packed as Packed
 use Rattle.g9932.proofs.Reordering as Reordering
-use Rattle.guarantees.specs.Words.{AcceptedTables, AcceptedFrame, ValidRegister, RightLength, Ready, firstMonitored, nonZero, negated, secondBit, fillerBit, turned}
+use Rattle.guarantees.specs.Words.{AcceptedTables, AcceptedFrame, ValidRegister, RightLength, Ready, nonZero, secondBit, fillerBit, turned}
 use Rattle.guarantees.proofs.HalfTurn as HalfTurn
 use Rattle.guarantees.proofs.Mapping as Mapping
 use Rattle.guarantees.proofs.Operations as Operations

@@ -15,7 +15,7 @@ use Rattle.g9932.specs.Sizes.{Tables, pack, frameBits, Point, points}
 use Rattle.g9932.specs.Refusals.{Verdict, refused}
 use Rattle.g9932.specs.Order.{count, isOne, bitsOf, entries, reorderedTones, reorderedBits}
 use Rattle.g9932.specs.Trellis.{zeroState, encodePairs, frame, readPairs, sentOf, readingOf, takenTotal}
-use Rattle.g9932.specs.Symbol.{classesOf, orderOf, pairsIn, sizeOf, sentIn, writtenPoints, offgridTest, monitorTest, gatherBits, readingIn}
+use Rattle.g9932.specs.Symbol.{classesOf, orderOf, pairsIn, sizeOf, sentIn, writtenPoints, offgridTest, monitorTest, gatherBits, readingIn, isMonitored, firstMonitored}
 use Rattle.g9932.specs.Answers.{reportBy, breakIn, pointsVerdict, Read, readOf}
 use Rattle.g9932.specs.declared.Class.the-variants.{Silent}
 use Rattle.g9932.specs.declared.Found.{Found}
@@ -32,7 +32,7 @@ use Rattle.g9932.proofs.Symbols.{length-gather}
 use Rattle.g9932.proofs.TurnedPairs.{turnedBits, turned-even, turned-odd}
 use Rattle.g9932.proofs.TurnedTones.{turnedLabels, tones-pairs}
 use Rattle.g9932.proofs.Verdicts.{found-here, found-past}
-use Rattle.guarantees.specs.Words.{AcceptedFrame, RightLength, Ready, isMonitored, firstMonitored, nonZero, turned}
+use Rattle.guarantees.specs.Words.{AcceptedFrame, RightLength, Ready, nonZero, turned}
 use Rattle.guarantees.proofs.Operations.{length-classes, Passes, done, reading, reading-done}
 use Rattle.guarantees.proofs.RoundTrip.{length-sentIn, length-written, packed-frame, packed-bits, X-of, Y-of, encoded-xs, encoded-ys, encoded-right}
 use Rattle.guarantees.proofs.Sent.{load-classes, loads-sum, sentOf-read}

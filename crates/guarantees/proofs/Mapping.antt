@@ -13,7 +13,7 @@ use lib.ListN.{length, drop}
 use Rattle.g9932.specs.Bits.{bit, weight, num, odd, bits}
 use Rattle.g9932.specs.Sizes.{Point}
 use Rattle.g9932.specs.Refusals.{bitCountTest, labelTest}
-use Rattle.g9932.specs.Points.{signBit, twosComplement, pointOf, labelOf}
+use Rattle.g9932.specs.Points.{signBit, twosComplement, pointOf, labelOf, negated}
 use Rattle.g9932.specs.Answers.{OneTone, toneRefused, toneDone, mapLabel, labelFound, readPoint}
 use Rattle.g9932.proofs.Constellations.{axesPoint, point-coords, point-turned}
 use Rattle.g9932.proofs.Coordinates.{coords, coords-low}
@@ -22,7 +22,7 @@ use Rattle.g9932.proofs.Labels.{point-label, label-point}
 use Rattle.g9932.proofs.TurnedWord.{turnedWord, length-turned}
 use Rattle.g9932.proofs.TwosComplement.{num-not}
 use Rattle.g9932.proofs.Words.{odd-weight, half-weight, num-bits, bits-num, length-bits, num-lt}
-use Rattle.guarantees.specs.Words.{negated, secondBit}
+use Rattle.guarantees.specs.Words.{secondBit}
 
 -- ---- what an answer of DONE says
 

@@ -14,7 +14,7 @@ use Rattle.g9932.specs.Bits.{bit}
 use Rattle.g9932.specs.Sizes.{Tables, entry, classBy, classOf}
 use Rattle.g9932.specs.Points.{pointOf, samePoint, labelOf}
 use Rattle.g9932.specs.Filler.{drawn, afterDraws, draws, registerAfter}
-use Rattle.g9932.specs.Symbol.{classAt, load, tonePoint, writePoints, inConstellation, isFiller, monitorTest, toneBits, gatherBits}
+use Rattle.g9932.specs.Symbol.{classAt, load, tonePoint, writePoints, inConstellation, isFiller, monitorTest, toneBits, gatherBits, isMonitored}
 use Rattle.g9932.specs.declared.Class.{Class}
 use Rattle.g9932.specs.declared.Class.the-variants.{Data, Monitored, Silent}
 use Rattle.g9932.proofs.Constellations.{samePoint→eq, turnedPoint, point-turned, point-inj}
@@ -22,7 +22,6 @@ use Rattle.g9932.proofs.Labels.{label-point}
 use Rattle.g9932.proofs.Symbols.{loads, OnGrid}
 use Rattle.g9932.proofs.TurnedTones.{turnedLabels}
 use Rattle.g9932.proofs.TurnedWord.{turnedWord, length-turned, not-self}
-use Rattle.guarantees.specs.Words.{isMonitored}
 
 -- data tones carry at least one bit
 abbrev Loaded : Class → Type 0

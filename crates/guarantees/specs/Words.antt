@@ -1,20 +1,17 @@
 -- Document 01, "The words of demand 3".
 use Prim.Native.Nat.{ℕ, _-_, _/_, _<_}
-use mathlib.Core.Bool.{Bool, true, false, not}
+use mathlib.Core.Bool.{Bool, false, not}
 use mathlib.Core.List.{List, map}
 use mathlib.Core.Path.{_≡_}
 use lib.Dec.{ltb}
 use lib.IntN.{ℤ, pos, negsuc, negℤ}
 use lib.ListN.{length, getD}
-use Rattle.g9932.specs.Bits.{bit, odd, first}
-use Rattle.g9932.specs.Sizes.{Tables, bytesFor, Point, point}
+use Rattle.g9932.specs.Bits.{bit, odd}
+use Rattle.g9932.specs.Sizes.{Tables, bytesFor}
 use Rattle.g9932.specs.Refusals.{tableVerdict, frameTest, seedTest}
 use Rattle.g9932.specs.Order.{count}
 use Rattle.g9932.specs.Filler.{resetRegister, drawn}
-use Rattle.g9932.specs.Symbol.{classesOf, bitsIn, sizeOf}
-use Rattle.g9932.specs.declared.Found.{Found}
-use Rattle.g9932.specs.declared.Class.{Class}
-use Rattle.g9932.specs.declared.Class.the-variants.{Data, Monitored, Silent}
+use Rattle.g9932.specs.Symbol.{bitsIn, sizeOf}
 
 -- Tables are accepted in a mode when none of 1 to 9 applies, a frame of bytes when 11 doesn't. A register is valid when 12 doesn't
 -- apply.
@@ -40,25 +37,13 @@ pub record Ready (T : Tables) (r : ℕ) (xs ys : List ℤ) (f : List ℕ) : Type
   pub lists : RightLength T xs ys
   pub frame : length f ≡ bytesFor (sizeOf T)
 
--- the first monitored tone, in t' order
-abbrev pub isMonitored : Class → Bool
-isMonitored (Data b) = false
-isMonitored Monitored = true
-isMonitored Silent = false
-
-abbrev pub firstMonitored : Tables → Found
-firstMonitored T = first (λ k. isMonitored (getD (classesOf T) k Silent)) (length (T .tones))
-
 -- The count of non-zero re-ordered entries is N. The 0 put in front of an odd count isn't in it.
 abbrev pub nonZero : Tables → ℕ
 nonZero T = count (ltb 0) (bitsIn T)
 
--- Half a turn puts (−X, −Y) for (X, Y) at every place in t', whatever the tone's class: on each of the two lists, and on one point.
+-- Half a turn puts (−X, −Y) for (X, Y) at every place in t', whatever the tone's class: on each of the two lists.
 abbrev pub turned : List ℤ → List ℤ
 turned xs = map negℤ xs
-
-abbrev pub negated : Point → Point
-negated p = point (negℤ (p .px)) (negℤ (p .py))
 
 -- bit 1 of a number in two's complement, where −1 − n has every bit of n complemented
 abbrev pub secondBit : ℤ → Bool

@@ -11,7 +11,7 @@ use lib.ListN.{length, getD}
 use Rattle.g9932.specs.Sizes.{Tables, bytesFor}
 use Rattle.g9932.specs.Refusals.{refused, tableVerdict}
 use Rattle.g9932.specs.Filler.{registerAfter}
-use Rattle.g9932.specs.Symbol.{classesOf, pairsIn, sizeOf, writtenPoints}
+use Rattle.g9932.specs.Symbol.{classesOf, pairsIn, sizeOf, writtenPoints, firstMonitored}
 use Rattle.g9932.specs.Answers.{onDone, Report, reportOf, reportBy, encodeVerdict, Encoded, encodeOf, Encodes, Read, readOf, Reads}
 use Rattle.g9932.specs.declared.Answer.{Answer}
 use Rattle.g9932.specs.declared.Answer.the-variants.{Done, Refused as NotDone}
@@ -20,7 +20,7 @@ use Rattle.g9932.specs.declared.Mode.the-variants.{Coded}
 use Rattle.g9932.specs.declared.Refusal.{Refusal}
 use Rattle.g9932.proofs.Packed.{frame-length}
 use Rattle.g9932.proofs.Verdicts.{number-some, test-none, and-none}
-use Rattle.guarantees.specs.Words.{AcceptedFrame, RightLength, Ready, firstMonitored, nonZero, turned}
+use Rattle.guarantees.specs.Words.{AcceptedFrame, RightLength, Ready, nonZero, turned}
 use Rattle.guarantees.proofs.Guarantees as Guarantees
 use Rattle.guarantees.proofs.HalfTurn as HalfTurn
 use Rattle.symbol.proofs.Answers.{no-room}

@@ -20,8 +20,8 @@ ghost use Rattle.g9932.specs.Answers.{verdictOf, Reorders};
 ghost use Rattle.tables.specs.Checks.{modeVerdict};
 ghost use Rattle.tables.specs.Ordered.{OrderedBy, Ordered, Arrays, Room, Medley};
 
-mod lists; // refusals 1 to 6
-mod order; // refusals 7 to 9, t' and b'
+pub mod lists; // refusals 1 to 6
+pub mod order; // refusals 7 to 9, t' and b'
 
 // The sub-carrier at a place of a tone table; 0 past its end.
 pub fn tone_at(tones: &[u16], p: Place) -> Subcarrier

@@ -29,7 +29,7 @@ pub struct Counts {
 
 // The counts over all tones. Only tones have bits, so that they are the counts over the bit table. The sums fit 16 bits, and there
 // is no `if`, so that the compiler takes many entries at a time.
-fn count_tones(bits: &[u8], tones: &[u16]) -> Counts
+pub fn count_tones(bits: &[u8], tones: &[u16]) -> Counts
     requires { ⌜ Medley (now bits) (now tones) ⌝ }
     ensures { λ r. ⌜ CountsAre r (now (bits .entry)) (now (tones .entry)) ⌝ }
 {
@@ -197,7 +197,7 @@ fn holds_any_one(entries: &[u8], from: usize, n: usize) -> bool
 
 // 9 PAIR: the first pair, of the n entries of b' from `from` on, that holds an entry of 1. Where no entry is 1 there is none to
 // look for.
-fn first_pair(entries: &[u8], from: usize, n: usize) -> Found
+pub fn first_pair(entries: &[u8], from: usize, n: usize) -> Found
     requires { ⌜ from + n ≤ length (now entries) ⌝ }
     ensures { λ r. ⌜ r ≡ first (pairTest (pairsOf (take n (drop from (now (entries .entry)))))) (length (pairsOf (take n (drop from (now (entries .entry)))))) ⌝ }
 {

@@ -1,0 +1,139 @@
+-- The plan of a symbol: what its passes need of the tables, by place in t' and by entry of b'.
+use Prim.Native.Nat.{ℕ, zero, suc, _+_, _-_, _*_, _/_, _≤_}
+use mathlib.Core.Bool.{Bool, true, cond}
+use mathlib.Core.List.{List, [], _∷_, _++_, map}
+use mathlib.Core.Path.{_≡_}
+use lib.Dec.{leb}
+use lib.ListN.{length, take, replicate}
+use Rattle.constellation.specs.Layouts.{layoutOf, classLayout}
+use Rattle.g9932.specs.Bits.{weight}
+use Rattle.g9932.specs.Order.{filter, ones}
+use Rattle.g9932.specs.Refusals.{numberOf, placeOf, Verdict, refused, accepted, tableVerdict}
+use Rattle.g9932.specs.Sizes.{Tables, entry, toneOf}
+use Rattle.g9932.specs.Symbol.{load, isMonitored, classesOf}
+use Rattle.g9932.specs.declared.Class.{Class}
+use Rattle.g9932.specs.declared.Class.the-variants.{Data, Monitored, Silent}
+use Rattle.g9932.specs.declared.Mode.{Mode}
+use Rattle.g9932.specs.declared.Mode.the-variants.{Uncoded, Coded}
+use Rattle.plan.specs.declared.Planned.{Planned}
+use Rattle.plan.specs.declared.Planned.the-variants.{Ready, Refused}
+use Rattle.plan.specs.declared.Sizes.{Sizes}
+use Rattle.plan.specs.declared.Filed.{Filed}
+use Rattle.plan.specs.declared.Cursors.{Cursors}
+
+-- ---- the plan of accepted tables
+
+-- the bits from which on a tone has an entry of b' of its own; coded, two tones of 1 bit share one
+abbrev pub leastOwn : Mode → ℕ
+leastOwn Uncoded = 1
+leastOwn Coded = 2
+
+-- how many tones share
+abbrev pub sharing : Mode → List ℕ → List ℕ → ℕ
+sharing Uncoded b t = 0
+sharing Coded b t = ones b t
+
+-- the places, from i on, at which a test holds
+abbrev pub placesWhere : {A : Type 0} → (A → Bool) → ℕ → List A → List ℕ
+placesWhere p i [] = []
+placesWhere p i (a ∷ as) = cond (p a) (i ∷ placesWhere p (suc i) as) (placesWhere p (suc i) as)
+
+-- h places, two apart
+abbrev pub everySecond : ℕ → ℕ → List ℕ
+everySecond p zero = []
+everySecond p (suc h) = p ∷ everySecond (suc (suc p)) h
+
+-- by place in t': its layout
+abbrev pub layoutsIn : Tables → List ℕ
+layoutsIn T = map classLayout (classesOf T)
+
+-- the first of the places that share; they are the last ones of t'
+abbrev pub sharedFrom : Tables → ℕ
+sharedFrom T = length (T .tones) - sharing (T .mode) (T .bits) (T .tones)
+
+-- by entry of b' past its zeros: its bits, and the place of its tone, of two that share it the first
+abbrev pub entriesIn : Tables → List ℕ
+entriesIn T = filter (leb (leastOwn (T .mode))) (map load (classesOf T)) ++ replicate (sharing (T .mode) (T .bits) (T .tones) / 2) 2
+
+abbrev pub placesIn : Tables → List ℕ
+placesIn T = placesWhere (leb (leastOwn (T .mode))) 0 (map load (classesOf T)) ++ everySecond (sharedFrom T) (sharing (T .mode) (T .bits) (T .tones) / 2)
+
+-- the monitored places
+abbrev pub monitoredIn : Tables → List ℕ
+monitoredIn T = placesWhere isMonitored 0 (classesOf T)
+
+-- ---- what planning answers
+
+abbrev pub plannedVerdict : Planned → Verdict
+plannedVerdict (Ready p) = accepted (p .size)
+plannedVerdict (Refused x) = refused (numberOf x) (placeOf x)
+
+pub record PlanIs (T : Tables) (p : Sizes) (layouts entries places monitored : List ℕ) : Type 0 where
+  pub layoutsAre : take (length (T .tones)) layouts ≡ layoutsIn T
+  pub sharedIs : p .shared ≡ sharedFrom T
+  pub entriesAre : take (p .entries) entries ≡ entriesIn T
+  pub placesAre : take (p .entries) places ≡ placesIn T
+  pub monitoredAre : take (p .monitored) monitored ≡ monitoredIn T
+  pub entriesMost : p .entries ≤ length (T .tones)
+  pub monitoredMost : p .monitored ≤ length (T .tones)
+
+abbrev pub Made : Tables → Planned → List ℕ → List ℕ → List ℕ → List ℕ → Type 0
+Made T (Ready p) layouts entries places monitored = PlanIs T p layouts entries places monitored
+Made T (Refused x) layouts entries places monitored = Unit {0}
+
+pub record Plans (T : Tables) (r : Planned) (layouts entries places monitored : List ℕ) : Type 0 where
+  pub answer : plannedVerdict r ≡ tableVerdict T
+  pub made : Made T r layouts entries places monitored
+
+-- ---- filing the tones
+
+-- the four lists, in arrays that hold any
+pub record Arrays (layouts entries places monitored : List ℕ) : Type 0 where
+  pub layoutsLength : length layouts ≡ 4096
+  pub entriesLength : length entries ≡ 4096
+  pub placesLength : length places ≡ 4096
+  pub monitoredLength : length monitored ≡ 4096
+
+-- the classes of a list of tones
+abbrev pub classesBy : List ℕ → List ℕ → List ℕ → List Class
+classesBy b g t = map (λ k. toneOf (entry b k) (entry g k) .class) t
+
+-- whether a tone comes before those that share
+abbrev pub isPlaced : ℕ → Class → Bool
+isPlaced least (Data b) = leb least b
+isPlaced least Monitored = true
+isPlaced least Silent = true
+
+abbrev pub only : {A : Type 0} → (A → Bool) → List A → List A
+only p [] = []
+only p (a ∷ as) = cond (p a) (a ∷ only p as) (only p as)
+
+-- what one tone adds to the lists
+pub record Files (least : ℕ) (c : Class) (f : Filed) : Type 0 where
+  pub layoutIs : f .layout ≡ classLayout c
+  pub bitsIs : f .bits ≡ load c
+  pub placeIs : f .place ≡ weight (isPlaced least c)
+  pub entryIs : f .entry ≡ weight (leb least (load c))
+  pub monitoredIs : f .monitored ≡ weight (isMonitored c)
+
+-- the lists of classes in the order of their places, up to the cursors
+pub record Filing (least : ℕ) (cs : List Class) (at : Cursors) (layouts entries places monitored : List ℕ) : Type 0 where
+  pub placeIs : at .place ≡ length cs
+  pub layoutsAre : take (at .place) layouts ≡ map classLayout cs
+  pub entriesAre : take (at .entry) entries ≡ filter (leb least) (map load cs)
+  pub placesAre : take (at .entry) places ≡ placesWhere (leb least) 0 (map load cs)
+  pub monitoredAre : take (at .monitored) monitored ≡ placesWhere isMonitored 0 cs
+  pub entryMost : at .entry ≤ at .place
+  pub monitoredMost : at .monitored ≤ at .place
+
+pub record FileNeeds (least : ℕ) (b t layouts entries places monitored : List ℕ) : Type 0 where
+  pub arrays : Arrays layouts entries places monitored
+  pub most : length t ≤ 4096
+  pub bitsMost : (k : ℕ) → entry b k ≤ 15
+  pub leastIs : 1 ≤ least
+
+-- the entries that two tones share, behind the others
+pub record Shares (from h : ℕ) (at : ℕ) (layouts entries places layoutsAfter entriesAfter placesAfter : List ℕ) : Type 0 where
+  pub layoutsAre : take (from + 2 * h) layoutsAfter ≡ take from layouts ++ replicate (2 * h) (layoutOf 1)
+  pub entriesAre : take (at + h) entriesAfter ≡ take at entries ++ replicate h 2
+  pub placesAre : take (at + h) placesAfter ≡ take at places ++ everySecond from h
