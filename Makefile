@@ -22,7 +22,7 @@ CXXFLAGS ?= -g -O1
 
 OWN := target/staticlib/libclevisroot.a
 ARCHIVE := $(or $(CLEVISROOT_ARCHIVE),$(OWN))
-SOURCES := crates.txt $(shell find crates -name must-fail -prune -o -type f -print)
+SOURCES := crates.txt $(shell find crates -mindepth 2 -name must-fail -prune -o -print)
 HEADERS := include/clevisroot.h include/clevisroot_names.h
 VERSION := $(shell sed -n 's/.*CLEVISROOT_VERSION_TEXT "\(.*\)"/\1/p' include/clevisroot.h)
 BUILD := target/c

@@ -1,6 +1,6 @@
-//! Links the static library: the archive that CLEVISROOT_ARCHIVE names, or else
-//! target/staticlib/libclevisroot.a at the repository root. `rt staticlib` writes the latter where
-//! it is missing, or older than crates/ and crates.txt.
+//! Links the static library: the archive that CLEVISROOT_ARCHIVE names (a full path, or one from the
+//! repository root), or else target/staticlib/libclevisroot.a there. `rt staticlib` writes the latter
+//! where it is missing, or older than crates/ and crates.txt.
 
 use std::env;
 use std::fs::{self, OpenOptions};
@@ -26,7 +26,7 @@ fn link() -> Result<(), String> {
         println!("cargo:rerun-if-changed={}", root.join(source).display());
     }
     let archive = match env::var_os("CLEVISROOT_ARCHIVE") {
-        Some(path) => given_archive(&root, PathBuf::from(path)),
+        Some(path) => given_archive(&root, root.join(path)),
         None => own_archive(&root)?,
     };
     println!("cargo:rerun-if-changed={}", archive.display());
@@ -95,14 +95,11 @@ fn is_stale(root: &Path, archive: &Path) -> bool {
     newest.flatten() > modified(archive)
 }
 
-/// The time of the newest file in a folder, and in those inside it.
+/// The newest time of a folder and of everything in it; a file that is taken away changes its folder.
 fn newest_below(path: &Path) -> Option<SystemTime> {
-    if path.is_dir() {
-        let inside = entries(path);
-        inside.iter().filter_map(|path| newest_below(path)).max()
-    } else {
-        modified(path)
-    }
+    let inside = entries(path);
+    let newest = inside.iter().map(|path| newest_below(path)).max();
+    newest.flatten().max(modified(path))
 }
 
 fn entries(folder: &Path) -> Vec<PathBuf> {

@@ -33,12 +33,20 @@ impl Repository {
         let repository = Repository(root);
         repository.write("crates.txt", 100);
         repository.write("crates/one/src/lib.rt", 100);
+        repository.write("crates/one/src/more.rt", 100);
+        repository.age("crates/one/src", 100);
         repository
     }
 
     /// A file that was changed this many seconds ago.
     fn write(&self, name: &str, seconds_ago: u64) {
-        let file = fs::File::create(self.0.join(name)).expect("a file can be made");
+        fs::write(self.0.join(name), "").expect("a file can be written");
+        self.age(name, seconds_ago);
+    }
+
+    /// A file or folder that was changed this many seconds ago.
+    fn age(&self, name: &str, seconds_ago: u64) {
+        let file = fs::File::open(self.0.join(name)).expect("it is there");
         let time = SystemTime::now() - Duration::from_secs(seconds_ago);
         file.set_modified(time).expect("its time can be set");
     }
@@ -64,7 +72,7 @@ impl Repository {
             .env("PATH", self.0.join("bin"))
             .env_remove("CLEVISROOT_ARCHIVE");
         if let Some(archive) = given {
-            script.env("CLEVISROOT_ARCHIVE", self.0.join(archive));
+            script.env("CLEVISROOT_ARCHIVE", archive);
         }
         script.output().expect("the build script runs")
     }
@@ -122,6 +130,16 @@ fn an_archive_older_than_a_source_is_built_again() {
         assert!(repository.run(None).status.success());
         assert_eq!(repository.calls_of_rt(), "staticlib clevisroot\n");
     }
+}
+
+#[test]
+fn an_archive_of_a_source_that_was_taken_away_is_built_again() {
+    let repository = Repository::new("taken-away");
+    repository.install_rt();
+    repository.write(OWN, 50);
+    fs::remove_file(repository.0.join("crates/one/src/more.rt")).expect("it can be removed");
+    assert!(repository.run(None).status.success());
+    assert_eq!(repository.calls_of_rt(), "staticlib clevisroot\n");
 }
 
 #[test]
