@@ -6,7 +6,7 @@ use std::env;
 use std::fs::{self, OpenOptions};
 use std::io::{self, Write};
 use std::path::{Path, PathBuf};
-use std::process::{Command, ExitCode, Stdio};
+use std::process::{Command, ExitCode, ExitStatus};
 use std::time::SystemTime;
 
 fn main() -> ExitCode {
@@ -111,18 +111,19 @@ fn modified(path: &Path) -> Option<SystemTime> {
     fs::metadata(path).and_then(|file| file.modified()).ok()
 }
 
-fn write_archive(root: &Path) -> io::Result<std::process::ExitStatus> {
+fn write_archive(root: &Path) -> io::Result<ExitStatus> {
     let mut rt = Command::new("rt");
     rt.args(["staticlib", "clevisroot"]).current_dir(root);
-    if let Some(mut terminal) = terminal() {
-        let _ = writeln!(
-            terminal,
-            "clevisroot: the static library is proved and compiled; some 4 minutes the first time"
-        );
-        rt.stdout(Stdio::from(terminal.try_clone()?));
-        rt.stderr(Stdio::from(terminal));
-    }
-    rt.status()
+    let Some(mut terminal) = terminal() else {
+        return rt.status();
+    };
+    rt.stdout(terminal.try_clone()?);
+    rt.stderr(terminal.try_clone()?);
+    let mut running = rt.spawn()?;
+    let told =
+        "clevisroot: rt proves and compiles the static library; some 4 minutes the first time";
+    let _ = writeln!(terminal, "{told}");
+    running.wait()
 }
 
 /// The terminal, if there is one: cargo keeps what a build script prints, and nobody would see rt's
