@@ -78,9 +78,14 @@ const NO_RT: &str = "the static library, target/staticlib/libclevisroot.a, is no
 Install the Rattle kit (README.md, \"What you need\"), or set CLEVISROOT_ARCHIVE to a \
 libclevisroot.a that was built elsewhere.";
 
+/// Through cargo, and on the terminal too, because `cargo -q` keeps warnings to itself.
 fn warn_stale(archive: &Path, but: &str) {
     let archive = archive.display();
-    println!("cargo:warning=STALE: {archive} is older than its sources in crates/; {but}");
+    let told = format!("STALE: {archive} is older than its sources in crates/; {but}");
+    println!("cargo:warning={told}");
+    if let Some(mut terminal) = terminal() {
+        let _ = writeln!(terminal, "clevisroot: {told}");
+    }
 }
 
 /// Whether a source of the proved crates, or their list, is newer than the archive.
