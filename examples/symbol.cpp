@@ -48,6 +48,15 @@ void read_and_tell(const char *clips, const Points &points, std::size_t bytes)
                     clevisroot_refusal_name(a.number), unsigned(a.place));
 }
 
+Points turned(Points points)
+{
+    for (std::size_t p = 0; p < points.x.size(); p++) {
+        points.x[p] = int16_t(-points.x[p]);
+        points.y[p] = int16_t(-points.y[p]);
+    }
+    return points;
+}
+
 } // namespace
 
 int main()
@@ -72,9 +81,5 @@ int main()
     std::printf("\nregister for the next symbol: %u\n", unsigned(a.reg));
 
     read_and_tell("straight", points, bytes);
-    for (std::size_t p = 0; p < tones.size(); p++) {
-        points.x[p] = int16_t(-points.x[p]);
-        points.y[p] = int16_t(-points.y[p]);
-    }
-    read_and_tell("turned", points, bytes);
+    read_and_tell("turned", turned(points), bytes);
 }

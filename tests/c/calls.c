@@ -91,10 +91,16 @@ static void filler_bits(void)
     }
 }
 
+static void version(void)
+{
+    int major = 0, minor = 0, patch = 0;
+    CHECK(strcmp(clevisroot_version(), CLEVISROOT_VERSION_TEXT) == 0);
+    CHECK(sscanf(clevisroot_version(), "%d.%d.%d", &major, &minor, &patch) == 3);
+    CHECK(CLEVISROOT_VERSION == 10000 * major + 100 * minor + patch);
+}
+
 static void header(void)
 {
-    CHECK(strcmp(clevisroot_version(), CLEVISROOT_VERSION_TEXT) == 0);
-    CHECK(CLEVISROOT_VERSION == 100);
     CHECK(clevisroot_frame_bytes(0) == 0 && clevisroot_frame_bytes(1) == 1);
     CHECK(clevisroot_frame_bytes(8) == 1 && clevisroot_frame_bytes(9) == 2);
     CHECK(clevisroot_frame_bytes(CLEVISROOT_MAX_TONES * 15) == CLEVISROOT_MAX_FRAME);
@@ -112,6 +118,7 @@ int main(void)
     modes();
     one_tone();
     filler_bits();
+    version();
     header();
     return verdict("calls");
 }

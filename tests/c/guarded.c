@@ -100,16 +100,20 @@ static int symbol(uint32_t *random, uint8_t coded, size_t n)
     return 1;
 }
 
-/* Every small number of tones, and the largest ones. */
-static size_t symbols(uint32_t *random)
+/* Some symbols of n tones, coded and uncoded in turn; how many were not refused. */
+static size_t symbols_of(uint32_t *random, size_t n, int rounds)
 {
     size_t seen = 0;
-    for (size_t n = 1; n <= 64; n++)
-        for (int round = 0; round < 40; round++)
-            seen += (size_t)symbol(random, round % 2, n);
-    for (size_t n = CLEVISROOT_MAX_TONES - 8; n <= CLEVISROOT_MAX_TONES; n++)
-        for (int round = 0; round < 4; round++)
-            seen += (size_t)symbol(random, round % 2, n);
+    for (int round = 0; round < rounds; round++)
+        seen += (size_t)symbol(random, round % 2, n);
+    return seen;
+}
+
+static size_t symbols_within(uint32_t *random, size_t first, size_t last, int rounds)
+{
+    size_t seen = 0;
+    for (size_t n = first; n <= last; n++)
+        seen += symbols_of(random, n, rounds);
     return seen;
 }
 
@@ -117,7 +121,9 @@ int main(void)
 {
     uint32_t random = 2463534242u;
     make_pages();
-    for (behind = 0; behind < 2; behind++)
-        CHECK(symbols(&random) > 2000);
+    for (behind = 0; behind < 2; behind++) {
+        CHECK(symbols_within(&random, 1, 64, 40) > 2000);
+        CHECK(symbols_within(&random, CLEVISROOT_MAX_TONES - 8, CLEVISROOT_MAX_TONES, 4) == 36);
+    }
     return verdict("guarded");
 }

@@ -83,20 +83,30 @@ static void measure(const char *name, call *made)
     printf("stack of %-8s %s %6zu bytes\n", name, set.coded ? "coded  " : "uncoded", taken);
 }
 
-int main(void)
+static void load(void)
 {
     for (size_t k = 0; k < TONES; k++) {
         bits[k] = (uint8_t)(k % 16);
         gains[k] = 512;
         tones[k] = (uint16_t)(TONES - 1 - k);
     }
-    for (set.coded = 0; set.coded < 2; set.coded++) {
-        bytes = clevisroot_frame_bytes(clevisroot_check(TABLES(&set)).size);
-        measure("check", check);
-        measure("reorder", reorder);
-        measure("encode", encode);
-        measure("read", read_points);
-        measure("one tone", one_tone);
-    }
+}
+
+static void measure_all(uint8_t coded)
+{
+    set.coded = coded;
+    bytes = clevisroot_frame_bytes(clevisroot_check(TABLES(&set)).size);
+    measure("check", check);
+    measure("reorder", reorder);
+    measure("encode", encode);
+    measure("read", read_points);
+    measure("one tone", one_tone);
+}
+
+int main(void)
+{
+    load();
+    measure_all(0);
+    measure_all(1);
     return verdict("stack");
 }

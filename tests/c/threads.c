@@ -65,22 +65,35 @@ static void *run(void *argument)
 
 static stream alone[2], together[2];
 
+static void run_alone(uint8_t k)
+{
+    alone[k].coded = together[k].coded = k;
+    alone[k].seed = together[k].seed = 12345u + k;
+    run(&alone[k]);
+}
+
+static void run_together(void)
+{
+    pthread_t first, second;
+    CHECK(pthread_create(&first, NULL, run, &together[0]) == 0);
+    CHECK(pthread_create(&second, NULL, run, &together[1]) == 0);
+    CHECK(pthread_join(first, NULL) == 0);
+    CHECK(pthread_join(second, NULL) == 0);
+}
+
+static void compare(int k)
+{
+    CHECK(alone[k].wrong == 0 && together[k].wrong == 0);
+    CHECK(alone[k].digest == together[k].digest);
+}
+
 int main(void)
 {
-    pthread_t threads[2];
-    for (uint8_t k = 0; k < 2; k++) {
-        alone[k].coded = together[k].coded = k;
-        alone[k].seed = together[k].seed = 12345u + k;
-        run(&alone[k]);
-    }
-    for (int k = 0; k < 2; k++)
-        CHECK(pthread_create(&threads[k], NULL, run, &together[k]) == 0);
-    for (int k = 0; k < 2; k++)
-        CHECK(pthread_join(threads[k], NULL) == 0);
-    for (int k = 0; k < 2; k++) {
-        CHECK(alone[k].wrong == 0 && together[k].wrong == 0);
-        CHECK(alone[k].digest == together[k].digest);
-    }
+    run_alone(0);
+    run_alone(1);
+    run_together();
+    compare(0);
+    compare(1);
     CHECK(alone[0].digest != alone[1].digest);
     return verdict("threads");
 }
