@@ -126,7 +126,7 @@ fn write_archive(root: &Path) -> io::Result<ExitStatus> {
     rt.stderr(terminal.try_clone()?);
     let mut running = rt.spawn()?;
     let told =
-        "clevisroot: rt proves and compiles the static library; some 4 minutes the first time";
+        "clevisroot: rt proves and compiles the static library; 4 to 5 minutes the first time";
     let _ = writeln!(terminal, "{told}");
     running.wait()
 }
