@@ -28,7 +28,7 @@ VERSION := $(shell sed -n 's/.*CLEVISROOT_VERSION_TEXT "\(.*\)"/\1/p' include/cl
 BUILD := target/c
 TESTS := calls refusals null guarded threads
 
-.PHONY: all install uninstall check
+.PHONY: all install uninstall programs check
 all: $(ARCHIVE)
 
 $(OWN): $(SOURCES)
@@ -59,9 +59,11 @@ uninstall:
 
 # ---- testing; the archive itself is not instrumented, see tests/c/guarded.c
 
-check: $(TESTS:%=$(BUILD)/%) $(BUILD)/stack $(BUILD)/symbol-c $(BUILD)/symbol-cpp
+programs: $(TESTS:%=$(BUILD)/%) $(BUILD)/stack $(BUILD)/symbol-c $(BUILD)/symbol-cpp
+
+check: programs
 	@for test in $(TESTS) stack; do $(BUILD)/$$test || exit 1; done
-	@for example in symbol-c symbol-cpp; do $(BUILD)/$$example | diff - examples/symbol.txt || exit 1; done
+	@for example in symbol-c symbol-cpp; do $(BUILD)/$$example | diff - tests/c/symbol.stdout || exit 1; done
 
 $(BUILD)/%: tests/c/%.c tests/c/test.h $(HEADERS) $(ARCHIVE)
 	@mkdir -p $(@D)
