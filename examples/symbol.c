@@ -4,7 +4,7 @@
  *   gcc -Wall -Wextra -Werror -std=c11 -Iinclude examples/symbol.c \
  *       target/staticlib/libclevisroot.a -o symbol
  */
-#include "clevisroot.h"
+#include "clevisroot_names.h"
 #include <stdio.h>
 
 #define G 8
@@ -23,17 +23,19 @@ static void read_and_tell(const char *clips, const int16_t *x, const int16_t *y,
     if (a.number == CLEVISROOT_DONE)
         printf("%s: read frame %u\n", clips, (unsigned)frame[0]);
     else
-        printf("%s: refused %u at place %u\n", clips, (unsigned)a.number, (unsigned)a.place);
+        printf("%s: refused %u %s at place %u\n", clips, (unsigned)a.number,
+               clevisroot_refusal_name(a.number), (unsigned)a.place);
 }
 
 int main(void)
 {
     clevisroot_answer a = clevisroot_check(TABLES);
     if (a.number != CLEVISROOT_DONE) {
-        printf("tables refused %u at place %u\n", (unsigned)a.number, (unsigned)a.place);
+        printf("tables refused %u %s at place %u\n", (unsigned)a.number,
+               clevisroot_refusal_name(a.number), (unsigned)a.place);
         return 1;
     }
-    size_t bytes = (a.size + 7) / 8; /* L is 5, so one byte */
+    size_t bytes = clevisroot_frame_bytes(a.size); /* L is 5, so one byte */
     printf("L is %u\n", (unsigned)a.size);
 
     const uint8_t frame[1] = {21};

@@ -1,12 +1,21 @@
 /*
  * Clevisroot: the symbol core of a VDSL2 tester (G.993.2 clause 10.3).
  *
+ * Machines: x86-64 only, as ELF objects with the System V calling convention, because that is all
+ * that today's compiler emits. For an Arm board there is no archive to link: run the core on an
+ * x86-64 host beside it, or write your own from docs/RULES.md and hold it to this one.
+ *
  * It checks bit, gain and tone tables, re-orders them, turns a frame of bits into one integer
  * point per tone, and turns points back into the frame: with trellis coding or without.
  *
- * Link with libclevisroot.a. The library uses some 46 KiB of stack at most, no heap and no global
- * state; it is re-entrant. It keeps no pointer after a call. A pointer must not be null, even if
- * its length is 0, and an output must not overlap any other argument. All lengths count entries.
+ * Link with libclevisroot.a (pkg-config: clevisroot). The archive needs memcpy and memset and no
+ * other symbol, at most CLEVISROOT_STACK bytes of stack, no heap and no global state. It is
+ * re-entrant: any number of threads may call it at the same time. It keeps no pointer after a call.
+ * A pointer may be null where its length is 0. An output must not overlap any other argument. All
+ * lengths count entries.
+ *
+ * The functions that are declared below are proved. Those that are written out in this header and in
+ * clevisroot_names.h are plain C, so that the archive holds proved functions only.
  *
  * THE TABLES
  *
@@ -24,8 +33,8 @@
  * FRAMES AND POINTS
  *
  * A frame has L bits, packed: bit k is in byte k / 8, at weight 1 << (k % 8). It has exactly
- * (L + 7) / 8 bytes, at most 7680, and its unused high bits are 0. L follows from the tables;
- * clevisroot_check tells it.
+ * (L + 7) / 8 bytes (clevisroot_frame_bytes), at most CLEVISROOT_MAX_FRAME, and its unused high bits
+ * are 0. L follows from the tables; clevisroot_check tells it.
  *
  * The points of a symbol are two lists, x and y, of NSC entries each. They are in the order of the
  * re-ordered tone table t', which clevisroot_reorder writes: x[p] and y[p] belong to tone t'[p].
@@ -85,6 +94,25 @@
 extern "C" {
 #endif
 
+#define CLEVISROOT_VERSION_MAJOR 0
+#define CLEVISROOT_VERSION_MINOR 1
+#define CLEVISROOT_VERSION_PATCH 0
+#define CLEVISROOT_VERSION_TEXT "0.1.0"
+
+/* The version as one number that grows, for #if: 1.2.3 is 10203. */
+#define CLEVISROOT_VERSION \
+    (CLEVISROOT_VERSION_MAJOR * 10000 + CLEVISROOT_VERSION_MINOR * 100 + CLEVISROOT_VERSION_PATCH)
+
+/* The largest G, and so the most tones and points of a symbol. */
+#define CLEVISROOT_MAX_TONES 4096
+
+/* The most bytes of a frame: 4096 tones of 15 bits, uncoded. */
+#define CLEVISROOT_MAX_FRAME 7680
+
+/* The most bytes of stack that a call takes, its own frame and those below. Measured, not proved. */
+#define CLEVISROOT_STACK 49152
+
+/* The numbers of the answers; clevisroot_names.h has their names for logs. */
 enum {
     CLEVISROOT_DONE = 0,
     CLEVISROOT_SIZE = 1,
@@ -131,6 +159,18 @@ typedef struct {
     uint32_t bit; /* 0 or 1; 0 on refusal */
     uint32_t reg; /* the register after the draw; as given on refusal */
 } clevisroot_drawn;
+
+/* The version of this header as text. */
+static inline const char *clevisroot_version(void)
+{
+    return CLEVISROOT_VERSION_TEXT;
+}
+
+/* The bytes of a frame of L bits; L is an answer's size. */
+static inline size_t clevisroot_frame_bytes(uint32_t size)
+{
+    return ((size_t)size + 7) / 8;
+}
 
 /* Checks the tables and tells L. Refusals 1 to 9. */
 clevisroot_answer clevisroot_check(

@@ -1,9 +1,9 @@
 //! One call made of both sides, and the answers held against each other.
 
+use crate::coverage::{Coverage, Operation};
 use crate::lent::Lent;
 use crate::random::Random;
 use crate::tables::GivenTables;
-use crate::tally::{Operation, Tally};
 use crate::under_test::Core;
 use clevisroot_sys::{Answer, Drawn, Label, Point};
 use std::fmt::Debug;
@@ -14,7 +14,7 @@ pub type Mismatch = String;
 /// Compares calls to one implementation and counts the numbers that came.
 pub struct Comparison<'a> {
     pub core: &'a dyn Core,
-    pub tally: Tally,
+    pub tally: Coverage,
 }
 
 impl Comparison<'_> {

@@ -4,6 +4,7 @@
 //! the whole of every lent buffer, on success and on refusal.
 
 pub mod compare;
+pub mod coverage;
 pub mod exhaustive;
 pub mod inputs;
 pub mod lent;
@@ -11,5 +12,9 @@ pub mod points;
 pub mod random;
 pub mod run;
 pub mod tables;
-pub mod tally;
 pub mod under_test;
+
+/// The older name of [`coverage`], which bench/ still uses.
+pub mod tally {
+    pub use crate::coverage::Coverage as Tally;
+}

@@ -2,9 +2,9 @@
 //! if a number that an operation can give never came.
 
 use difftest::compare::Comparison;
+use difftest::coverage::Coverage;
 use difftest::exhaustive::one_tone;
 use difftest::run::random_cases;
-use difftest::tally::Tally;
 use difftest::under_test::Library;
 use std::process::ExitCode;
 use std::time::Instant;
@@ -40,7 +40,7 @@ fn run(cases: u64, seed: u64) -> Result<(), String> {
     let start = Instant::now();
     let mut comparison = Comparison {
         core: &Library,
-        tally: Tally::default(),
+        tally: Coverage::default(),
     };
     one_tone(&mut comparison, 15).map_err(|told| format!("MISMATCH, exhaustive: {told}"))?;
     random_cases(&mut comparison, cases, seed)

@@ -2,6 +2,14 @@
 //! one does; the names here are its names without the prefix.
 
 mod raw;
+pub mod refusals;
+
+/// The register at reset.
+pub const RESET: u32 = 8_388_607;
+
+/// The longest tables, in sub-carriers, and the longest frame, in bytes.
+pub const MAX_TONES: usize = 4096;
+pub const MAX_FRAME: usize = 7680;
 
 /// Number and place of the refusal (0 and 0 if done), frame size L, register.
 #[repr(C)]

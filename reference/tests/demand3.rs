@@ -1,5 +1,6 @@
 //! The words of demand 3 on small random tables, over every frame and every list of grid points.
 
+use clevisroot_sys::refusals::{DONE, MONITOR, OFFGRID, TRELLIS};
 use reference::filler::RESET;
 use reference::forms::{frame_of_bits, Class};
 use reference::points::{bits_of_number, constellation, Point};
@@ -117,7 +118,7 @@ fn distinct_frames_give_distinct_points_and_are_read_exactly() {
         assert_eq!(written.len(), 1 << l);
         for points in grid_lists(&tables) {
             let answer = read_all(&tables, &points, register);
-            assert_eq!(answer.number == 0, written.contains_key(&points));
+            assert_eq!(answer.number == DONE, written.contains_key(&points));
             assert_eq!(answer.contents.as_ref(), written.get(&points));
         }
     }
@@ -132,7 +133,7 @@ fn a_point_off_the_grid_is_never_read() {
                 let mut changed = points.clone();
                 changed[p] = wrong;
                 let answer = read_all(&tables, &changed, register);
-                assert_eq!((answer.number, answer.place), (13, p as u32));
+                assert_eq!((answer.number, answer.place), (OFFGRID, p as u32));
             }
         }
     }
@@ -148,9 +149,9 @@ fn half_a_turn_is_told_unless_none_is_monitored_and_n_is_even() {
             let (frame, points) = write(tables, value, *register);
             let answer = read_all(tables, &half_turn(&points), *register);
             let number = match (monitored, n % 2) {
-                (true, _) => 14,
-                (false, 1) => 15,
-                _ => 0,
+                (true, _) => MONITOR,
+                (false, 1) => TRELLIS,
+                _ => DONE,
             };
             assert_eq!(answer.number, number);
             assert_ne!(answer.contents, Some(frame));

@@ -1,5 +1,6 @@
 //! Every bench figure of document 01, marked (*) and unmarked.
 
+use clevisroot_sys::refusals::{DONE, FEW, FRAME, ODD};
 use reference::figures::{equal_tones, table_a, table_a_silent};
 use reference::filler::RESET;
 use reference::points::Point;
@@ -58,13 +59,13 @@ fn silent_table_a_draws_nothing() {
 
 #[test]
 fn table_a_frame_32_is_refused() {
-    assert_eq!(write(&table_a(), 32).number, 11);
+    assert_eq!(write(&table_a(), 32).number, FRAME);
 }
 
 #[test]
 fn five_two_bit_tones() {
     let five = equal_tones(5, 2, Mode::Coded);
-    assert_eq!(size(&five), (0, 3));
+    assert_eq!(size(&five), (DONE, 3));
     assert_eq!(
         points(&five, 1),
         [(-1, -1), (-1, 1), (-1, 1), (-1, 1), (-1, 1)]
@@ -73,10 +74,10 @@ fn five_two_bit_tones() {
 
 #[test]
 fn few_and_odd() {
-    assert_eq!(size(&equal_tones(3, 2, Mode::Coded)), (8, 0));
-    assert_eq!(size(&equal_tones(4, 2, Mode::Coded)), (0, 2));
-    assert_eq!(size(&equal_tones(1, 1, Mode::Coded)), (7, 0));
-    assert_eq!(size(&equal_tones(1, 1, Mode::Uncoded)), (0, 1));
+    assert_eq!(size(&equal_tones(3, 2, Mode::Coded)), (FEW, 0));
+    assert_eq!(size(&equal_tones(4, 2, Mode::Coded)), (DONE, 2));
+    assert_eq!(size(&equal_tones(1, 1, Mode::Coded)), (ODD, 0));
+    assert_eq!(size(&equal_tones(1, 1, Mode::Uncoded)), (DONE, 1));
 }
 
 #[test]
@@ -93,6 +94,6 @@ fn single_labels() {
 
 #[test]
 fn largest_frames() {
-    assert_eq!(size(&equal_tones(4096, 15, Mode::Coded)), (0, 59_388));
-    assert_eq!(size(&equal_tones(4096, 15, Mode::Uncoded)), (0, 61_440));
+    assert_eq!(size(&equal_tones(4096, 15, Mode::Coded)), (DONE, 59_388));
+    assert_eq!(size(&equal_tones(4096, 15, Mode::Uncoded)), (DONE, 61_440));
 }

@@ -1,5 +1,6 @@
 //! Every refusal number with its place, and the order in which they are tested.
 
+use clevisroot_sys::refusals::*;
 use reference::figures::{equal_tones, table_a};
 use reference::filler::RESET;
 use reference::points::Point;
@@ -32,71 +33,84 @@ fn read_changed(change: impl Fn(&mut Vec<Point>)) -> (u32, u32) {
 }
 
 #[test]
+fn names_are_the_library_s() {
+    for &(number, name) in ALL {
+        assert_eq!(reference::refusals::name(number), name);
+    }
+}
+
+#[test]
 fn size_1() {
-    assert_eq!(changed(|a| a.gains.push(0)), (1, 0));
-    assert_eq!(changed(|a| a.gains.truncate(7)), (1, 0));
-    assert_eq!(changed(|a| a.tones.clear()), (1, 0));
-    assert_eq!(changed(|a| a.tones = (0..9).collect()), (1, 0));
-    assert_eq!(changed(|a| (a.bits, a.gains) = (vec![], vec![])), (1, 0));
-    assert_eq!(check(&equal_tones(4097, 0, Mode::Uncoded)).number, 1);
-    assert_eq!(check(&equal_tones(4096, 0, Mode::Uncoded)).number, 0);
+    assert_eq!(changed(|a| a.gains.push(0)), (SIZE, 0));
+    assert_eq!(changed(|a| a.gains.truncate(7)), (SIZE, 0));
+    assert_eq!(changed(|a| a.tones.clear()), (SIZE, 0));
+    assert_eq!(changed(|a| a.tones = (0..9).collect()), (SIZE, 0));
+    assert_eq!(changed(|a| (a.bits, a.gains) = (vec![], vec![])), (SIZE, 0));
+    assert_eq!(check(&equal_tones(4097, 0, Mode::Uncoded)).number, SIZE);
+    assert_eq!(check(&equal_tones(4096, 0, Mode::Uncoded)).number, DONE);
 }
 
 #[test]
 fn tone_2() {
-    assert_eq!(changed(|a| (a.tones[1], a.tones[4]) = (8, 65_535)), (2, 1));
+    assert_eq!(
+        changed(|a| (a.tones[1], a.tones[4]) = (8, 65_535)),
+        (TONE, 1)
+    );
 }
 
 #[test]
 fn twice_3() {
-    assert_eq!(changed(|a| a.tones[5] = 5), (3, 5));
-    assert_eq!(changed(|a| (a.tones[3], a.tones[5]) = (7, 3)), (3, 3));
+    assert_eq!(changed(|a| a.tones[5] = 5), (TWICE, 5));
+    assert_eq!(changed(|a| (a.tones[3], a.tones[5]) = (7, 3)), (TWICE, 3));
 }
 
 #[test]
 fn bits_4() {
-    assert_eq!(changed(|a| (a.bits[1], a.bits[7]) = (16, 255)), (4, 1));
-    assert_eq!(changed(|a| a.bits[2] = 16), (4, 2));
+    assert_eq!(changed(|a| (a.bits[1], a.bits[7]) = (16, 255)), (BITS, 1));
+    assert_eq!(changed(|a| a.bits[2] = 16), (BITS, 2));
 }
 
 #[test]
 fn stray_5() {
-    assert_eq!(changed(|a| a.gains[1] = 1), (5, 1));
-    assert_eq!(changed(|a| (a.bits[0], a.bits[1]) = (1, 1)), (5, 0));
+    assert_eq!(changed(|a| a.gains[1] = 1), (STRAY, 1));
+    assert_eq!(changed(|a| (a.bits[0], a.bits[1]) = (1, 1)), (STRAY, 0));
 }
 
 #[test]
 fn gain_6() {
-    assert_eq!(changed(|a| (a.gains[3], a.gains[6]) = (0, 4096)), (6, 3));
-    assert_eq!(changed(|a| (a.gains[3], a.gains[6]) = (4096, 0)), (6, 3));
+    assert_eq!(changed(|a| (a.gains[3], a.gains[6]) = (0, 4096)), (GAIN, 3));
+    assert_eq!(changed(|a| (a.gains[3], a.gains[6]) = (4096, 0)), (GAIN, 3));
     let mut tables = table_a();
     tables.gains[3] = 4095;
-    assert_eq!(check(&tables).number, 0);
+    assert_eq!(check(&tables).number, DONE);
 }
 
 #[test]
 fn odd_7_and_few_8() {
-    assert_eq!(changed(|a| a.bits[3] = 2), (7, 0));
-    assert_eq!(changed(|a| (a.bits[3], a.bits[6]) = (0, 0)), (8, 0));
+    assert_eq!(changed(|a| a.bits[3] = 2), (ODD, 0));
+    assert_eq!(changed(|a| (a.bits[3], a.bits[6]) = (0, 0)), (FEW, 0));
 }
 
 #[test]
 fn room_10() {
     let a = table_a();
-    assert_eq!(reorder(&a, 5, 6).number, 10);
-    assert_eq!(reorder(&a, 6, 7).number, 10);
-    assert_eq!(encode(&a, &[32], 0, 7, 6).number, 10);
-    assert_eq!(encode(&a, &[32], 0, 6, 0).number, 10);
-    assert_eq!(read(&a, &[0; 6], &[0; 5], 0, 1).number, 10);
-    assert_eq!(read(&a, &[0; 7], &[0; 6], 0, 1).number, 10);
-    assert_eq!(read(&a, &[0; 6], &[0; 6], 0, 2).number, 10);
+    assert_eq!(reorder(&a, 5, 6).number, ROOM);
+    assert_eq!(reorder(&a, 6, 7).number, ROOM);
+    assert_eq!(encode(&a, &[32], 0, 7, 6).number, ROOM);
+    assert_eq!(encode(&a, &[32], 0, 6, 0).number, ROOM);
+    assert_eq!(read(&a, &[0; 6], &[0; 5], 0, 1).number, ROOM);
+    assert_eq!(read(&a, &[0; 7], &[0; 6], 0, 1).number, ROOM);
+    assert_eq!(read(&a, &[0; 6], &[0; 6], 0, 2).number, ROOM);
 }
 
 #[test]
 fn frame_11() {
     for frame in [&[][..], &[32], &[0, 0]] {
         let answer = encode(&table_a(), frame, 0, 6, 6);
-        assert_eq!((answer.number, answer.place, answer.register), (11, 0, 0));
+        assert_eq!(
+            (answer.number, answer.place, answer.register),
+            (FRAME, 0, 0)
+        );
     }
 }
 
@@ -106,46 +120,49 @@ fn seed_12() {
         let encoded = encode(&table_a(), &[0], register, 6, 6);
         assert_eq!(
             (encoded.number, encoded.place, encoded.register),
-            (12, 0, register)
+            (SEED, 0, register)
         );
         let read = read(&table_a(), &[0; 6], &[0; 6], register, 1);
-        assert_eq!((read.number, read.place, read.register), (12, 0, register));
+        assert_eq!(
+            (read.number, read.place, read.register),
+            (SEED, 0, register)
+        );
         let drawn = draw(register);
         assert_eq!(
             (drawn.number, drawn.register, drawn.contents),
-            (12, register, None)
+            (SEED, register, None)
         );
     }
 }
 
 #[test]
 fn offgrid_13_before_monitor_14_before_trellis_15() {
-    assert_eq!(read_changed(|points| points[1] = (3, 1)), (13, 1));
-    assert_eq!(read_changed(|points| points[3] = (1, 1)), (14, 3));
-    assert_eq!(read_changed(|points| points[0] = (1, -1)), (15, 0));
-    assert_eq!(read_changed(|points| points[5] = (-1, -1)), (15, 1));
+    assert_eq!(read_changed(|points| points[1] = (3, 1)), (OFFGRID, 1));
+    assert_eq!(read_changed(|points| points[3] = (1, 1)), (MONITOR, 3));
+    assert_eq!(read_changed(|points| points[0] = (1, -1)), (TRELLIS, 0));
+    assert_eq!(read_changed(|points| points[5] = (-1, -1)), (TRELLIS, 1));
     assert_eq!(
         read_changed(|points| (points[0], points[3]) = ((1, -1), (1, 1))),
-        (14, 3)
+        (MONITOR, 3)
     );
     let all = |points: &mut Vec<Point>| {
         (points[0], points[3], points[5]) = ((1, -1), (1, 1), (1, -1));
     };
-    assert_eq!(read_changed(all), (13, 5));
+    assert_eq!(read_changed(all), (OFFGRID, 5));
 }
 
 #[test]
 fn monitored_has_two_bits_and_silent_one_point() {
-    assert_eq!(read_changed(|points| points[3] = (0, 0)), (13, 3));
-    assert_eq!(read_changed(|points| points[3] = (3, 1)), (13, 3));
+    assert_eq!(read_changed(|points| points[3] = (0, 0)), (OFFGRID, 3));
+    assert_eq!(read_changed(|points| points[3] = (3, 1)), (OFFGRID, 3));
     let silent = Tables {
         mode: Mode::Uncoded,
         bits: vec![0],
         gains: vec![0],
         tones: vec![0],
     };
-    assert_eq!(read(&silent, &[0], &[0], 1, 0).number, 0);
-    assert_eq!(read(&silent, &[0], &[1], 1, 0).number, 13);
+    assert_eq!(read(&silent, &[0], &[0], 1, 0).number, DONE);
+    assert_eq!(read(&silent, &[0], &[1], 1, 0).number, OFFGRID);
 }
 
 #[test]
@@ -161,15 +178,15 @@ fn label_16_then_offgrid_13() {
         let answer = map_label(bits, label);
         assert_eq!(
             (answer.number, answer.place, answer.contents),
-            (16, 0, None)
+            (LABEL, 0, None)
         );
     }
-    assert_eq!(read_point(0, 1, 1).number, 16);
-    assert_eq!(read_point(16, 0, 0).number, 16);
+    assert_eq!(read_point(0, 1, 1).number, LABEL);
+    assert_eq!(read_point(16, 0, 0).number, LABEL);
     let offgrid = read_point(2, 3, 1);
     assert_eq!(
         (offgrid.number, offgrid.place, offgrid.contents),
-        (13, 0, None)
+        (OFFGRID, 0, None)
     );
 }
 
@@ -181,17 +198,17 @@ fn the_smallest_number_is_given() {
     tables.gains[1] = 5000;
     tables.tones[2] = 3;
     tables.tones[4] = 8;
-    assert_eq!(told(&tables), (2, 4));
+    assert_eq!(told(&tables), (TONE, 4));
     tables.tones[4] = 6;
-    assert_eq!(told(&tables), (3, 2));
+    assert_eq!(told(&tables), (TWICE, 2));
     tables.tones[2] = 5;
-    assert_eq!(told(&tables), (4, 0));
+    assert_eq!(told(&tables), (BITS, 0));
     tables.bits[0] = 0;
-    assert_eq!(told(&tables), (5, 1));
+    assert_eq!(told(&tables), (STRAY, 1));
     tables.gains[1] = 0;
     tables.gains[7] = 4096;
     tables.bits[3] = 2;
-    assert_eq!(told(&tables), (6, 7));
+    assert_eq!(told(&tables), (GAIN, 7));
     tables.gains[7] = 512;
-    assert_eq!(told(&tables), (7, 0));
+    assert_eq!(told(&tables), (ODD, 0));
 }

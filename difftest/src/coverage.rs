@@ -1,6 +1,6 @@
-//! How often each number came, for each operation.
+//! Which numbers came from which operation, and whether all that must come did.
 
-use reference::refusals::name;
+use clevisroot_sys::refusals::*;
 use std::fmt;
 
 #[derive(Clone, Copy, Debug, PartialEq, Eq)]
@@ -32,26 +32,26 @@ impl Operation {
         }
     }
 
-    /// The numbers that must turn up. Document 01 has 9 too, but nothing reaches it.
+    /// The numbers that must turn up. Document 01 has 9 PAIR too, but nothing reaches it.
     fn numbers(self) -> Vec<u32> {
         match self {
-            Check => (0..=8).collect(),
-            Reorder => (0..=8).chain([10]).collect(),
-            Encode => (0..=8).chain(10..=12).collect(),
-            Read => (0..=8).chain([10]).chain(12..=15).collect(),
-            MapLabel => vec![0, 16],
-            ReadPoint => vec![0, 13, 16],
-            Draw => vec![0, 12],
+            Check => (DONE..=FEW).collect(),
+            Reorder => (DONE..=FEW).chain([ROOM]).collect(),
+            Encode => (DONE..=FEW).chain(ROOM..=SEED).collect(),
+            Read => (DONE..=FEW).chain([ROOM]).chain(SEED..=TRELLIS).collect(),
+            MapLabel => vec![DONE, LABEL],
+            ReadPoint => vec![DONE, OFFGRID, LABEL],
+            Draw => vec![DONE, SEED],
         }
     }
 }
 
 #[derive(Default)]
-pub struct Tally {
-    counts: [[u64; 17]; 7],
+pub struct Coverage {
+    counts: [[u64; ALL.len()]; OPERATIONS.len()],
 }
 
-impl Tally {
+impl Coverage {
     pub fn record(&mut self, operation: Operation, number: u32) {
         self.counts[operation as usize][number as usize] += 1;
     }
@@ -63,10 +63,10 @@ impl Tally {
     /// Every number an operation can give turned up, and no other.
     pub fn verdict(&self) -> Result<(), String> {
         for operation in OPERATIONS {
-            for number in 0..=16 {
+            for &(number, name) in ALL {
                 let came = self.counts[operation as usize][number as usize] > 0;
                 let can = operation.numbers().contains(&number);
-                let told = format!("{number} {} came from {}", name(number), operation.name());
+                let told = format!("{number} {name} came from {}", operation.name());
                 if came && !can {
                     return Err(told);
                 }
@@ -79,14 +79,14 @@ impl Tally {
     }
 }
 
-impl fmt::Display for Tally {
+impl fmt::Display for Coverage {
     fn fmt(&self, f: &mut fmt::Formatter) -> fmt::Result {
         write!(f, "{:<11}", "")?;
         for operation in OPERATIONS {
             write!(f, "{:>11}", operation.name())?;
         }
-        for number in 0..=16 {
-            write!(f, "\n{number:>2} {:<8}", name(number))?;
+        for &(number, name) in ALL {
+            write!(f, "\n{number:>2} {name:<8}")?;
             for operation in OPERATIONS {
                 let count = self.counts[operation as usize][number as usize];
                 if count > 0 || operation.numbers().contains(&number) {

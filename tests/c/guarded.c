@@ -1,0 +1,129 @@
+/*
+ * Symbols there and back with every lent buffer against a page that nobody may touch: first with the
+ * page behind its end, then before its start. A load or store outside a buffer ends the program, also
+ * in the archive, which the sanitizers do not see into.
+ */
+#define _DEFAULT_SOURCE
+#include "test.h"
+#include <stdlib.h>
+#include <sys/mman.h>
+#include <unistd.h>
+
+/* A buffer's own pages, between two that are closed. */
+typedef struct {
+    uint8_t *start;
+    size_t bytes;
+} pages;
+
+static pages new_pages(size_t bytes)
+{
+    size_t page = (size_t)sysconf(_SC_PAGESIZE);
+    size_t inside = (bytes + page - 1) / page * page;
+    uint8_t *all = (uint8_t *)mmap(NULL, inside + 2 * page, PROT_NONE,
+                                   MAP_PRIVATE | MAP_ANONYMOUS, -1, 0);
+    if (all == MAP_FAILED || mprotect(all + page, inside, PROT_READ | PROT_WRITE) != 0) {
+        perror("guarded");
+        exit(1);
+    }
+    pages made = {all + page, inside};
+    return made;
+}
+
+static int behind; /* whether the closed page is the one behind the end */
+
+static void *lend(pages of, size_t bytes)
+{
+    return behind ? of.start + of.bytes - bytes : of.start;
+}
+
+static pages p_bits, p_gains, p_tones, p_frame, p_back, p_x, p_y, p_tones_out, p_bits_out;
+
+static void make_pages(void)
+{
+    size_t most = CLEVISROOT_MAX_TONES;
+    p_bits = new_pages(most);
+    p_gains = new_pages(2 * most);
+    p_tones = new_pages(2 * most);
+    p_frame = new_pages(CLEVISROOT_MAX_FRAME);
+    p_back = new_pages(CLEVISROOT_MAX_FRAME);
+    p_x = new_pages(2 * most);
+    p_y = new_pages(2 * most);
+    p_tones_out = new_pages(2 * most);
+    p_bits_out = new_pages(most);
+}
+
+/* All carriers in t, backwards, with bits 0 to 15 below a bound; an even count of 1-bit tones. */
+static table_set random_set(uint32_t *random, uint8_t coded, size_t n)
+{
+    uint8_t *bits = (uint8_t *)lend(p_bits, n);
+    uint16_t *gains = (uint16_t *)lend(p_gains, 2 * n);
+    uint16_t *tones = (uint16_t *)lend(p_tones, 2 * n);
+    uint32_t bound = 2 + next_random(random) % 15;
+    size_t ones = 0, last_one = 0;
+    for (size_t k = 0; k < n; k++) {
+        bits[k] = (uint8_t)(next_random(random) % bound);
+        gains[k] = bits[k] || next_random(random) % 2 ? 512 : 0;
+        tones[k] = (uint16_t)(n - 1 - k);
+        if (bits[k] == 1) {
+            ones++;
+            last_one = k;
+        }
+    }
+    if (ones % 2 == 1)
+        bits[last_one] = 2;
+    table_set set = {coded, bits, n, gains, n, tones, n};
+    return set;
+}
+
+/* One symbol there and back; false if the tables are refused, as too few. */
+static int symbol(uint32_t *random, uint8_t coded, size_t n)
+{
+    table_set set = random_set(random, coded, n);
+    clevisroot_answer checked = clevisroot_check(TABLES(&set));
+    CHECK(checked.number == CLEVISROOT_DONE || checked.number == CLEVISROOT_FEW);
+    if (checked.number != CLEVISROOT_DONE)
+        return 0;
+    size_t bytes = clevisroot_frame_bytes(checked.size);
+    uint8_t *frame = (uint8_t *)lend(p_frame, bytes), *back = (uint8_t *)lend(p_back, bytes);
+    int16_t *x = (int16_t *)lend(p_x, 2 * n), *y = (int16_t *)lend(p_y, 2 * n);
+    uint32_t reg = 1 + next_random(random) % CLEVISROOT_RESET;
+    random_frame(random, frame, checked.size);
+    memset(back, 0xff, bytes);
+    clevisroot_answer written = clevisroot_encode(TABLES(&set), frame, bytes, reg, x, n, y, n);
+    clevisroot_answer read = clevisroot_read(TABLES(&set), x, n, y, n, reg, back, bytes);
+    CHECK(written.number == CLEVISROOT_DONE && read.number == CLEVISROOT_DONE);
+    CHECK(written.reg == read.reg && memcmp(frame, back, bytes) == 0);
+    clevisroot_answer ordered =
+        clevisroot_reorder(TABLES(&set), (uint16_t *)lend(p_tones_out, 2 * n), n,
+                           (uint8_t *)lend(p_bits_out, n), n);
+    CHECK(ordered.number == CLEVISROOT_DONE && ordered.size == checked.size);
+    return 1;
+}
+
+/* Some symbols of n tones, coded and uncoded in turn; how many were not refused. */
+static size_t symbols_of(uint32_t *random, size_t n, int rounds)
+{
+    size_t seen = 0;
+    for (int round = 0; round < rounds; round++)
+        seen += (size_t)symbol(random, round % 2, n);
+    return seen;
+}
+
+static size_t symbols_within(uint32_t *random, size_t first, size_t last, int rounds)
+{
+    size_t seen = 0;
+    for (size_t n = first; n <= last; n++)
+        seen += symbols_of(random, n, rounds);
+    return seen;
+}
+
+int main(void)
+{
+    uint32_t random = 2463534242u;
+    make_pages();
+    for (behind = 0; behind < 2; behind++) {
+        CHECK(symbols_within(&random, 1, 64, 40) > 2000);
+        CHECK(symbols_within(&random, CLEVISROOT_MAX_TONES - 8, CLEVISROOT_MAX_TONES, 4) == 36);
+    }
+    return verdict("guarded");
+}

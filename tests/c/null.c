@@ -1,0 +1,106 @@
+/* A null pointer where its length is 0, at every pointer of every call, coded and uncoded. */
+#include "test.h"
+
+/* Which pointers of a call are null: a bit for each table, and for the first and second of two buffers. */
+enum { BITS = 1, GAINS = 2, TONES = 4, TABLES_NULL = 7, FIRST = 8, SECOND = 16, WAYS = 32 };
+
+static table_set tables_with(uint8_t coded, unsigned nulls)
+{
+    table_set set = table_a();
+    set.coded = coded;
+    if (nulls & BITS) {
+        set.bits = NULL;
+        set.bits_len = 0;
+    }
+    if (nulls & GAINS) {
+        set.gains = NULL;
+        set.gains_len = 0;
+    }
+    if (nulls & TONES) {
+        set.tones = NULL;
+        set.tones_len = 0;
+    }
+    return set;
+}
+
+/* SIZE where a table is null, else ROOM where a buffer is, else what the call gives without nulls. */
+static uint32_t expected(unsigned nulls, uint32_t otherwise)
+{
+    if (nulls & TABLES_NULL)
+        return CLEVISROOT_SIZE;
+    return nulls ? CLEVISROOT_ROOM : otherwise;
+}
+
+static size_t room(unsigned null)
+{
+    return null ? 0 : A_TONES;
+}
+
+static void check_and_reorder(const table_set *set, unsigned nulls)
+{
+    uint16_t tones[A_TONES];
+    uint8_t bits[A_TONES];
+    unsigned first = nulls & FIRST, second = nulls & SECOND;
+    CHECK(clevisroot_check(TABLES(set)).number == expected(nulls & TABLES_NULL, CLEVISROOT_DONE));
+    clevisroot_answer a = clevisroot_reorder(TABLES(set), first ? NULL : tones, room(first),
+                                             second ? NULL : bits, room(second));
+    CHECK(a.number == expected(nulls, CLEVISROOT_DONE));
+}
+
+static void encode(const table_set *set, unsigned nulls)
+{
+    static const uint8_t frame[2];
+    int16_t x[A_TONES], y[A_TONES];
+    unsigned first = nulls & FIRST, second = nulls & SECOND;
+    int16_t *lent_x = first ? NULL : x, *lent_y = second ? NULL : y;
+    clevisroot_answer a = clevisroot_encode(TABLES(set), frame, set->coded ? 1 : 2, 1, lent_x,
+                                            room(first), lent_y, room(second));
+    CHECK(a.number == expected(nulls, CLEVISROOT_DONE));
+    a = clevisroot_encode(TABLES(set), NULL, 0, 1, lent_x, room(first), lent_y, room(second));
+    CHECK(a.number == expected(nulls, CLEVISROOT_FRAME));
+}
+
+static void read_points(const table_set *set, unsigned nulls)
+{
+    static const int16_t zeros[A_TONES];
+    uint8_t frame[2];
+    unsigned first = nulls & FIRST, second = nulls & SECOND;
+    const int16_t *x = first ? NULL : zeros, *y = second ? NULL : zeros;
+    clevisroot_answer a = clevisroot_read(TABLES(set), x, room(first), y, room(second), 1, frame,
+                                          set->coded ? 1 : 2);
+    CHECK(a.number == expected(nulls, CLEVISROOT_OFFGRID));
+    a = clevisroot_read(TABLES(set), x, room(first), y, room(second), 1, NULL, 0);
+    CHECK(a.number == expected(nulls, CLEVISROOT_ROOM));
+}
+
+static void every_way(uint8_t coded)
+{
+    for (unsigned nulls = 0; nulls < WAYS; nulls++) {
+        table_set set = tables_with(coded, nulls);
+        check_and_reorder(&set, nulls);
+        encode(&set, nulls);
+        read_points(&set, nulls);
+    }
+}
+
+/* L is 0 where no tone has data: the empty frame is accepted and read, also as a null pointer. */
+static void empty_frame(void)
+{
+    static const uint8_t bits[2] = {0, 0};
+    static const uint16_t gains[2] = {0, 512}, tones[2] = {0, 1};
+    table_set set = {0, bits, 2, gains, 2, tones, 2};
+    int16_t x[2], y[2];
+    clevisroot_answer a = clevisroot_encode(TABLES(&set), NULL, 0, 1, x, 2, y, 2);
+    CHECK(a.number == CLEVISROOT_DONE && a.size == 0);
+    CHECK(x[0] == 0 && y[0] == 0 && x[1] == 1 && y[1] == -1);
+    clevisroot_answer b = clevisroot_read(TABLES(&set), x, 2, y, 2, 1, NULL, 0);
+    CHECK(b.number == CLEVISROOT_DONE && b.size == 0 && b.reg == a.reg);
+}
+
+int main(void)
+{
+    every_way(0);
+    every_way(1);
+    empty_frame();
+    return verdict("null");
+}

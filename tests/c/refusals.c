@@ -1,0 +1,285 @@
+/*
+ * Every refusal number of every function: number and place, L 0, the register as it came, and no
+ * byte written. At the end each function has given exactly the numbers that the header lists.
+ */
+#include "clevisroot_names.h"
+#include "test.h"
+
+enum { CHECKING, REORDERING, ENCODING, READING, MAPPING, LABELLING, DRAWING, FUNCTIONS };
+
+/* The numbers that each function can give, but 9, which never happens: a bit for each. */
+#define UP_TO_8 0x1ffu
+static const uint32_t can_give[FUNCTIONS] = {
+    UP_TO_8,
+    UP_TO_8 | 1u << 10,
+    UP_TO_8 | 1u << 10 | 1u << 11 | 1u << 12,
+    UP_TO_8 | 1u << 10 | 1u << 12 | 1u << 13 | 1u << 14 | 1u << 15,
+    1u | 1u << 16,
+    1u | 1u << 13 | 1u << 16,
+    1u | 1u << 12,
+};
+
+static uint32_t given[FUNCTIONS];
+
+/* The answer has this number and place, and of a refusal the register that was given and size 0. */
+static void hold(int function, clevisroot_answer a, uint32_t number, uint32_t place, uint32_t reg)
+{
+    given[function] |= 1u << a.number;
+    if (a.number != number || a.place != place)
+        printf("function %d: %u %s at %u\n", function, (unsigned)a.number,
+               clevisroot_refusal_name(a.number), (unsigned)a.place);
+    CHECK(a.number == number && a.place == place);
+    if (number != CLEVISROOT_DONE)
+        CHECK(a.size == 0 && a.reg == reg);
+}
+
+static int untouched(const void *buffer, size_t bytes)
+{
+    const uint8_t *byte = (const uint8_t *)buffer;
+    for (size_t k = 0; k < bytes; k++)
+        if (byte[k] != 0x5a)
+            return 0;
+    return 1;
+}
+
+static void reorder(const table_set *set, size_t tones_len, size_t bits_len, uint32_t number,
+                    uint32_t place)
+{
+    uint16_t tones[A_TONES + 1];
+    uint8_t bits[A_TONES + 1];
+    memset(tones, 0x5a, sizeof tones);
+    memset(bits, 0x5a, sizeof bits);
+    hold(REORDERING, clevisroot_reorder(TABLES(set), tones, tones_len, bits, bits_len), number,
+         place, 0);
+    if (number != CLEVISROOT_DONE)
+        CHECK(untouched(tones, sizeof tones) && untouched(bits, sizeof bits));
+}
+
+static void encode(const table_set *set, const uint8_t *frame, size_t frame_len, uint32_t reg,
+                   size_t x_len, size_t y_len, uint32_t number, uint32_t place)
+{
+    int16_t x[A_TONES + 1], y[A_TONES + 1];
+    memset(x, 0x5a, sizeof x);
+    memset(y, 0x5a, sizeof y);
+    hold(ENCODING, clevisroot_encode(TABLES(set), frame, frame_len, reg, x, x_len, y, y_len),
+         number, place, reg);
+    if (number != CLEVISROOT_DONE)
+        CHECK(untouched(x, sizeof x) && untouched(y, sizeof y));
+}
+
+static void read_points(const table_set *set, const int16_t *x, size_t x_len, const int16_t *y,
+                        size_t y_len, uint32_t reg, size_t frame_len, uint32_t number,
+                        uint32_t place)
+{
+    uint8_t frame[2];
+    memset(frame, 0x5a, sizeof frame);
+    hold(READING, clevisroot_read(TABLES(set), x, x_len, y, y_len, reg, frame, frame_len), number,
+         place, reg);
+    if (number != CLEVISROOT_DONE)
+        CHECK(untouched(frame, sizeof frame));
+}
+
+static const int16_t zeros[A_TONES + 1];
+static const uint8_t frame_0[2];
+
+/* All four calls with tables refuse these alike, whatever else is wrong. */
+static void tables(const table_set *set, uint32_t number, uint32_t place)
+{
+    hold(CHECKING, clevisroot_check(TABLES(set)), number, place, 0);
+    reorder(set, 1, 1, number, place);
+    encode(set, frame_0, 2, 0, 1, 1, number, place);
+    read_points(set, zeros, 1, zeros, 1, 0, 2, number, place);
+}
+
+static void sizes(void)
+{
+    static const uint8_t many_bits[CLEVISROOT_MAX_TONES + 1];
+    static const uint16_t many_gains[CLEVISROOT_MAX_TONES + 1];
+    static const uint16_t more_tones[A_CARRIERS + 1] = {0, 1, 2, 3, 4, 5, 6, 7, 0};
+    table_set a = table_a();
+    a.gains_len = A_CARRIERS - 1;
+    tables(&a, CLEVISROOT_SIZE, 0);
+    a = table_a();
+    a.tones_len = 0;
+    tables(&a, CLEVISROOT_SIZE, 0);
+    a = table_a();
+    a.tones = more_tones;
+    a.tones_len = A_CARRIERS + 1;
+    tables(&a, CLEVISROOT_SIZE, 0);
+    a = table_a();
+    a.bits_len = a.gains_len = 0;
+    tables(&a, CLEVISROOT_SIZE, 0);
+    a = table_a();
+    a.bits = many_bits;
+    a.gains = many_gains;
+    a.bits_len = a.gains_len = CLEVISROOT_MAX_TONES + 1;
+    tables(&a, CLEVISROOT_SIZE, 0);
+}
+
+/* One entry of one table of bench table A changed. */
+static void changed_tone(size_t at, uint16_t tone, uint32_t number, uint32_t place)
+{
+    table_set a = table_a();
+    uint16_t tones[A_TONES];
+    memcpy(tones, a_tones, sizeof tones);
+    tones[at] = tone;
+    a.tones = tones;
+    tables(&a, number, place);
+}
+
+static void changed_bits(size_t at, uint8_t count, uint32_t number, uint32_t place)
+{
+    table_set a = table_a();
+    uint8_t bits[A_CARRIERS];
+    memcpy(bits, a_bits, sizeof bits);
+    bits[at] = count;
+    a.bits = bits;
+    tables(&a, number, place);
+}
+
+static void changed_gain(size_t at, uint16_t gain, uint32_t number, uint32_t place)
+{
+    table_set a = table_a();
+    uint16_t gains[A_CARRIERS];
+    memcpy(gains, a_gains, sizeof gains);
+    gains[at] = gain;
+    a.gains = gains;
+    tables(&a, number, place);
+}
+
+static void table_entries(void)
+{
+    changed_tone(2, 8, CLEVISROOT_TONE, 2);
+    changed_tone(5, 65535, CLEVISROOT_TONE, 5);
+    changed_tone(5, 7, CLEVISROOT_TWICE, 5);
+    changed_bits(1, 16, CLEVISROOT_BITS, 1);
+    changed_bits(7, 255, CLEVISROOT_BITS, 7);
+    changed_bits(0, 1, CLEVISROOT_STRAY, 0);
+    changed_gain(1, 1, CLEVISROOT_STRAY, 1);
+    changed_gain(3, 4096, CLEVISROOT_GAIN, 3);
+    changed_gain(5, 0, CLEVISROOT_GAIN, 5);
+    changed_bits(3, 2, CLEVISROOT_ODD, 0);
+    changed_bits(4, 1, CLEVISROOT_ODD, 0);
+}
+
+/* Three entries are too few for two coded pairs. */
+static void few(void)
+{
+    static const uint8_t bits[3] = {2, 2, 2};
+    static const uint16_t gains[3] = {512, 512, 512}, tones[3] = {0, 1, 2};
+    table_set set = {1, bits, 3, gains, 3, tones, 3};
+    tables(&set, CLEVISROOT_FEW, 0);
+    set.coded = 0;
+    hold(CHECKING, clevisroot_check(TABLES(&set)), CLEVISROOT_DONE, 0, 0);
+}
+
+static void rooms(void)
+{
+    table_set a = table_a();
+    for (size_t len = 0; len <= A_TONES + 1; len++) {
+        uint32_t number = len == A_TONES ? CLEVISROOT_DONE : CLEVISROOT_ROOM;
+        reorder(&a, len, A_TONES, number, 0);
+        reorder(&a, A_TONES, len, number, 0);
+        encode(&a, frame_0, 1, 1, len, A_TONES, number, 0);
+        encode(&a, frame_0, 1, 1, A_TONES, len, number, 0);
+    }
+    read_points(&a, zeros, 5, zeros, 6, 0, 1, CLEVISROOT_ROOM, 0);
+    read_points(&a, zeros, 6, zeros, 7, 0, 1, CLEVISROOT_ROOM, 0);
+    read_points(&a, zeros, 6, zeros, 6, 0, 0, CLEVISROOT_ROOM, 0);
+    read_points(&a, zeros, 6, zeros, 6, 0, 2, CLEVISROOT_ROOM, 0);
+}
+
+static void frames_and_registers(void)
+{
+    static const uint8_t unused_bit = 32;
+    table_set a = table_a();
+    encode(&a, frame_0, 0, 0, A_TONES, A_TONES, CLEVISROOT_FRAME, 0);
+    encode(&a, frame_0, 2, 0, A_TONES, A_TONES, CLEVISROOT_FRAME, 0);
+    encode(&a, &unused_bit, 1, 0, A_TONES, A_TONES, CLEVISROOT_FRAME, 0);
+    static const uint32_t wrong[] = {0, CLEVISROOT_RESET + 1, UINT32_MAX};
+    for (size_t k = 0; k < 3; k++) {
+        encode(&a, frame_0, 1, wrong[k], A_TONES, A_TONES, CLEVISROOT_SEED, 0);
+        read_points(&a, zeros, 6, zeros, 6, wrong[k], 1, CLEVISROOT_SEED, 0);
+        clevisroot_drawn drawn = clevisroot_draw(wrong[k]);
+        given[DRAWING] |= 1u << drawn.number;
+        CHECK(drawn.number == CLEVISROOT_SEED && drawn.bit == 0 && drawn.reg == wrong[k]);
+    }
+    given[DRAWING] |= 1u << clevisroot_draw(1).number;
+}
+
+/* Bench table A's frame 0, with the point at one place changed. */
+static void changed_point(size_t at, int16_t to_x, int16_t to_y, uint32_t number, uint32_t place)
+{
+    table_set a = table_a();
+    int16_t x[A_TONES], y[A_TONES];
+    clevisroot_encode(TABLES(&a), frame_0, 1, CLEVISROOT_RESET, x, A_TONES, y, A_TONES);
+    x[at] = to_x;
+    y[at] = to_y;
+    read_points(&a, x, A_TONES, y, A_TONES, CLEVISROOT_RESET, 1, number, place);
+}
+
+static void points(void)
+{
+    changed_point(1, 3, 1, CLEVISROOT_OFFGRID, 1);
+    changed_point(5, INT16_MIN, INT16_MAX, CLEVISROOT_OFFGRID, 5);
+    changed_point(3, 0, 0, CLEVISROOT_OFFGRID, 3);
+    changed_point(3, 1, 1, CLEVISROOT_MONITOR, 3);
+    changed_point(0, 1, -1, CLEVISROOT_TRELLIS, 0);
+    changed_point(5, -1, -1, CLEVISROOT_TRELLIS, 1);
+    changed_point(0, 1, 1, CLEVISROOT_DONE, 0);
+}
+
+static void map_label(uint8_t bits, uint32_t label, uint32_t number)
+{
+    clevisroot_point point = clevisroot_map_label(bits, label);
+    given[MAPPING] |= 1u << point.number;
+    CHECK(point.number == number);
+    if (number != CLEVISROOT_DONE)
+        CHECK(point.x == 0 && point.y == 0);
+}
+
+static void read_point(uint8_t bits, int16_t x, int16_t y, uint32_t number)
+{
+    clevisroot_label label = clevisroot_read_point(bits, x, y);
+    given[LABELLING] |= 1u << label.number;
+    CHECK(label.number == number);
+    if (number != CLEVISROOT_DONE)
+        CHECK(label.label == 0);
+}
+
+static void one_tone(void)
+{
+    map_label(0, 0, CLEVISROOT_LABEL);
+    map_label(16, 0, CLEVISROOT_LABEL);
+    map_label(255, 0, CLEVISROOT_LABEL);
+    map_label(4, 16, CLEVISROOT_LABEL);
+    map_label(15, UINT32_MAX, CLEVISROOT_LABEL);
+    map_label(15, 32767, CLEVISROOT_DONE);
+    read_point(0, 0, 0, CLEVISROOT_LABEL);
+    read_point(16, 1, 1, CLEVISROOT_LABEL);
+    read_point(2, 3, 1, CLEVISROOT_OFFGRID);
+    read_point(2, INT16_MIN, INT16_MIN, CLEVISROOT_OFFGRID);
+    read_point(2, -1, 1, CLEVISROOT_DONE);
+}
+
+/* Tables that pass, so that every function is seen to answer 0 too. */
+static void done(void)
+{
+    table_set a = table_a();
+    hold(CHECKING, clevisroot_check(TABLES(&a)), CLEVISROOT_DONE, 0, 0);
+}
+
+int main(void)
+{
+    sizes();
+    table_entries();
+    few();
+    rooms();
+    frames_and_registers();
+    points();
+    one_tone();
+    done();
+    for (int function = 0; function < FUNCTIONS; function++)
+        CHECK(given[function] == can_give[function]);
+    return verdict("refusals");
+}

@@ -1,0 +1,112 @@
+/*
+ * How much stack each call takes: a thread runs it on painted memory, and the paint that is gone is
+ * counted. What a thread takes that calls nothing is taken off. No call may pass CLEVISROOT_STACK.
+ */
+#define _DEFAULT_SOURCE
+#include "test.h"
+#include <pthread.h>
+#include <stdlib.h>
+
+#define ROOM (256 * 1024)
+#define PAINT 0xa5
+#define TONES CLEVISROOT_MAX_TONES
+
+static uint8_t bits[TONES], frame[CLEVISROOT_MAX_FRAME], bits_out[TONES];
+static uint16_t gains[TONES], tones[TONES], tones_out[TONES];
+static int16_t x[TONES], y[TONES];
+static table_set set = {1, bits, TONES, gains, TONES, tones, TONES};
+static size_t bytes;
+static uint32_t number;
+
+static void nothing(void) {}
+
+static void check(void)
+{
+    number = clevisroot_check(TABLES(&set)).number;
+}
+
+static void reorder(void)
+{
+    number = clevisroot_reorder(TABLES(&set), tones_out, TONES, bits_out, TONES).number;
+}
+
+static void encode(void)
+{
+    number = clevisroot_encode(TABLES(&set), frame, bytes, 1, x, TONES, y, TONES).number;
+}
+
+static void read_points(void)
+{
+    number = clevisroot_read(TABLES(&set), x, TONES, y, TONES, 1, frame, bytes).number;
+}
+
+static void one_tone(void)
+{
+    number = clevisroot_map_label(15, 1).number | clevisroot_read_point(15, 1, 1).number |
+             clevisroot_draw(1).number;
+}
+
+typedef void call(void);
+
+static void *run(void *argument)
+{
+    (*(call **)argument)();
+    return NULL;
+}
+
+/* The bytes of a thread's stack that are touched while it makes this call. */
+static size_t touched(call *made)
+{
+    uint8_t *stack = (uint8_t *)aligned_alloc(4096, ROOM);
+    pthread_attr_t attributes;
+    pthread_t thread;
+    memset(stack, PAINT, ROOM);
+    CHECK(pthread_attr_init(&attributes) == 0);
+    CHECK(pthread_attr_setstack(&attributes, stack, ROOM) == 0);
+    CHECK(pthread_create(&thread, &attributes, run, &made) == 0);
+    CHECK(pthread_join(thread, NULL) == 0);
+    size_t left = 0;
+    while (left < ROOM && stack[left] == PAINT)
+        left++;
+    pthread_attr_destroy(&attributes);
+    free(stack);
+    return ROOM - left;
+}
+
+/* A call on the largest tables; the first one is for the loader, which takes stack of its own. */
+static void measure(const char *name, call *made)
+{
+    made();
+    size_t taken = touched(made) - touched(nothing);
+    CHECK(number == CLEVISROOT_DONE);
+    CHECK(taken <= CLEVISROOT_STACK);
+    printf("stack of %-8s %s %6zu bytes\n", name, set.coded ? "coded  " : "uncoded", taken);
+}
+
+static void load(void)
+{
+    for (size_t k = 0; k < TONES; k++) {
+        bits[k] = (uint8_t)(k % 16);
+        gains[k] = 512;
+        tones[k] = (uint16_t)(TONES - 1 - k);
+    }
+}
+
+static void measure_all(uint8_t coded)
+{
+    set.coded = coded;
+    bytes = clevisroot_frame_bytes(clevisroot_check(TABLES(&set)).size);
+    measure("check", check);
+    measure("reorder", reorder);
+    measure("encode", encode);
+    measure("read", read_points);
+    measure("one tone", one_tone);
+}
+
+int main(void)
+{
+    load();
+    measure_all(0);
+    measure_all(1);
+    return verdict("stack");
+}

@@ -1,0 +1,99 @@
+/*
+ * Two threads in the library at the same time, each with its own tables: every answer is the one that
+ * the same work gives alone.
+ */
+#define _DEFAULT_SOURCE
+#include "test.h"
+#include <pthread.h>
+
+#define SYMBOLS 400
+#define TONES 512
+
+/* A stream of symbols there and back, and one number made of all its points and answers. */
+typedef struct {
+    uint8_t coded;
+    uint32_t seed;
+    uint32_t digest;
+    int wrong;
+    uint8_t bits[TONES], frame[TONES * 2], back[TONES * 2];
+    uint16_t gains[TONES], tones[TONES];
+    int16_t x[TONES], y[TONES];
+} stream;
+
+static void load(stream *s)
+{
+    for (size_t k = 0; k < TONES; k++) {
+        s->bits[k] = (uint8_t)(k % 16 == 1 ? 2 : k % 16);
+        s->gains[k] = 512;
+        s->tones[k] = (uint16_t)(s->coded ? TONES - 1 - k : k);
+    }
+}
+
+static void digest(stream *s, uint32_t number)
+{
+    s->digest = (s->digest ^ number) * 16777619u;
+}
+
+static uint32_t one_symbol(stream *s, const table_set *set, uint32_t size, uint32_t reg)
+{
+    size_t bytes = clevisroot_frame_bytes(size);
+    random_frame(&s->seed, s->frame, size);
+    clevisroot_answer written =
+        clevisroot_encode(TABLES(set), s->frame, bytes, reg, s->x, TONES, s->y, TONES);
+    clevisroot_answer read =
+        clevisroot_read(TABLES(set), s->x, TONES, s->y, TONES, reg, s->back, bytes);
+    if (written.number != CLEVISROOT_DONE || read.number != CLEVISROOT_DONE ||
+        written.reg != read.reg || memcmp(s->frame, s->back, bytes) != 0)
+        s->wrong++;
+    for (size_t p = 0; p < TONES; p++)
+        digest(s, (uint32_t)(s->x[p] * 65536 + s->y[p]));
+    digest(s, written.reg);
+    return written.reg;
+}
+
+static void *run(void *argument)
+{
+    stream *s = (stream *)argument;
+    load(s);
+    table_set set = {s->coded, s->bits, TONES, s->gains, TONES, s->tones, TONES};
+    clevisroot_answer checked = clevisroot_check(TABLES(&set));
+    uint32_t reg = CLEVISROOT_RESET;
+    for (int k = 0; k < SYMBOLS; k++)
+        reg = one_symbol(s, &set, checked.size, reg);
+    return NULL;
+}
+
+static stream alone[2], together[2];
+
+static void run_alone(uint8_t k)
+{
+    alone[k].coded = together[k].coded = k;
+    alone[k].seed = together[k].seed = 12345u + k;
+    run(&alone[k]);
+}
+
+static void run_together(void)
+{
+    pthread_t first, second;
+    CHECK(pthread_create(&first, NULL, run, &together[0]) == 0);
+    CHECK(pthread_create(&second, NULL, run, &together[1]) == 0);
+    CHECK(pthread_join(first, NULL) == 0);
+    CHECK(pthread_join(second, NULL) == 0);
+}
+
+static void compare(int k)
+{
+    CHECK(alone[k].wrong == 0 && together[k].wrong == 0);
+    CHECK(alone[k].digest == together[k].digest);
+}
+
+int main(void)
+{
+    run_alone(0);
+    run_alone(1);
+    run_together();
+    compare(0);
+    compare(1);
+    CHECK(alone[0].digest != alone[1].digest);
+    return verdict("threads");
+}
