@@ -3,9 +3,9 @@
 use bench::peer;
 use clevisroot_sys::{Answer, Drawn, Label, Point, Tables};
 use difftest::compare::Comparison;
+use difftest::coverage::Coverage;
 use difftest::exhaustive::one_tone;
 use difftest::run::random_cases;
-use difftest::tally::Tally;
 use difftest::under_test::Core;
 
 struct Peer;
@@ -51,9 +51,9 @@ impl Core for Peer {
 fn peer_answers_as_the_reference() {
     let mut comparison = Comparison {
         core: &Peer,
-        tally: Tally::default(),
+        coverage: Coverage::default(),
     };
     one_tone(&mut comparison, 13).unwrap();
     random_cases(&mut comparison, 20_000, 7).unwrap();
-    comparison.tally.verdict().unwrap();
+    comparison.coverage.verdict().unwrap();
 }

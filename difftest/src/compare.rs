@@ -14,7 +14,7 @@ pub type Mismatch = String;
 /// Compares calls to one implementation and counts the numbers that came.
 pub struct Comparison<'a> {
     pub core: &'a dyn Core,
-    pub tally: Coverage,
+    pub coverage: Coverage,
 }
 
 impl Comparison<'_> {
@@ -136,7 +136,7 @@ impl Comparison<'_> {
         actual: &A,
         inputs: impl Debug,
     ) -> Result<(), Mismatch> {
-        self.tally.record(operation, number);
+        self.coverage.record(operation, number);
         if expected == actual {
             return Ok(());
         }

@@ -13,8 +13,3 @@ pub mod random;
 pub mod run;
 pub mod tables;
 pub mod under_test;
-
-/// The older name of [`coverage`], which bench/ still uses.
-pub mod tally {
-    pub use crate::coverage::Coverage as Tally;
-}

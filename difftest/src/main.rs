@@ -40,14 +40,14 @@ fn run(cases: u64, seed: u64) -> Result<(), String> {
     let start = Instant::now();
     let mut comparison = Comparison {
         core: &Library,
-        tally: Coverage::default(),
+        coverage: Coverage::default(),
     };
     one_tone(&mut comparison, 15).map_err(|told| format!("MISMATCH, exhaustive: {told}"))?;
     random_cases(&mut comparison, cases, seed)
         .map_err(|(case, told)| format!("MISMATCH, seed {seed} case {case}: {told}"))?;
-    println!("{}", comparison.tally);
-    let calls = comparison.tally.total();
+    println!("{}", comparison.coverage);
+    let calls = comparison.coverage.total();
     let seconds = start.elapsed().as_secs_f64();
     println!("{cases} cases, seed {seed}: {calls} calls alike in {seconds:.1} s");
-    comparison.tally.verdict()
+    comparison.coverage.verdict()
 }
