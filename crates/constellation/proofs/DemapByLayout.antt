@@ -1,4 +1,4 @@
--- The label of a point by a shape: the word moved up to sixteen bits, and the label moved down again.
+-- The label of a point by a layout: the word moved up to sixteen bits, and the label moved down again.
 use Prim.Native.Nat.{ℕ, zero, suc, _+_, _-_, _*_, _/_, _%_, _^_, _≤_, _<_}
 use mathlib.Core.Bool.{Bool, true, false, _&&_, _||_, not, cond}
 use mathlib.Core.Path.{_≡_, refl, sym, ap, ap₂, _∙_}
@@ -13,7 +13,7 @@ use Rattle.g9932.specs.Points.{labelOf, samePoint}
 use Rattle.g9932.specs.Sizes.{point, origin}
 use Rattle.constellation.specs.Widened.{pairs, signWeight, interleaved}
 use Rattle.constellation.specs.Reading.{SoughtIs, Steps, Narrowed, topSix, inGrid}
-use Rattle.constellation.specs.Layouts.{layoutOf}
+use Rattle.constellation.specs.Layouts.{layoutOf, silentLayout}
 use Rattle.constellation.specs.DemapByLayout.{Power, IsLayout, OnAxis, WordUp, TopsBy, LabelDown, Demaps}
 use Rattle.constellation.proofs.Grid.{bit-rule, six-few}
 use Rattle.constellation.proofs.Mapping.{rule}
@@ -65,7 +65,7 @@ down-law m t w k v h e f =
 pub product-le : (m t w : ℕ) → Power m → t < 8 → (8192 * t + 2 * (w % 4096)) * (8 * (m * m)) ≤ 65535 * 32768
 product-le m t w p h = mul-le-mul {n₂ = 65535} {m₂ = 32768} (omega arith) (omega (arith, square-le m p))
 
--- ---- what a shape holds
+-- ---- what a layout holds
 
 pub record Holds (b : ℕ) : Type 0 where
   pub above : layoutOf b / 256 % 128 ≡ 2 ^ pairs b
@@ -84,11 +84,11 @@ holds (suc j) l m =
       silent = bit-rule (λ j. eqb (bitAnd (layoutOf (suc j) / 32768) (layoutOf (suc j) / 128 % 2)) 1) (λ j. false) 15 refl j (omega arith);
     }
 
-pub shaped-bits : (b : ℕ) → 1 ≤ b → b ≤ 15 → IsLayout (layoutOf b)
-shaped-bits b l m = (pairs b, omega arith, holds b l m .above, holds b l m .below)
+pub is-layout : (b : ℕ) → 1 ≤ b → b ≤ 15 → IsLayout (layoutOf b)
+is-layout b l m = (pairs b, omega arith, holds b l m .above, holds b l m .below)
 
-pub shaped-silent : IsLayout silentLayout
-shaped-silent = (0, omega arith, refl, refl)
+pub is-layout-silent : IsLayout silentLayout
+is-layout-silent = (0, omega arith, refl, refl)
 
 -- the bits of a coordinate, moved up, are eight
 pub in-width : (layout : ℕ) (z : ℤ) (e : ℕ) (on : Bool) → IsLayout layout → OnAxis (4 * (layout / 256 % 128)) z e on → e * (layout % 128) < 256
