@@ -26,7 +26,7 @@ pointAt xs ys i = point (getD xs i (pos 0)) (getD ys i (pos 0))
 pub record DemapNeeds (layouts : List ℕ) (xs ys : List ℤ) : Type 0 where
   pub layoutsLength : length layouts ≡ length xs
   pub ysLength : length ys ≡ length xs
-  pub layouts : (i : ℕ) → i < length xs → IsLayout (entry layouts i)
+  pub isLayout : (i : ℕ) → i < length xs → IsLayout (entry layouts i)
 
 pub record LabelNeeds (layouts : List ℕ) (xs ys : List ℤ) (labels : List ℕ) : Type 0 where
   pub points : DemapNeeds layouts xs ys
@@ -73,7 +73,7 @@ pub record ChecksFiller (ms : List ℕ) (r : ℕ) (labels : List ℕ) (f : Fille
 abbrev pub joinOnes : List ℕ → List ℕ
 joinOnes [] = []
 joinOnes (a ∷ []) = a ∷ []
-joinOnes (a ∷ b ∷ ls) = a + 2 * b ∷ b ∷ joinOnes ls
+joinOnes (a ∷ b ∷ ls) = (a + 2 * b) ∷ b ∷ joinOnes ls
 
 pub record JoinNeeds (labels : List ℕ) (from : ℕ) : Type 0 where
   pub inside : from ≤ length labels
