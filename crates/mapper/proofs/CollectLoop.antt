@@ -1,8 +1,8 @@
 -- Labels collected: the bits put so far and those of the labels left are all bits.
-use Prim.Native.Nat.{ℕ, _+_, _*_, _^_, _≤_, _<_}
+use Prim.Native.Nat.{ℕ, _+_, _^_, _≤_, _<_}
 use native.Mathlib.Omega.{arith}
 use mathlib.Core.List.{List, _++_, append-assoc, append-nil}
-use mathlib.Core.Path.{_≡_, refl, sym, ap, _∙_}
+use mathlib.Core.Path.{_≡_, refl, _∙_}
 use lib.ListN.{length, drop, drop-of-length-le}
 use Rattle.frame.proofs.Labels.{labels-drop, length-at, at-get}
 use Rattle.frame.specs.Labels.{bitsOfLabels, labelsAt}
@@ -22,7 +22,7 @@ pub record Collecting (w₀ : BitWriter) (es ps ls frame₀ frame : List ℕ) (w
   pub waits : Waits w
   pub counted : count w + sum (drop j es) ≡ count w₀ + sum es
 
-module _ (w₀ : BitWriter) (es ps ls frame₀ : List ℕ) (needs : CollectNeeds w₀ es ps ls frame₀) where
+module _ {w₀ : BitWriter} {es ps ls frame₀ : List ℕ} (needs : CollectNeeds w₀ es ps ls frame₀) where
   pub collect-start : Collecting w₀ es ps ls frame₀ frame₀ w₀ 0
   collect-start = record { inside = omega arith; frameLength = refl; whole = refl; waits = needs .waits; counted = refl }
 

@@ -4,7 +4,7 @@ use native.Mathlib.Numerals.{add-one}
 use native.Mathlib.Omega.{arith}
 use mathlib.Core.Bool.{not}
 use mathlib.Core.List.{List}
-use mathlib.Core.Path.{_≡_, refl, sym, ap, _∙_}
+use mathlib.Core.Path.{_≡_, refl, _∙_}
 use lib.Dec.{eqb}
 use lib.ListN.{length, drop, set, length-set, length-drop, drop-of-length-le}
 use lib.Seq.{drop-cons}
@@ -16,7 +16,6 @@ use Rattle.g9932.specs.declared.Found.{Found}
 use Rattle.g9932.specs.declared.Found.the-variants.{Nothing}
 use Rattle.mapper.specs.Writing.{withFiller, SetsFiller}
 use Rattle.mapper.specs.Reading.{wrongFiller, ChecksFiller}
-use Rattle.mapper.specs.declared.read.FillerRead.{FillerRead}
 
 pub two-bits : (r : ℕ) → num (drawn 2 r) < 4
 two-bits r = num-lt (drawn 2 r)

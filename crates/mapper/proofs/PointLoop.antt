@@ -6,14 +6,17 @@ use mathlib.Core.Bool.{Bool, true, false, _&&_, and-eq-true-iff, true≢false}
 use mathlib.Core.List.{List}
 use mathlib.Core.Path.{_≡_, refl, _∙_}
 use lib.IntN.{ℤ, pos}
-use lib.ListN.{length, getD, set, length-set}
+use lib.ListN.{length, set, length-set}
 use lib.Seq.{getD-set-same, getD-set-other}
+use Rattle.constellation.proofs.DemapByLayout.{on-or-off}
 use Rattle.constellation.specs.DemapByLayout.{Demaps}
 use Rattle.constellation.specs.MapByLayout.{MapsTo}
 use Rattle.constellation.specs.declared.demap.PointLabel.{PointLabel}
 use Rattle.g9932.specs.Sizes.{entry, Point, point}
+use Rattle.g9932.specs.declared.Found.{Found}
+use Rattle.g9932.specs.declared.Found.the-variants.{Nothing}
 use Rattle.mapper.specs.Writing.{PutsPoints}
-use Rattle.mapper.specs.Reading.{pointAt, LabelIs, Off, DemapsAll}
+use Rattle.mapper.specs.Reading.{pointAt, DemapNeeds, LabelIs, Off, DemapsAll, OffAt, DemapsPoints}
 
 -- ---- points put
 
@@ -96,3 +99,18 @@ module _ {layouts : List ℕ} {xs ys : List ℤ} {labels : List ℕ} {all : Bool
       some false o p q e = let w = g .some p in (w .0, omega (arith, w .1), w .2)
       some true false p q e = (i, omega arith, (r .label, told seen q))
       some true true p q e = absurd (true≢false e)
+
+module _ {layouts : List ℕ} {xs ys : List ℤ} {labels : List ℕ} {all : Bool} (g : DemapsAll layouts xs ys labels all) where
+  pub all-on : all ≡ true → DemapsPoints layouts xs ys labels Nothing
+  all-on e = record { off = λ i h. (entry labels i, g .every e i h); labelled = λ _. g .every e; labelsLength = g .labelsLength }
+
+  -- where a point is off, the search finds one
+  pub some-off : DemapNeeds layouts xs ys → all ≡ false → (r : Found) → OffAt layouts xs ys r → DemapsPoints layouts xs ys labels r
+  some-off needs e r off = record { off = off; labelled = λ z. absurd (none (rw z at off)); labelsLength = g .labelsLength }
+    where
+      none : OffAt layouts xs ys Nothing → ⊥
+      none on =
+          let w = g .some e in
+          let i = w .0 in
+          let o = on i (w .1) in
+          on-or-off (entry layouts i) (pointAt xs ys i) (o .0) (w .2 .0) (needs .ofTones i (w .1)) (o .1) (w .2 .1)

@@ -1,6 +1,5 @@
 -- `constellation::map::point_by` meets its contract: the layout and the mapping label go with each other, and no product is too large.
 use native.Mathlib.Omega.{arith}
-use mathlib.Core.Path.{sym}
 use Rattle.constellation.proofs.MapByLayout.{StepsFit, mappable-fits, maps-to}
 use Rattle.constellation.proofs.map.point_by.Statement.{statement}
 use Rattle.constellation.proofs.map.point_by.Tie as tie

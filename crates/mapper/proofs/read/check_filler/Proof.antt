@@ -1,16 +1,12 @@
-use Rattle.mapper.proofs.FillerLoop.{Checking, check-start, check-step, check-end}
-use lib.ListN.{length}
-use Prim.Native.Nat.{_-_}
+-- `mapper::read::check_filler` meets its contract. The invariant: the places from k on, compared from the register now and after what is
+-- found, give what is asked. The measure is the monitored places left.
 use native.Mathlib.Omega.{arith}
+use Prim.Native.Nat.{_-_}
+use lib.ListN.{length}
+use Rattle.mapper.proofs.FillerLoop.{Checking, check-start, check-step, check-end}
 use borrow.Author.Needs.{needs}
 use Rattle.mapper.proofs.read.check_filler.Statement.{statement}
 use Rattle.mapper.proofs.read.check_filler.Tie as tie
-use Rattle.mapper.proofs.read.check_filler.Reads as reads
-use Rattle.mapper.proofs.read.check_filler.Lts as lts
-use Rattle.frame.proofs.by_place.label_at.Reads as label-at-reads
-use Rattle.frame.proofs.by_place.place_at.Reads as place-at-reads
-use Rattle.mapper.proofs.read.or_here.Reads as or-here-reads
-use Rattle.prbs.proofs.filler_label.Reads as filler-label-reads
 
 abbrev Inv-loop : tie.InvT-loop
 Inv-loop monitored register labels monitor₀ next₀ k₀ monitor next k = Checking monitored register labels monitor next k

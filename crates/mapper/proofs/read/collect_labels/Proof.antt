@@ -1,15 +1,12 @@
-use Rattle.mapper.proofs.CollectLoop.{Collecting, collect-start, collect-end, place-inside, put-needs, collect-step}
-use lib.ListN.{length}
-use Prim.Native.Nat.{_-_}
+-- `mapper::read::collect_labels` meets its contract. The invariant: the bits put, and those of the labels from entry j on, are all bits. The
+-- measure is the entries left.
 use native.Mathlib.Omega.{arith}
+use Prim.Native.Nat.{_-_}
+use lib.ListN.{length}
+use Rattle.mapper.proofs.CollectLoop.{Collecting, collect-start, collect-end, place-inside, put-needs, collect-step}
 use borrow.Author.Needs.{needs}
 use Rattle.mapper.proofs.read.collect_labels.Statement.{statement}
 use Rattle.mapper.proofs.read.collect_labels.Tie as tie
-use Rattle.mapper.proofs.read.collect_labels.Reads as reads
-use Rattle.mapper.proofs.read.collect_labels.Lts as lts
-use Rattle.frame.proofs.BitWriter.put.Reads as put-reads
-use Rattle.frame.proofs.by_place.label_at.Reads as label-at-reads
-use Rattle.frame.proofs.by_place.place_at.Reads as place-at-reads
 
 abbrev Inv-loop : tie.InvT-loop
 Inv-loop entries places labels frame₀ w₀ j₀ frame w j = Collecting w₀ entries places labels frame₀ frame w j
@@ -20,8 +17,7 @@ abbrev μ-loop : tie.MeasureT-loop
 loop-holds : tie.Need-loop-holds Inv-loop μ-loop
 loop-holds c =
     let s = c .before .before .before .before in
-    let a = s .args in
-    collect-start (a .writer) (a .entries .now) (a .places .now) (a .labels .now) (a .frame .now) (s .pre)
+    collect-start (s .pre)
 
 shared-slice-read-n : tie.Need-shared-slice-read-n Inv-loop μ-loop
 shared-slice-read-n c = omega arith
@@ -35,8 +31,7 @@ place-at-requires c κs = omega (arith, c .before .before .before .before .befor
 label-at-requires : tie.Need-label-at-requires Inv-loop μ-loop
 label-at-requires c κs =
     let s = c .before .before .before .before .before .before .before .before .before in
-    let a = s .args in
-    rw (c .place-at .ensures) (place-inside (a .writer) (a .entries .now) (a .places .now) (a .labels .now) (a .frame .now) (s .pre) (c .before .before .before .before .loop .inv) (omega arith))
+    rw (c .place-at .ensures) (place-inside (s .pre) (c .before .before .before .before .loop .inv) (omega arith))
 
 cast-put : tie.Need-cast-put Inv-loop μ-loop
 cast-put c = search needs
@@ -44,9 +39,8 @@ cast-put c = search needs
 put-requires : tie.Need-put-requires Inv-loop μ-loop
 put-requires c κs =
     let s = c .before .before .before .before .before .before .before .before .before .before in
-    let a = s .args in
     rw (c .label-at .ensures, c .before .place-at .ensures)
-    (put-needs (a .writer) (a .entries .now) (a .places .now) (a .labels .now) (a .frame .now) (s .pre) (c .before .before .before .before .before .loop .inv) (omega arith))
+    (put-needs (s .pre) (c .before .before .before .before .before .loop .inv) (omega arith))
 
 add-j : tie.Need-add-j Inv-loop μ-loop
 add-j c = search needs
@@ -57,10 +51,9 @@ loop-less c = search needs
 loop-again : tie.Need-loop-again Inv-loop μ-loop
 loop-again c =
     let s = c .before .before .before .before .before .before .before .before .before .before .before .before .before in
-    let a = s .args in
     let p = c .before .before .put in
     let put = rw (c .before .before .before .label-at .ensures, c .before .before .before .before .place-at .ensures) at (p .ensures) in
-    collect-step (a .writer) (a .entries .now) (a .places .now) (a .labels .now) (a .frame .now) (s .pre) (c .before .before .before .before .before .before .before .before .loop .inv) (omega arith) (p .result) (p .last .1 .0) (p .kept .1 .0) put
+    collect-step (s .pre) (c .before .before .before .before .before .before .before .before .loop .inv) (omega arith) (p .result) (p .last .1 .0) (p .kept .1 .0) put
 
 same-length : tie.Need-same-length Inv-loop μ-loop
 same-length c = c .before .loop .inv .frameLength
@@ -68,8 +61,7 @@ same-length c = c .before .loop .inv .frameLength
 returns : tie.Need-returns Inv-loop μ-loop
 returns c =
     let s = c .before .before .before .before .before .before in
-    let a = s .args in
-    collect-end (a .writer) (a .entries .now) (a .places .now) (a .labels .now) (a .frame .now) (s .pre) (c .before .loop .inv) (omega arith)
+    collect-end (s .pre) (c .before .loop .inv) (omega arith)
 
 pub collect-labels-spec : {M : Type 1} → statement M
 collect-labels-spec =

@@ -1,17 +1,18 @@
-use Rattle.mapper.proofs.PointLoop.{Demapping, demap-start, demap-step, demap-end}
-use lib.ListN.{length, getD}
-use lib.IntN.{pos}
+-- `mapper::read::demap_all` meets its contract. The invariant: where `all` is true, each place before i has its point's label; else one of
+-- these points is off. The measure is the places left.
+use native.Mathlib.Omega.{arith}
+use Prim.Native.Nat.{_-_}
+use mathlib.Core.Path.{_∙_, sym}
 use mir.ValLaws.{toZ-ofZ}
 use mir.Syntax.{w16}
-use mathlib.Core.Path.{_∙_, sym}
-use Prim.Native.Nat.{_-_}
-use native.Mathlib.Omega.{arith}
+use lib.ListN.{length, getD}
+use lib.IntN.{pos}
+use Rattle.g9932.specs.Sizes.{entry}
+use Rattle.constellation.proofs.DemapByLayout.{is-layout}
+use Rattle.mapper.proofs.PointLoop.{Demapping, demap-start, demap-step, demap-end}
 use borrow.Author.Needs.{needs}
 use Rattle.mapper.proofs.read.demap_all.Statement.{statement}
 use Rattle.mapper.proofs.read.demap_all.Tie as tie
-use Rattle.mapper.proofs.read.demap_all.Reads as reads
-use Rattle.mapper.proofs.read.demap_all.Lts as lts
-use Rattle.constellation.proofs.demap.label_by.Reads as label-by-reads
 
 abbrev Inv-loop : tie.InvT-loop
 Inv-loop layouts xs ys labels₀ all₀ i₀ labels all i = Demapping layouts xs ys labels all i
@@ -43,7 +44,10 @@ shared-slice-copy-out-label-by-2 : tie.Need-shared-slice-copy-out-label-by-2 Inv
 shared-slice-copy-out-label-by-2 c = omega (arith, c .before .before .before .before .before .before .pre .points .ysLength)
 
 label-by-requires : tie.Need-label-by-requires Inv-loop μ-loop
-label-by-requires c κs = c .before .before .before .before .before .before .before .pre .points .isLayout (c .before .before .before .before .loop .i) (omega arith)
+label-by-requires c κs =
+    let s = c .before .before .before .before .before .before .before in
+    let i = c .before .before .before .before .loop .i in
+    is-layout (entry (s .args .layouts .now) i) (s .pre .points .ofTones i (omega arith))
 
 mul-labels : tie.Need-mul-labels Inv-loop μ-loop
 mul-labels c = search needs

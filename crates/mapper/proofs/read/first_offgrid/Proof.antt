@@ -1,21 +1,20 @@
-use Rattle.mapper.proofs.PointLoop.{told}
-use Rattle.mapper.specs.Reading.{pointAt, LabelIs}
-use Rattle.g9932.specs.Sizes.{entry}
-use Rattle.constellation.specs.DemapByLayout.{Demaps}
-use lib.ListN.{length, getD}
-use lib.IntN.{pos}
+-- `mapper::read::first_offgrid` meets its contract. The invariant: each point before i has a label. The measure is the places left.
+use native.Mathlib.Omega.{arith}
+use Prim.Native.Nat.{ℕ, _-_, _≤_, _<_}
 use mir.ValLaws.{toZ-ofZ}
 use mir.Syntax.{w16}
-use Prim.Native.Nat.{ℕ, _-_, _≤_, _<_}
+use lib.ListN.{length, getD}
+use lib.IntN.{pos}
+use Rattle.g9932.specs.Sizes.{entry}
+use Rattle.constellation.proofs.DemapByLayout.{is-layout}
+use Rattle.constellation.specs.DemapByLayout.{Demaps}
+use Rattle.mapper.specs.Reading.{pointAt, LabelIs}
+use Rattle.mapper.proofs.PointLoop.{told}
 use borrow.Author.Tests.{not-true, not-false}
 use borrow.Author.Count.{below-more}
-use native.Mathlib.Omega.{arith}
 use borrow.Author.Needs.{needs}
 use Rattle.mapper.proofs.read.first_offgrid.Statement.{statement}
 use Rattle.mapper.proofs.read.first_offgrid.Tie as tie
-use Rattle.mapper.proofs.read.first_offgrid.Reads as reads
-use Rattle.mapper.proofs.read.first_offgrid.Lts as lts
-use Rattle.constellation.proofs.demap.label_by.Reads as label-by-reads
 
 abbrev Inv-loop : tie.InvT-loop
 Inv-loop layouts xs ys i₀ i = (i ≤ length xs) × ((k : ℕ) → k < i → (l : ℕ) × LabelIs (entry layouts k) (pointAt xs ys k) l)
@@ -45,9 +44,16 @@ shared-slice-copy-out-label-by-2 : tie.Need-shared-slice-copy-out-label-by-2 Inv
 shared-slice-copy-out-label-by-2 c = omega (arith, c .before .before .before .before .before .pre .ysLength)
 
 label-by-requires : tie.Need-label-by-requires Inv-loop μ-loop
-label-by-requires c κs = c .before .before .before .before .before .before .pre .isLayout (c .before .before .before .before .loop .i) (omega arith)
+label-by-requires c κs =
+    let s = c .before .before .before .before .before .before in
+    let i = c .before .before .before .before .loop .i in
+    is-layout (entry (s .args .layouts .now) i) (s .pre .ofTones i (omega arith))
 
-seen : (c : tie.After-label-by Inv-loop μ-loop) → Demaps (entry (c .before .before .before .before .before .before .before .args .layouts .now) (c .before .before .before .before .before .loop .i)) (pointAt (c .before .before .before .before .before .before .before .args .xs .now) (c .before .before .before .before .before .before .before .args .ys .now) (c .before .before .before .before .before .loop .i)) (c .label-by .result)
+-- what the code tells of the point at i
+seen : (c : tie.After-label-by Inv-loop μ-loop) →
+    let a = c .before .before .before .before .before .before .before .args in
+    let i = c .before .before .before .before .before .loop .i in
+    Demaps (entry (a .layouts .now) i) (pointAt (a .xs .now) (a .ys .now) i) (c .label-by .result)
 seen c =
     let a = c .before .before .before .before .before .before .before .args in
     let i = c .before .before .before .before .before .loop .i in

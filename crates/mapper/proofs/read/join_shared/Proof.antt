@@ -1,16 +1,16 @@
-use Rattle.mapper.proofs.SharedLabels.{join-step, join-needs, join-end}
-use Rattle.mapper.specs.Reading.{joinOnes, JoinNeeds}
-use Rattle.g9932.specs.Sizes.{entry}
-use lib.ListN.{length, take, drop, length-set}
+-- `mapper::read::join_shared` meets its contract. The invariant: the labels before i, and those from i on joined, are what is asked; those
+-- from i on have one bit. The measure is the places left.
+use native.Mathlib.Omega.{arith}
+use Prim.Native.Nat.{_-_, _+_, _*_}
 use mathlib.Core.Path.{_≡_, refl, sym, _∙_}
 use mathlib.Core.List.{_++_}
-use Prim.Native.Nat.{_-_, _+_, _*_}
-use native.Mathlib.Omega.{arith}
+use lib.ListN.{length, take, drop, length-set}
+use Rattle.g9932.specs.Sizes.{entry}
+use Rattle.mapper.specs.Reading.{joinOnes, JoinNeeds}
+use Rattle.mapper.proofs.SharedLabels.{join-step, join-needs, join-end}
 use borrow.Author.Needs.{needs}
 use Rattle.mapper.proofs.read.join_shared.Statement.{statement}
 use Rattle.mapper.proofs.read.join_shared.Tie as tie
-use Rattle.mapper.proofs.read.join_shared.Reads as reads
-use Rattle.mapper.proofs.read.join_shared.Lts as lts
 
 abbrev Inv-loop : tie.InvT-loop
 Inv-loop labels₀ from i₀ labels i = JoinNeeds labels i × (length labels ≡ length labels₀) × (take i labels ++ joinOnes (drop i labels) ≡ take from labels₀ ++ joinOnes (drop from labels₀))

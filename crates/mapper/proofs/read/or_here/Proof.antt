@@ -1,8 +1,7 @@
+-- `mapper::read::or_here` meets its contract, by what was found already.
 use borrow.Author.Needs.{needs}
 use Rattle.mapper.proofs.read.or_here.Statement.{statement}
 use Rattle.mapper.proofs.read.or_here.Tie as tie
-use Rattle.mapper.proofs.read.or_here.Reads as reads
-use Rattle.mapper.proofs.read.or_here.Lts as lts
 
 enum-known-found : tie.Need-enum-known-found
 enum-known-found c = search needs

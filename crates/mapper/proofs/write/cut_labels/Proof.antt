@@ -1,15 +1,12 @@
-use Rattle.mapper.proofs.CutLoop.{Cutting, cut-start, cut-end, next-few, next-inside, next-small, place-inside, cut-step}
-use lib.ListN.{length}
-use Prim.Native.Nat.{_-_}
+-- `mapper::write::cut_labels` meets its contract. The invariant: the labels of the entries before j, and the bits from `at` on, are the bits
+-- from `start` on. The measure is the entries left.
 use native.Mathlib.Omega.{arith}
+use Prim.Native.Nat.{_-_}
+use lib.ListN.{length}
+use Rattle.mapper.proofs.CutLoop.{Cutting, cut-start, cut-end, next-inside, next-small, place-inside, cut-step}
 use borrow.Author.Needs.{needs}
 use Rattle.mapper.proofs.write.cut_labels.Statement.{statement}
 use Rattle.mapper.proofs.write.cut_labels.Tie as tie
-use Rattle.mapper.proofs.write.cut_labels.Reads as reads
-use Rattle.mapper.proofs.write.cut_labels.Lts as lts
-use Rattle.frame.proofs.by_place.place_at.Reads as place-at-reads
-use Rattle.frame.proofs.by_place.put_label.Reads as put-label-reads
-use Rattle.frame.proofs.get.Reads as get-reads
 
 abbrev Inv-loop : tie.InvT-loop
 Inv-loop frame start entries places labels₀ at₀ j₀ labels at j = Cutting frame start entries places labels₀ labels at j
@@ -18,9 +15,7 @@ abbrev μ-loop : tie.MeasureT-loop
 μ-loop frame start entries places labels₀ at₀ j₀ labels at j = length entries - j
 
 loop-holds : tie.Need-loop-holds Inv-loop μ-loop
-loop-holds c =
-    let a = c .before .before .before .before .args in
-    cut-start (a .frame .now) (a .start) (a .entries .now) (a .places .now) (a .labels .now)
+loop-holds c = cut-start
 
 shared-slice-read-n : tie.Need-shared-slice-read-n Inv-loop μ-loop
 shared-slice-read-n c = omega arith
@@ -37,20 +32,17 @@ get-requires c κs = omega (arith, c .before .before .before .before .before .be
 cast-put-label : tie.Need-cast-put-label Inv-loop μ-loop
 cast-put-label c =
     let s = c .before .before .before .before .before .before .before .before .before .before in
-    let a = s .args in
-    omega (arith, c .get .ensures, next-small (a .frame .now) (a .start) (a .entries .now) (a .places .now) (a .labels .now) (s .pre) (c .before .before .before .before .before .loop .inv) (omega arith))
+    omega (arith, c .get .ensures, next-small (s .pre) (c .before .before .before .before .before .loop .inv) (omega arith))
 
 put-label-requires : tie.Need-put-label-requires Inv-loop μ-loop
 put-label-requires c κs =
     let s = c .before .before .before .before .before .before .before .before .before .before in
-    let a = s .args in
-    rw (c .before .place-at .ensures) (place-inside (a .frame .now) (a .start) (a .entries .now) (a .places .now) (a .labels .now) (s .pre) (c .before .before .before .before .before .loop .inv) (omega arith))
+    rw (c .before .place-at .ensures) (place-inside (s .pre) (c .before .before .before .before .before .loop .inv) (omega arith))
 
 add-at : tie.Need-add-at Inv-loop μ-loop
 add-at c =
     let s = c .before .before .before .before .before .before .before .before .before .before .before .before .before in
-    let a = s .args in
-    omega (arith, s .pre .small, next-inside (a .frame .now) (a .start) (a .entries .now) (a .places .now) (a .labels .now) (s .pre) (c .before .before .before .before .before .before .before .before .loop .inv) (omega arith))
+    omega (arith, s .pre .small, next-inside (s .pre) (c .before .before .before .before .before .before .before .before .loop .inv) (omega arith))
 
 add-j : tie.Need-add-j Inv-loop μ-loop
 add-j c = search needs
@@ -61,9 +53,8 @@ loop-less c = search needs
 loop-again : tie.Need-loop-again Inv-loop μ-loop
 loop-again c =
     let s = c .before .before .before .before .before .before .before .before .before .before .before .before .before in
-    let a = s .args in
     rw (c .before .before .put-label .ensures, c .before .before .before .before .place-at .ensures, c .before .before .before .get .ensures)
-    (cut-step (a .frame .now) (a .start) (a .entries .now) (a .places .now) (a .labels .now) (s .pre) (c .before .before .before .before .before .before .before .before .loop .inv) (omega arith))
+    (cut-step (s .pre) (c .before .before .before .before .before .before .before .before .loop .inv) (omega arith))
 
 same-length : tie.Need-same-length Inv-loop μ-loop
 same-length c = c .before .loop .inv .labelsLength
@@ -71,8 +62,7 @@ same-length c = c .before .loop .inv .labelsLength
 returns : tie.Need-returns Inv-loop μ-loop
 returns c =
     let s = c .before .before .before .before .before .before in
-    let a = s .args in
-    cut-end (a .frame .now) (a .start) (a .entries .now) (a .places .now) (a .labels .now) (s .pre) (c .before .loop .inv) (omega arith)
+    cut-end (s .pre) (c .before .loop .inv) (omega arith)
 
 pub cut-labels-spec : {M : Type 1} → statement M
 cut-labels-spec =

@@ -1,16 +1,14 @@
-use Rattle.mapper.proofs.PointLoop.{Putting, put-start, put-step, put-end}
-use lib.ListN.{length}
+-- `mapper::write::put_points` meets its contract. The invariant: each place before i has its point. The measure is the places left.
+use native.Mathlib.Omega.{arith}
+use Prim.Native.Nat.{_-_}
+use mathlib.Core.Path.{sym, _∙_}
 use mir.ValLaws.{toZ-ofZ}
 use mir.Syntax.{w16}
-use mathlib.Core.Path.{sym, _∙_}
-use Prim.Native.Nat.{_-_}
-use native.Mathlib.Omega.{arith}
+use lib.ListN.{length}
+use Rattle.mapper.proofs.PointLoop.{Putting, put-start, put-step, put-end}
 use borrow.Author.Needs.{needs}
 use Rattle.mapper.proofs.write.put_points.Statement.{statement}
 use Rattle.mapper.proofs.write.put_points.Tie as tie
-use Rattle.mapper.proofs.write.put_points.Reads as reads
-use Rattle.mapper.proofs.write.put_points.Lts as lts
-use Rattle.constellation.proofs.map.point_by.Reads as point-by-reads
 
 abbrev Inv-loop : tie.InvT-loop
 Inv-loop layouts labels xs₀ ys₀ i₀ xs ys i = Putting layouts labels (length xs₀) xs ys i

@@ -1,15 +1,12 @@
-use Rattle.mapper.proofs.FillerLoop.{two-bits, Filling, fill-start, fill-step, fill-end}
-use lib.ListN.{length}
-use Prim.Native.Nat.{_-_}
+-- `mapper::write::set_filler` meets its contract. The invariant: the places from k on, filled from the register now, give what is asked. The
+-- measure is the monitored places left.
 use native.Mathlib.Omega.{arith}
+use Prim.Native.Nat.{_-_}
+use lib.ListN.{length}
+use Rattle.mapper.proofs.FillerLoop.{two-bits, Filling, fill-start, fill-step, fill-end}
 use borrow.Author.Needs.{needs}
 use Rattle.mapper.proofs.write.set_filler.Statement.{statement}
 use Rattle.mapper.proofs.write.set_filler.Tie as tie
-use Rattle.mapper.proofs.write.set_filler.Reads as reads
-use Rattle.mapper.proofs.write.set_filler.Lts as lts
-use Rattle.frame.proofs.by_place.place_at.Reads as place-at-reads
-use Rattle.frame.proofs.by_place.put_label.Reads as put-label-reads
-use Rattle.prbs.proofs.filler_label.Reads as filler-label-reads
 
 abbrev Inv-loop : tie.InvT-loop
 Inv-loop monitored register labels₀ next₀ k₀ labels next k = Filling monitored register labels₀ labels next k

@@ -1,16 +1,16 @@
-use Rattle.mapper.proofs.SharedLabels.{length-two, split-step, split-end}
-use Rattle.mapper.specs.Writing.{splitOnes}
-use Rattle.g9932.specs.Sizes.{entry}
-use lib.ListN.{length, take, drop}
+-- `mapper::write::split_shared` meets its contract. The invariant: the labels before i, and those from i on split, are what is asked. The
+-- measure is the places left.
+use native.Mathlib.Omega.{arith}
+use Prim.Native.Nat.{_-_, _≤_, _%_, _/_}
 use mathlib.Core.Path.{_≡_, refl, sym, _∙_}
 use mathlib.Core.List.{_++_}
-use Prim.Native.Nat.{_-_, _≤_, _%_, _/_}
-use native.Mathlib.Omega.{arith}
+use lib.ListN.{length, take, drop}
+use Rattle.g9932.specs.Sizes.{entry}
+use Rattle.mapper.specs.Writing.{splitOnes}
+use Rattle.mapper.proofs.SharedLabels.{length-two, split-step, split-end}
 use borrow.Author.Needs.{needs}
 use Rattle.mapper.proofs.write.split_shared.Statement.{statement}
 use Rattle.mapper.proofs.write.split_shared.Tie as tie
-use Rattle.mapper.proofs.write.split_shared.Reads as reads
-use Rattle.mapper.proofs.write.split_shared.Lts as lts
 
 abbrev Inv-loop : tie.InvT-loop
 Inv-loop labels₀ from i₀ labels i = (i ≤ length labels) × (length labels ≡ length labels₀) × (take i labels ++ splitOnes (drop i labels) ≡ take from labels₀ ++ splitOnes (drop from labels₀))
