@@ -1,6 +1,6 @@
--- The label of a point by a shape: the word moved up to sixteen bits, and the label moved down again.
+-- The label of a point by a layout: the word moved up to sixteen bits, and the label moved down again.
 use Prim.Native.Nat.{ℕ, zero, suc, _+_, _-_, _*_, _/_, _%_, _^_, _≤_, _<_}
-use mathlib.Core.Bool.{Bool, true, false, _&&_, _||_, not, cond}
+use mathlib.Core.Bool.{Bool, true, false, _&&_, _||_, not, cond, true≢false}
 use mathlib.Core.Path.{_≡_, refl, sym, ap, ap₂, _∙_}
 use native.Mathlib.Nat.{mul-assoc, mul-comm, add-mul, mul-div-cancel-left, mul-le-mul, mul-lt-mul-of-pos-right, mod-lt}
 use native.Mathlib.Omega.{arith}
@@ -10,10 +10,10 @@ use lib.IntN.{ℤ}
 use lib.Pow.{pow-pos, pow-mono, pow-add, shr-shr, shl-shr, mod-pow-add, low}
 use Rattle.g9932.specs.Bits.{bits, num, first}
 use Rattle.g9932.specs.Points.{labelOf, samePoint}
-use Rattle.g9932.specs.Sizes.{point, origin}
+use Rattle.g9932.specs.Sizes.{Point, point, origin}
 use Rattle.constellation.specs.Widened.{pairs, signWeight, interleaved}
 use Rattle.constellation.specs.Reading.{SoughtIs, Steps, Narrowed, topSix, inGrid}
-use Rattle.constellation.specs.Layouts.{layoutOf}
+use Rattle.constellation.specs.Layouts.{layoutOf, ToneLayout, carries, nothing}
 use Rattle.constellation.specs.DemapByLayout.{Power, IsLayout, OnAxis, WordUp, TopsBy, LabelDown, Demaps}
 use Rattle.constellation.proofs.Grid.{bit-rule, six-few}
 use Rattle.constellation.proofs.Mapping.{rule}
@@ -65,7 +65,7 @@ down-law m t w k v h e f =
 pub product-le : (m t w : ℕ) → Power m → t < 8 → (8192 * t + 2 * (w % 4096)) * (8 * (m * m)) ≤ 65535 * 32768
 product-le m t w p h = mul-le-mul {n₂ = 65535} {m₂ = 32768} (omega arith) (omega (arith, square-le m p))
 
--- ---- what a shape holds
+-- ---- what a layout holds
 
 pub record Holds (b : ℕ) : Type 0 where
   pub above : layoutOf b / 256 % 128 ≡ 2 ^ pairs b
@@ -84,11 +84,14 @@ holds (suc j) l m =
       silent = bit-rule (λ j. eqb (bitAnd (layoutOf (suc j) / 32768) (layoutOf (suc j) / 128 % 2)) 1) (λ j. false) 15 refl j (omega arith);
     }
 
-pub shaped-bits : (b : ℕ) → 1 ≤ b → b ≤ 15 → IsLayout (layoutOf b)
-shaped-bits b l m = (pairs b, omega arith, holds b l m .above, holds b l m .below)
+pub is-layout : (s : ℕ) → ToneLayout s → IsLayout s
+is-layout s (carries b l m e) = rw e (pairs b, omega arith, holds b l m .above, holds b l m .below)
+is-layout s (nothing e) = rw e (0, omega arith, refl, refl)
 
-pub shaped-silent : IsLayout silentLayout
-shaped-silent = (0, omega arith, refl, refl)
+-- a point is on a tone's constellation or off it
+pub on-or-off : (s : ℕ) (p : Point) (k l : ℕ) → ToneLayout s → Demaps s p (record { on = true; label = k }) → Demaps s p (record { on = false; label = l }) → ⊥
+on-or-off s p k l (carries b h m e) on off = true≢false (on .sought b h m e .found ∙ sym (off .sought b h m e .found))
+on-or-off s p k l (nothing e) on off = true≢false (on .silent e ∙ sym (off .silent e))
 
 -- the bits of a coordinate, moved up, are eight
 pub in-width : (layout : ℕ) (z : ℤ) (e : ℕ) (on : Bool) → IsLayout layout → OnAxis (4 * (layout / 256 % 128)) z e on → e * (layout % 128) < 256

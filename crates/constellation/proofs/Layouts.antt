@@ -1,4 +1,4 @@
--- The shape table holds the shapes.
+-- The layout table holds the layouts.
 use native.Mathlib.Omega.{arith}
 use Prim.Native.Nat.{ℕ, suc, zero, _≤_, _<_}
 use mathlib.Core.Path.{_≡_, refl}

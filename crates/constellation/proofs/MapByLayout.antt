@@ -1,24 +1,24 @@
--- The steps of `points`: a label lifted to the top of sixteen bits, its word there, and the bits of X and Y scaled back.
+-- The steps of `point_by`: a label lifted to the top of sixteen bits, its word there, and the bits of X and Y scaled back.
 use Prim.Native.Nat.{ℕ, zero, suc, _+_, _-_, _*_, _/_, _%_, _^_, _≤_, _<_}
-use mathlib.Core.Bool.{Bool}
+use mathlib.Core.Bool.{Bool, true, false, not, cond}
 use mathlib.Core.List.{List, _++_, map}
 use mathlib.Core.Path.{_≡_, refl, sym, ap, ap₂, _∙_}
-use native.Mathlib.Nat.{mul-zero, mul-comm, mul-assoc, add-mul, add-comm, mul-le-mul-right, mod-lt, pow-suc}
+use native.Mathlib.Nat.{mul-zero, mul-one, mul-comm, mul-assoc, add-mul, add-comm, mul-le-mul-left, mul-le-mul-right, mod-lt, pow-suc}
 use native.Mathlib.Omega.{arith}
 use borrow.Author.Tests.{ne-eqb}
 use lib.Arith.{digits-lt}
-use lib.Bits.{bitAnd}
-use lib.Dec.{eqb}
+use lib.Bits.{bitAnd, and-le-l}
+use lib.Dec.{eqb, ltb}
 use lib.ListN.{length}
 use lib.Pow.{pow-pos, pow-mono, pow-add, shr-shr, shl-shr, shr-le, split, high, field}
 use Rattle.g9932.specs.Bits.{weight, num, odd, bits, first}
 use Rattle.g9932.specs.Points.{evens, pointOf}
 use Rattle.g9932.specs.Sizes.{point, origin}
-use Rattle.g9932.specs.declared.Found.the-variants.{At}
+use Rattle.g9932.specs.declared.Found.the-variants.{At, Nothing}
 use Rattle.g9932.proofs.Words.{half-weight}
-use Rattle.constellation.specs.Widened.{pairs, mappingLabel, topFive, topFour, widened, xBits, yBits, signWeight, axis}
-use Rattle.constellation.specs.Layouts.{layoutOf}
-use Rattle.constellation.specs.MapByLayout.{Mappable, tone, silent, StandsFor, lower, upper, pairsPoint, layoutPoint, liftedLabel, spreadWord, scaled}
+use Rattle.constellation.specs.Widened.{pairs as pairsOf, mappingLabel, topFive, topFour, widened, xBits, yBits, signWeight, axis}
+use Rattle.constellation.specs.Layouts.{layoutOf, silentLayout}
+use Rattle.constellation.specs.MapByLayout.{Mappable, label, silent, MapsTo, Liftable, pairs, none, lower, upper, pairsPoint, layoutPoint, liftedLabel, spreadWord, scaled}
 use Rattle.constellation.proofs.Lanes.{Slot, full, worth, gaps, gaps-worth, full-worth, bits-held, masked, squeeze, squeezed, mask-held, squeeze-held, OfBits, of-bits, twice}
 use Rattle.constellation.proofs.Mapping.{rule, point-word}
 use Rattle.constellation.proofs.Sizes.{evens-long, evens-more, evens-lt, odds-evens, label-lt}
@@ -143,15 +143,15 @@ module _ (k l : ℕ) (h : k ≤ 6) where
 square : (k : ℕ) → k ≤ 6 → 2 ^ (6 - k) * 2 ^ (6 - k) ≡ 2 ^ (12 - 2 * k)
 square k h = let n : 6 - k + (6 - k) ≡ 12 - 2 * k = omega arith in sym (pow-add 2 (6 - k) (6 - k)) ∙ ap (λ (m : ℕ). 2 ^ m) n
 
-pub shaped-lifted : (s l : ℕ) → Mappable s l → (lower s ≤ 64) × (liftedLabel (lower s * lower s) l < 65536)
-shaped-lifted s l (tone k h c m i) =
+pub liftable-label : (s l : ℕ) → Liftable s l → (lower s ≤ 64) × (liftedLabel (lower s * lower s) l < 65536)
+liftable-label s l (pairs k h c m i) =
     let small : 2 ^ (6 - k) ≤ 2 ^ 6 = pow-mono {i = 6 - k} {j = 6} (omega arith) in
     rw (c, square k h) (small, lifted-lt k l h i)
-shaped-lifted s l (silent c m) = rw c (omega arith, omega arith)
+liftable-label s l (none c m) = rw c (omega arith, omega arith)
 
-pub shaped-upper : (s l : ℕ) → Mappable s l → upper s ≤ 64
-shaped-upper s l (tone k h c m i) = rw m (pow-mono {i = k} {j = 6} h)
-shaped-upper s l (silent c m) = rw m (omega arith)
+pub liftable-upper : (s l : ℕ) → Liftable s l → upper s ≤ 64
+liftable-upper s l (pairs k h c m i) = rw m (pow-mono {i = k} {j = 6} h)
+liftable-upper s l (none c m) = rw m (omega arith)
 
 pairs-found : (k : ℕ) → k ≤ 6 → first (λ j. eqb (2 ^ j) (2 ^ k)) 7 ≡ At k
 unfolding first
@@ -175,35 +175,96 @@ silent-point s l m = rw m
 scaled-pow : (k e : ℕ) → scaled (2 ^ k) e ≡ axis (signWeight k) (e * 2 ^ k / 64)
 scaled-pow k e = rw (ne-eqb (2 ^ k) 0 (λ z. absurd (omega (arith, z, pow-pos k))))
 
--- The point that the code makes of a shape and a label.
-pub shaped-point : (s l w : ℕ) → Mappable s l → w < 65536 → w ≡ spreadWord (liftedLabel (lower s * lower s) l)
+-- The point that the code makes of a layout and a mapping label.
+pub liftable-point : (s l w : ℕ) → Liftable s l → w < 65536 → w ≡ spreadWord (liftedLabel (lower s * lower s) l)
     → point (scaled (upper s) (yBits (w / 2))) (scaled (upper s) (yBits w)) ≡ layoutPoint s l
-shaped-point s l w (tone k h c m i) n e =
+liftable-point s l w (pairs k h c m i) n e =
     let word : w / 2 ^ (12 - 2 * k) ≡ widened k l = ap (λ (v : ℕ). v / 2 ^ (12 - 2 * k)) (e ∙ ap (λ (v : ℕ). spreadWord (liftedLabel v l)) (ap₂ (λ (a b : ℕ). a * b) c c ∙ square k h)) ∙ spread-high k l h in
     let x = ap (λ (v : ℕ). v * 2 ^ k / 64) (x-bits w n) ∙ sym (fewer-x k w h n) ∙ ap (λ (v : ℕ). xBits v) word in
     let y = sym (fewer-y k w h n) ∙ ap (λ (v : ℕ). yBits v) word in
     rw (m, scaled-pow k (yBits (w / 2)), scaled-pow k (yBits w)) (ap₂ point (ap (axis (signWeight k)) x) (ap (axis (signWeight k)) y) ∙ sym (pairs-point s l k h m))
-shaped-point s l w (silent c m) n e = rw (m, silent-point s l m)
+liftable-point s l w (none c m) n e = rw (m, silent-point s l m)
 
--- ---- a label's own shape
+-- ---- a label's own layout
 
-upper-layout : (j : ℕ) → j < 15 → upper (layoutOf (suc j)) ≡ 2 ^ pairs (suc j)
-unfolding first
-upper-layout = rule (λ j. upper (layoutOf (suc j))) (λ j. 2 ^ pairs (suc j)) 15 refl
+-- 0 for a silent tone; the label where it is not silent; the mapping label
+abbrev live : ℕ → ℕ
+live s = 1 - bitAnd (s / 32768) (s / 128 % 2)
 
-lower-layout : (j : ℕ) → j < 15 → lower (layoutOf (suc j)) ≡ 2 ^ (6 - pairs (suc j))
-unfolding first
-lower-layout = rule (λ j. lower (layoutOf (suc j))) (λ j. 2 ^ (6 - pairs (suc j))) 15 refl
+abbrev own : ℕ → ℕ → ℕ
+own s l = l * live s
 
-pub label-stands : (b l : ℕ) → 1 ≤ b → b ≤ 15 → l < 2 ^ b → StandsFor (layoutOf b) (mappingLabel b l) (pointOf b (bits b l))
-label-stands zero l h k s = absurd (omega arith)
-label-stands (suc j) l h k s =
-    let most : pairs (suc j) ≤ 6 = omega arith in
-    let m = upper-layout j (omega arith) in
+abbrev mapping : ℕ → ℕ → ℕ
+mapping s l = own s l + 2 * (s / 32768 * own s l)
+
+module _ (b : ℕ) (h : 1 ≤ b) (k : b ≤ 15) where
+  by-count : (f g : ℕ → ℕ) → first (λ j. not (eqb (f (suc j)) (g (suc j)))) 15 ≡ Nothing → f b ≡ g b
+  by-count f g e = let n : suc (b - 1) ≡ b = omega arith in rw n at (rule (λ j. f (suc j)) (λ j. g (suc j)) 15 e (b - 1) (omega arith))
+
+  upper-layout : upper (layoutOf b) ≡ 2 ^ pairsOf b
+  unfolding first
+  upper-layout = by-count (λ b. upper (layoutOf b)) (λ b. 2 ^ pairsOf b) refl
+
+  lower-layout : lower (layoutOf b) ≡ 2 ^ (6 - pairsOf b)
+  unfolding first
+  lower-layout = by-count (λ b. lower (layoutOf b)) (λ b. 2 ^ (6 - pairsOf b)) refl
+
+  live-layout : live (layoutOf b) ≡ 1
+  unfolding first
+  live-layout = by-count (λ b. live (layoutOf b)) (λ b. 1) refl
+
+  one-layout : layoutOf b / 32768 ≡ cond (ltb b 2) 1 0
+  unfolding first
+  one-layout = by-count (λ b. layoutOf b / 32768) (λ b. cond (ltb b 2) 1 0) refl
+
+  one-label : (l : ℕ) → mapping (layoutOf b) l ≡ mappingLabel b l
+  one-label l = rw (live-layout, one-layout, mul-one) (by (ltb b 2))
+    where
+      by : (c : Bool) → l + 2 * (cond c 1 0 * l) ≡ cond c (3 * l) l
+      by true = omega arith
+      by false = omega arith
+
+  module _ (l : ℕ) (s : l < 2 ^ b) where
+    label-liftable : Liftable (layoutOf b * live (layoutOf b)) (mapping (layoutOf b) l)
+    label-liftable = rw (one-label l, live-layout, mul-one) (pairs (pairsOf b) (omega arith) lower-layout upper-layout (label-lt b l h s))
+
+    label-small : mapping (layoutOf b) l < 65536
+    label-small =
+        let most : 2 ^ (2 * pairsOf b + 3) ≤ 2 ^ 15 = pow-mono {i = 2 * pairsOf b + 3} {j = 15} (omega arith) in
+        rw (one-label l) (omega (arith, label-lt b l h s))
+
+    label-point : layoutPoint (layoutOf b * live (layoutOf b)) (mapping (layoutOf b) l) ≡ pointOf b (bits b l)
+    label-point =
+        rw (one-label l, live-layout, mul-one)
+        (pairs-point (layoutOf b) (mappingLabel b l) (pairsOf b) (omega arith) upper-layout ∙ sym (point-word b l h k s))
+
+-- no product of the steps is too large
+pub record StepsFit (s l : ℕ) : Type 0 where
+  pub both : bitAnd (s / 32768) (s / 128 % 2) ≤ 1
+  pub ownFits : own s l < 65536
+  pub mappingFits : mapping s l < 65536
+  pub layoutFits : s * live s < 65536
+  pub liftable : Liftable (s * live s) (mapping s l)
+
+pub mappable-fits : (s l : ℕ) → s < 65536 → l < 65536 → Mappable s l → StepsFit s l
+mappable-fits s l h k m =
+    let a : l * live s ≤ l * 1 = mul-le-mul-left l (omega arith) in
+    let b : s * live s ≤ s * 1 = mul-le-mul-left s (omega arith) in
     record {
-      shaped = tone (pairs (suc j)) most (lower-layout j (omega arith)) m (label-lt (suc j) l h s);
-      pointIs = pairs-point (layoutOf (suc j)) (mappingLabel (suc j) l) (pairs (suc j)) most m ∙ sym (point-word (suc j) l h k s);
+      both = omega (arith, and-le-l (s / 32768) (s / 128 % 2));
+      ownFits = omega arith;
+      mappingFits = of m .0;
+      layoutFits = omega arith;
+      liftable = of m .1;
     }
+  where
+    of : Mappable s l → (mapping s l < 65536) × Liftable (s * live s) (mapping s l)
+    of (label b f t e i) = rw e (label-small b f t l i, label-liftable b f t l i)
+    of (silent e) = rw e (omega arith, none refl refl)
 
-pub silent-stands : (l : ℕ) → StandsFor 0 l origin
-silent-stands l = record { shaped = silent refl refl; pointIs = silent-point 0 l refl }
+pub maps-to : (s l : ℕ) → MapsTo s l (layoutPoint (s * live s) (mapping s l))
+maps-to s l =
+    record {
+      tone = λ b h k e i. rw e (label-point b h k l i);
+      silent = λ e. rw e (silent-point 0 (mapping silentLayout l) refl);
+    }

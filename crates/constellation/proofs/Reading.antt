@@ -48,7 +48,7 @@ interleaved-word k x y h hx hy =
     let ny : num (bits 8 y) ≡ y = num-bits 8 y ∙ mod-eq-of-lt (omega arith) in
     rw e at (interleaved-lt (suc (suc k)) (bits 8 x) (bits 8 y) (omega arith) (omega arith))
 
--- ---- the label back from the odd one
+-- ---- the label back from its mapping label
 
 own-label : (b m : ℕ) → 1 ≤ b → m < 2 ^ b → ownLabel b (mappingLabel b m) ≡ m
 own-label b m h s = go (ltb b 2) refl

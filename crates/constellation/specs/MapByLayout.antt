@@ -1,26 +1,40 @@
--- A tone as the functions that take many tones at a time have it: the shape of its bit count, 0 where it is silent, and its odd label.
+-- The point of a label by a layout (specs/Layouts), and the steps to it.
 use Prim.Native.Nat.{ℕ, _+_, _-_, _*_, _/_, _%_, _^_, _≤_, _<_}
 use mathlib.Core.Bool.{cond}
 use mathlib.Core.Path.{_≡_}
 use lib.Dec.{eqb}
 use lib.IntN.{ℤ, pos}
-use Rattle.g9932.specs.Bits.{first}
+use Rattle.g9932.specs.Bits.{bits, first}
+use Rattle.g9932.specs.Points.{pointOf}
 use Rattle.g9932.specs.Sizes.{Point, point, origin}
 use Rattle.g9932.specs.declared.Found.{Found}
 use Rattle.g9932.specs.declared.Found.the-variants.{At, Nothing}
+use Rattle.constellation.specs.Layouts.{layoutOf, silentLayout}
 use Rattle.constellation.specs.Widened.{topFour, widened, xBits, yBits, signWeight, axis}
 
--- the two powers that a shape holds
+-- the label goes with the layout
+pub data Mappable (s l : ℕ) : Type 0 where
+  label : (b : ℕ) → 1 ≤ b → b ≤ 15 → s ≡ layoutOf b → l < 2 ^ b → Mappable s l
+  silent : s ≡ silentLayout → Mappable s l
+
+-- the point of a label, by the layout of b bits; a silent tone's is the origin
+pub record MapsTo (s l : ℕ) (p : Point) : Type 0 where
+  pub tone : (b : ℕ) → 1 ≤ b → b ≤ 15 → s ≡ layoutOf b → l < 2 ^ b → p ≡ pointOf b (bits b l)
+  pub silent : s ≡ silentLayout → p ≡ origin
+
+-- ---- the steps of the code: a mapping label, with the layout, or with 0 for a silent tone
+
+-- the two powers that a layout holds
 abbrev pub lower : ℕ → ℕ
 lower s = s % 128
 
 abbrev pub upper : ℕ → ℕ
 upper s = s / 256 % 128
 
--- the label goes with the shape: it has the three bits above k pairs, or the tone is silent
-pub data Mappable (s l : ℕ) : Type 0 where
-  tone : (k : ℕ) → k ≤ 6 → lower s ≡ 2 ^ (6 - k) → upper s ≡ 2 ^ k → l < 2 ^ (2 * k + 3) → Mappable s l
-  silent : lower s ≡ 0 → upper s ≡ 0 → Mappable s l
+-- the label has three bits above k pairs, or the tone is silent
+pub data Liftable (s l : ℕ) : Type 0 where
+  pairs : (k : ℕ) → k ≤ 6 → lower s ≡ 2 ^ (6 - k) → upper s ≡ 2 ^ k → l < 2 ^ (2 * k + 3) → Liftable s l
+  none : lower s ≡ 0 → upper s ≡ 0 → Liftable s l
 
 -- the point of a label with k pairs
 abbrev pub pairsPoint : ℕ → ℕ → Point
@@ -30,16 +44,9 @@ abbrev pub foundPoint : Found → ℕ → Point
 foundPoint (At k) l = pairsPoint k l
 foundPoint Nothing l = origin
 
--- the point of a tone: its pairs are those whose power the shape holds
+-- the point of a mapping label: its pairs are those whose power the layout holds
 unfoldable pub layoutPoint : ℕ → ℕ → Point
 layoutPoint s l = foundPoint (first (λ k. eqb (2 ^ k) (upper s)) 7) l
-
--- a shape and a label stand for a point
-pub record StandsFor (s l : ℕ) (p : Point) : Type 0 where
-  pub shaped : Mappable s l
-  pub pointIs : layoutPoint s l ≡ p
-
--- ---- the steps of the code
 
 -- a label above the bits below it, m being 4 to the (6 less the pairs)
 abbrev pub liftedLabel : ℕ → ℕ → ℕ

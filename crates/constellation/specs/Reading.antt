@@ -27,7 +27,7 @@ pub record Steps (h : ℕ) (z : ℤ) (u : ℕ) : Type 0 where
 abbrev pub Narrowed : ℕ → ℕ → ℕ → Type 0
 Narrowed k w l = (m : ℕ) → m < 2 ^ (2 * k + 3) → w ≡ widened k m → l ≡ m
 
--- the label of b bits, from the odd one
+-- the label of b bits, from its mapping label
 abbrev pub ownLabel : ℕ → ℕ → ℕ
 ownLabel b l = cond (ltb b 2) (l % 2) l
 

@@ -14,7 +14,7 @@ use Rattle.g9932.specs.Points.{evens, odds, table10-3}
 abbrev pub pairs : ℕ → ℕ
 pairs b = b / 2 - 1
 
--- the label of an odd bit count that has the same point
+-- the label of an odd bit count from 3 that has the same point
 abbrev pub mappingLabel : ℕ → ℕ → ℕ
 mappingLabel b l = cond (ltb b 2) (3 * l) l
 

@@ -1,4 +1,4 @@
-// Labels of points by a tone's shape (specs/Shapes), in numbers of sixteen bits and with no branch: a loop over many points takes eight at a
+// Labels of points by a tone's layout (specs/Layouts), in numbers of sixteen bits and with no branch: a loop over many points takes eight at a
 // time.
 ghost use mathlib.Core.Path.{_≡_};
 ghost use mathlib.Core.Bool.{cond};
@@ -123,7 +123,7 @@ fn label_below(m: u16, three: u16, word: u16) -> u16
     ((lifted as u32 * (8 * (m * m)) as u32) >> 16) as u16
 }
 
-// Whether a tone of a shape can have a point, and the point's label. A silent tone's has both of the bits 7 and 15. Called by proved code only.
+// Whether a tone of a layout can have a point, and the point's label. A silent tone's has both of the bits 7 and 15. Called by proved code only.
 pub fn label_by(layout: u16, x: i16, y: i16) -> PointLabel
     requires { ⌜ IsLayout layout ⌝ }
     ensures { λ r. ⌜ Demaps layout (point x y) r ⌝ }

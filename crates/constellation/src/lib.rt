@@ -80,7 +80,7 @@ fn pairs(b: u32) -> u32
     if b < 2 { 0 } else { b / 2 - 1 }
 }
 
-// The label of an odd bit count that has the same point. Called by proved code only.
+// The mapping label: that of an odd bit count from 3 that has the same point. Called by proved code only.
 pub fn mapping_label(b: u32, label: u32) -> u32
     requires { ⌜ label < 32768 ⌝ }
     ensures { λ r. ⌜ r ≡ mappingLabel b label ⌝ }
@@ -205,7 +205,7 @@ fn narrowed(k: u32, word: u32, six: u32) -> u32
     word ^ (narrowing << (2 * k))
 }
 
-// The label of b bits, from the odd one.
+// The label of b bits, from its mapping label.
 fn own_label(b: u32, label: u32) -> u32
     ensures { λ r. ⌜ r ≡ ownLabel b label ⌝ }
 {

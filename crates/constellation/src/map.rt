@@ -3,7 +3,7 @@ ghost use mathlib.Core.Path.{_≡_};
 ghost use Prim.Native.Nat.{_*_, _<_, _≤_};
 ghost use Rattle.g9932.specs.Sizes.{point};
 ghost use Rattle.constellation.specs.Widened.{topFour, yBits};
-ghost use Rattle.constellation.specs.MapByLayout.{Mappable, layoutPoint, liftedLabel, spreadWord, scaled};
+ghost use Rattle.constellation.specs.MapByLayout.{Mappable, MapsTo, Liftable, layoutPoint, liftedLabel, spreadWord, scaled};
 use super::Coordinates;
 
 // A label with its top bit in bit 15; below it stands what a three-bit label's top five bits have. c is 2 to the (6 less the pairs).
@@ -61,9 +61,9 @@ fn coordinate(e: u16, m: u16) -> i16
     (2 * ((e * m) >> 6) + one) as i16 - (4 * m) as i16
 }
 
-// The point of a label, by the shape of its bit count. Called by proved code only.
-pub fn point_by(layout: u16, label: u16) -> Coordinates
-    requires { ⌜ Mappable layout label ⌝ }
+// The point of a mapping label, by the powers of a layout; the origin where these are 0.
+fn widened_point(layout: u16, label: u16) -> Coordinates
+    requires { ⌜ Liftable layout label ⌝ }
     ensures { λ r. ⌜ point (r .x) (r .y) ≡ layoutPoint layout label ⌝ }
 {
     let w = spread(lifted(layout % 128, label));
@@ -72,4 +72,16 @@ pub fn point_by(layout: u16, label: u16) -> Coordinates
         x: coordinate(evens(w / 2), m),
         y: coordinate(evens(w), m),
     }
+}
+
+// The point of a label, by the layout of its tone. A tone of 1 bit is mapped by three times its label; a silent tone has both of the
+// bits 7 and 15, and gets the point of layout 0. Called by proved code only.
+pub fn point_by(layout: u16, label: u16) -> Coordinates
+    requires { ⌜ Mappable layout label ⌝ }
+    ensures { λ r. ⌜ MapsTo layout label (point (r .x) (r .y)) ⌝ }
+{
+    let one = layout / 32768;
+    let live = 1 - (one & (layout / 128 % 2));
+    let own = label * live;
+    widened_point(layout * live, own + 2 * (one * own))
 }

@@ -1,16 +1,17 @@
 -- Points to labels by place, and these to frame bits.
-use Prim.Native.Nat.{ℕ, _+_, _*_, _^_, _≤_, _<_}
+use Prim.Native.Nat.{ℕ, _+_, _*_, _≤_, _<_}
 use mathlib.Core.Bool.{Bool, true, false, not}
 use mathlib.Core.List.{List, [], _∷_, _++_}
 use mathlib.Core.Path.{_≡_}
 use lib.Dec.{eqb}
 use lib.IntN.{ℤ, pos}
 use lib.ListN.{length, getD}
-use Rattle.constellation.specs.DemapByLayout.{IsLayout, Demaps}
+use Rattle.constellation.specs.DemapByLayout.{Demaps}
+use Rattle.constellation.specs.Layouts.{ToneLayout}
 use Rattle.frame.specs.Labels.{bitsOfLabels, Within, labelsAt, Rising}
 use Rattle.frame.specs.Written.{written, Waits, count}
 use Rattle.frame.specs.declared.BitWriter.{BitWriter}
-use Rattle.g9932.specs.Bits.{num, orAt, first}
+use Rattle.g9932.specs.Bits.{num, orAt}
 use Rattle.g9932.specs.Filler.{drawn, afterDraws}
 use Rattle.g9932.specs.Order.{sum}
 use Rattle.g9932.specs.Sizes.{entry, Point, point}
@@ -26,7 +27,7 @@ pointAt xs ys i = point (getD xs i (pos 0)) (getD ys i (pos 0))
 pub record DemapNeeds (layouts : List ℕ) (xs ys : List ℤ) : Type 0 where
   pub layoutsLength : length layouts ≡ length xs
   pub ysLength : length ys ≡ length xs
-  pub layouts : (i : ℕ) → i < length xs → IsLayout (entry layouts i)
+  pub ofTones : (i : ℕ) → i < length xs → ToneLayout (entry layouts i)
 
 pub record LabelNeeds (layouts : List ℕ) (xs ys : List ℤ) (labels : List ℕ) : Type 0 where
   pub points : DemapNeeds layouts xs ys
@@ -73,7 +74,7 @@ pub record ChecksFiller (ms : List ℕ) (r : ℕ) (labels : List ℕ) (f : Fille
 abbrev pub joinOnes : List ℕ → List ℕ
 joinOnes [] = []
 joinOnes (a ∷ []) = a ∷ []
-joinOnes (a ∷ b ∷ ls) = a + 2 * b ∷ b ∷ joinOnes ls
+joinOnes (a ∷ b ∷ ls) = (a + 2 * b) ∷ b ∷ joinOnes ls
 
 pub record JoinNeeds (labels : List ℕ) (from : ℕ) : Type 0 where
   pub inside : from ≤ length labels

@@ -30,7 +30,7 @@ pub record CutsLabels (frame : List ℕ) (start : ℕ) (es ps after : List ℕ) 
 abbrev pub splitOnes : List ℕ → List ℕ
 splitOnes [] = []
 splitOnes (a ∷ []) = a ∷ []
-splitOnes (a ∷ b ∷ ls) = a % 2 ∷ a / 2 ∷ splitOnes ls
+splitOnes (a ∷ b ∷ ls) = (a % 2) ∷ (a / 2) ∷ splitOnes ls
 
 -- ---- filler bits
 

@@ -2,8 +2,7 @@
 ghost use mathlib.Core.Path.{_≡_};
 ghost use mathlib.Core.Bool.{not};
 ghost use mathlib.Core.List.{_++_};
-ghost use Prim.Native.Nat.{_≤_};
-ghost use lib.ListN.{length, take, drop};
+ghost use lib.ListN.{take, drop};
 ghost use Rattle.g9932.specs.Bits.{orAt};
 ghost use Rattle.mapper.specs.Writing.{FillerNeeds};
 ghost use Rattle.mapper.specs.Reading.{joinOnes, DemapNeeds, LabelNeeds, DemapsAll, OffAt, DemapsPoints, ChecksFiller, JoinNeeds, CollectNeeds, CollectsLabels};

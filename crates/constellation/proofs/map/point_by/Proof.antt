@@ -1,59 +1,45 @@
--- `constellation::map::point_by` meets its contract: the word of the label at the top of sixteen bits, and each half of it scaled back.
+-- `constellation::map::point_by` meets its contract: the layout and the mapping label go with each other, and no product is too large.
 use native.Mathlib.Omega.{arith}
-use Prim.Native.Nat.{ℕ, _/_}
-use mathlib.Core.Path.{ap, ap₂, _∙_}
-use mir.Syntax.{w16}
-use mir.ValLaws.{toZ-ofZ}
-use Rattle.g9932.specs.Sizes.{point}
-use Rattle.constellation.specs.MapByLayout.{spreadWord, upper, scaled}
-use Rattle.constellation.proofs.MapByLayout.{bits-256, shaped-lifted, shaped-upper, shaped-point}
-use borrow.Author.Needs.{needs}
+use Rattle.constellation.proofs.MapByLayout.{StepsFit, mappable-fits, maps-to}
 use Rattle.constellation.proofs.map.point_by.Statement.{statement}
 use Rattle.constellation.proofs.map.point_by.Tie as tie
 
-lifted-requires : tie.Need-lifted-requires
-lifted-requires c κs = shaped-lifted (c .args .layout) (c .args .label) (c .pre)
+fits : (c : tie.Start) → StepsFit (c .args .layout) (c .args .label)
+fits c = mappable-fits (c .args .layout) (c .args .label) (omega arith) (omega arith) (c .pre)
 
-spread-requires : tie.Need-spread-requires
-spread-requires c κs = search needs
+sub-live : tie.Need-sub-live
+sub-live c = omega (arith, fits c .both)
 
-evens-requires : tie.Need-evens-requires
-evens-requires c κs = search needs
+mul-own : tie.Need-mul-own
+mul-own c = omega (arith, fits c .ownFits)
 
-coordinate-requires : tie.Need-coordinate-requires
-coordinate-requires c κs =
-    let s = c .before .before .before in
-    (rw (c .evens .ensures) (bits-256 (c .before .spread .result / 2)), shaped-upper (s .args .layout) (s .args .label) (s .pre))
+mul-widened-point : tie.Need-mul-widened-point
+mul-widened-point c = omega (arith, fits c .layoutFits)
 
-evens-requires-2 : tie.Need-evens-requires-2
-evens-requires-2 c κs = search needs
+mul-widened-point-2 : tie.Need-mul-widened-point-2
+mul-widened-point-2 c = omega (arith, fits c .mappingFits)
 
-coordinate-requires-2 : tie.Need-coordinate-requires-2
-coordinate-requires-2 c κs =
-    let s = c .before .before .before .before .before in
-    (rw (c .evens2 .ensures) (bits-256 (c .before .before .before .spread .result)), shaped-upper (s .args .layout) (s .args .label) (s .pre))
+mul-widened-point-3 : tie.Need-mul-widened-point-3
+mul-widened-point-3 c = omega (arith, fits c .mappingFits)
+
+add-widened-point : tie.Need-add-widened-point
+add-widened-point c = omega (arith, fits c .mappingFits)
+
+widened-point-requires : tie.Need-widened-point-requires
+widened-point-requires c κs = fits c .liftable
 
 returns : tie.Need-returns
-returns c =
-    let e2 = c .before in
-    let c1 = e2 .before in
-    let e1 = c1 .before in
-    let sp = e1 .before in
-    let s = sp .before .before in
-    let m = upper (s .args .layout) in
-    let x = toZ-ofZ w16 (c1 .coordinate .result) (record { sfits = c1 .coordinate .ok }) ∙ c1 .coordinate .ensures ∙ ap (scaled m) (e1 .evens .ensures) in
-    let y = toZ-ofZ w16 (c .coordinate2 .result) (record { sfits = c .coordinate2 .ok }) ∙ c .coordinate2 .ensures ∙ ap (scaled m) (e2 .evens2 .ensures) in
-    ap₂ point x y
-    ∙ shaped-point (s .args .layout) (s .args .label) (sp .spread .result) (s .pre) (omega arith) (sp .spread .ensures ∙ ap (λ (a : ℕ). spreadWord a) (sp .before .lifted .ensures))
+returns c = rw (c .widened-point .ensures) (maps-to (c .before .args .layout) (c .before .args .label))
 
 pub point-by-spec : {M : Type 1} → statement M
 point-by-spec =
     tie.close
     (tie.spec
-    lifted-requires
-    spread-requires
-    evens-requires
-    coordinate-requires
-    evens-requires-2
-    coordinate-requires-2
+    sub-live
+    mul-own
+    mul-widened-point
+    mul-widened-point-2
+    mul-widened-point-3
+    add-widened-point
+    widened-point-requires
     returns)

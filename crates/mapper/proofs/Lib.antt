@@ -1,0 +1,6 @@
+-- The loops of the passes, one idea a file: a frame cut into labels, labels collected, labels that two tones share, filler bits, points.
+pub mod CutLoop
+pub mod CollectLoop
+pub mod SharedLabels
+pub mod FillerLoop
+pub mod PointLoop

@@ -1,0 +1,116 @@
+-- Points by place: each place before i has its point, or its label, or none.
+use Prim.Native.Nat.{ℕ, _+_, _≤_, _<_}
+use native.Mathlib.Omega.{arith}
+use borrow.Author.Count.{below-more}
+use mathlib.Core.Bool.{Bool, true, false, _&&_, and-eq-true-iff, true≢false}
+use mathlib.Core.List.{List}
+use mathlib.Core.Path.{_≡_, refl, _∙_}
+use lib.IntN.{ℤ, pos}
+use lib.ListN.{length, set, length-set}
+use lib.Seq.{getD-set-same, getD-set-other}
+use Rattle.constellation.proofs.DemapByLayout.{on-or-off}
+use Rattle.constellation.specs.DemapByLayout.{Demaps}
+use Rattle.constellation.specs.MapByLayout.{MapsTo}
+use Rattle.constellation.specs.declared.demap.PointLabel.{PointLabel}
+use Rattle.g9932.specs.Sizes.{entry, Point, point}
+use Rattle.g9932.specs.declared.Found.{Found}
+use Rattle.g9932.specs.declared.Found.the-variants.{Nothing}
+use Rattle.mapper.specs.Writing.{PutsPoints}
+use Rattle.mapper.specs.Reading.{pointAt, DemapNeeds, LabelIs, Off, DemapsAll, OffAt, DemapsPoints}
+
+-- ---- points put
+
+pub record Putting (layouts labels : List ℕ) (n : ℕ) (xs ys : List ℤ) (i : ℕ) : Type 0 where
+  pub xsLength : length xs ≡ n
+  pub ysLength : length ys ≡ n
+  pub soFar : (j : ℕ) → j < i → MapsTo (entry layouts j) (entry labels j) (pointAt xs ys j)
+
+pub put-start : (layouts labels : List ℕ) (xs ys : List ℤ) → length ys ≡ length xs → Putting layouts labels (length xs) xs ys 0
+put-start layouts labels xs ys h = record { xsLength = refl; ysLength = h; soFar = λ j l. absurd (omega arith) }
+
+module _ {layouts labels : List ℕ} {n : ℕ} {xs ys : List ℤ} {i : ℕ} (g : Putting layouts labels n xs ys i) where
+  pub put-end : n ≤ i → PutsPoints layouts labels xs ys
+  put-end h = record { points = λ j l. g .soFar j (omega (arith, g .xsLength)) }
+
+  pub put-step : i < n → (x y : ℤ) → MapsTo (entry layouts i) (entry labels i) (point x y) → Putting layouts labels n (set xs i x) (set ys i y) (i + 1)
+  put-step h x y maps =
+      record { xsLength = length-set xs i x ∙ g .xsLength; ysLength = length-set ys i y ∙ g .ysLength; soFar = below-more put i before here }
+    where
+      put : ℕ → Type 0
+      put j = MapsTo (entry layouts j) (entry labels j) (pointAt (set xs i x) (set ys i y) j)
+
+      here : put i
+      here = rw (getD-set-same xs i x (pos 0) (omega (arith, g .xsLength)), getD-set-same ys i y (pos 0) (omega (arith, g .ysLength))) maps
+
+      before : (j : ℕ) → j < i → put j
+      before j k =
+          let n : (j ≡ i → ⊥) = λ e. absurd (omega arith) in
+          rw (getD-set-other xs i j x (pos 0) n, getD-set-other ys i j y (pos 0) n) (g .soFar j k)
+
+-- ---- points demapped
+
+-- what the code tells of a point, by its answer
+pub told : {s : ℕ} {p : Point} {r : PointLabel} {o : Bool} → Demaps s p r → r .on ≡ o → Demaps s p (record { on = o; label = r .label })
+told seen e =
+    record {
+      sought = λ b low high f. rw e at (seen .sought b low high f);
+      silent = λ f. rw e at (seen .silent f);
+    }
+
+pub record Demapping (layouts : List ℕ) (xs ys : List ℤ) (labels : List ℕ) (all : Bool) (i : ℕ) : Type 0 where
+  pub inside : i ≤ length xs
+  pub labelsLength : length labels ≡ length xs
+  pub every : all ≡ true → (j : ℕ) → j < i → LabelIs (entry layouts j) (pointAt xs ys j) (entry labels j)
+  pub some : all ≡ false → (j : ℕ) × (j < i) × Off (entry layouts j) (pointAt xs ys j)
+
+pub demap-start : (layouts : List ℕ) (xs ys : List ℤ) (labels : List ℕ) → length labels ≡ length xs → Demapping layouts xs ys labels true 0
+demap-start layouts xs ys labels n =
+    record { inside = omega arith; labelsLength = n; every = λ e j h. absurd (omega arith); some = λ e. absurd (true≢false e) }
+
+module _ {layouts : List ℕ} {xs ys : List ℤ} {labels : List ℕ} {all : Bool} {i : ℕ} (g : Demapping layouts xs ys labels all i) where
+  pub demap-end : length xs ≤ i → DemapsAll layouts xs ys labels all
+  demap-end h =
+      record {
+        every = λ e j k. g .every e j (omega arith);
+        some = λ e. let w = g .some e in (w .0, omega (arith, w .1, g .inside), w .2);
+        labelsLength = g .labelsLength;
+      }
+
+  pub demap-step : i < length xs → (r : PointLabel) → Demaps (entry layouts i) (pointAt xs ys i) r
+      → Demapping layouts xs ys (set labels i (r .label)) (all && r .on) (i + 1)
+  demap-step h r seen =
+      record {
+        inside = omega arith;
+        labelsLength = length-set labels i (r .label) ∙ g .labelsLength;
+        every = λ e. let both = and-eq-true-iff all (r .on) .0 e in below-more has i (before (both .0)) (here (both .1));
+        some = some all (r .on) refl refl;
+      }
+    where
+      has : ℕ → Type 0
+      has j = LabelIs (entry layouts j) (pointAt xs ys j) (entry (set labels i (r .label)) j)
+
+      here : r .on ≡ true → has i
+      here e = rw (getD-set-same labels i (r .label) 0 (omega (arith, g .labelsLength))) (told seen e)
+
+      before : all ≡ true → (j : ℕ) → j < i → has j
+      before e j k = rw (getD-set-other labels i j (r .label) 0 (λ e. absurd (omega arith))) (g .every e j k)
+
+      some : (a o : Bool) → all ≡ a → r .on ≡ o → a && o ≡ false → (j : ℕ) × (j < i + 1) × Off (entry layouts j) (pointAt xs ys j)
+      some false o p q e = let w = g .some p in (w .0, omega (arith, w .1), w .2)
+      some true false p q e = (i, omega arith, (r .label, told seen q))
+      some true true p q e = absurd (true≢false e)
+
+module _ {layouts : List ℕ} {xs ys : List ℤ} {labels : List ℕ} {all : Bool} (g : DemapsAll layouts xs ys labels all) where
+  pub all-on : all ≡ true → DemapsPoints layouts xs ys labels Nothing
+  all-on e = record { off = λ i h. (entry labels i, g .every e i h); labelled = λ _. g .every e; labelsLength = g .labelsLength }
+
+  -- where a point is off, the search finds one
+  pub some-off : DemapNeeds layouts xs ys → all ≡ false → (r : Found) → OffAt layouts xs ys r → DemapsPoints layouts xs ys labels r
+  some-off needs e r off = record { off = off; labelled = λ z. absurd (none (rw z at off)); labelsLength = g .labelsLength }
+    where
+      none : OffAt layouts xs ys Nothing → ⊥
+      none on =
+          let w = g .some e in
+          let i = w .0 in
+          let o = on i (w .1) in
+          on-or-off (entry layouts i) (pointAt xs ys i) (o .0) (w .2 .0) (needs .ofTones i (w .1)) (o .1) (w .2 .1)

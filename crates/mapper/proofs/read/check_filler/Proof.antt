@@ -1,0 +1,67 @@
+-- `mapper::read::check_filler` meets its contract. The invariant: the places from k on, compared from the register now and after what is
+-- found, give what is asked. The measure is the monitored places left.
+use native.Mathlib.Omega.{arith}
+use Prim.Native.Nat.{_-_}
+use lib.ListN.{length}
+use Rattle.mapper.proofs.FillerLoop.{Checking, check-start, check-step, check-end}
+use borrow.Author.Needs.{needs}
+use Rattle.mapper.proofs.read.check_filler.Statement.{statement}
+use Rattle.mapper.proofs.read.check_filler.Tie as tie
+
+abbrev Inv-loop : tie.InvT-loop
+Inv-loop monitored register labels monitor₀ next₀ k₀ monitor next k = Checking monitored register labels monitor next k
+
+abbrev μ-loop : tie.MeasureT-loop
+μ-loop monitored register labels monitor₀ next₀ k₀ monitor next k = length monitored - k
+
+loop-holds : tie.Need-loop-holds Inv-loop μ-loop
+loop-holds c =
+    let a = c .before .before .args in
+    check-start (a .monitored .now) (a .register) (a .labels .now)
+
+place-at-requires : tie.Need-place-at-requires Inv-loop μ-loop
+place-at-requires c κs = search needs
+
+filler-label-requires : tie.Need-filler-label-requires Inv-loop μ-loop
+filler-label-requires c κs = search needs
+
+label-at-requires : tie.Need-label-at-requires Inv-loop μ-loop
+label-at-requires c κs = rw (c .before .place-at .ensures) (c .before .before .before .before .before .before .pre .below (c .before .before .before .loop .k) (omega arith))
+
+cast-or-here : tie.Need-cast-or-here Inv-loop μ-loop
+cast-or-here c = search needs
+
+or-here-requires : tie.Need-or-here-requires Inv-loop μ-loop
+or-here-requires c κs = search needs
+
+add-k : tie.Need-add-k Inv-loop μ-loop
+add-k c = search needs
+
+loop-less : tie.Need-loop-less Inv-loop μ-loop
+loop-less c = search needs
+
+loop-again : tie.Need-loop-again Inv-loop μ-loop
+loop-again c =
+    let f = c .before .before .before .filler-label in
+    rw (c .or-here .ensures, c .before .before .label-at .ensures, c .before .before .before .before .place-at .ensures, f .ensures .label, f .ensures .register)
+    (check-step (c .before .before .before .before .before .before .loop .inv) (omega arith))
+
+returns : tie.Need-returns Inv-loop μ-loop
+returns c = check-end (c .before .loop .inv) (omega arith)
+
+pub check-filler-spec : {M : Type 1} → statement M
+check-filler-spec =
+    tie.close
+    (tie.spec
+    Inv-loop
+    μ-loop
+    loop-holds
+    place-at-requires
+    filler-label-requires
+    label-at-requires
+    cast-or-here
+    or-here-requires
+    add-k
+    loop-less
+    loop-again
+    returns)

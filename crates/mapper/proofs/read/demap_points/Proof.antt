@@ -1,0 +1,36 @@
+-- `mapper::read::demap_points` meets its contract: a point is on a tone's constellation or off it, so the search finds what `demap_all` met.
+use Rattle.mapper.proofs.PointLoop.{all-on, some-off}
+use borrow.Author.Needs.{needs}
+use Rattle.mapper.proofs.read.demap_points.Statement.{statement}
+use Rattle.mapper.proofs.read.demap_points.Tie as tie
+
+demap-all-requires : tie.Need-demap-all-requires
+demap-all-requires c κs = search needs
+
+same-length : tie.Need-same-length
+same-length c = search needs
+
+returns : tie.Need-returns
+returns c = all-on (c .before .before .before .demap-all .ensures) (c .if1 .taken)
+
+first-offgrid-requires : tie.Need-first-offgrid-requires
+first-offgrid-requires c κs = search needs
+
+same-length-2 : tie.Need-same-length-2
+same-length-2 c = search needs
+
+returns-2 : tie.Need-returns-2
+returns-2 c =
+    let r = c .first-offgrid in
+    some-off (c .before .before .before .before .demap-all .ensures) (c .before .before .before .before .before .before .before .before .pre .points) (c .before .if1 .left) (r .result) (r .ensures)
+
+pub demap-points-spec : {M : Type 1} → statement M
+demap-points-spec =
+    tie.close
+    (tie.spec
+    demap-all-requires
+    same-length
+    returns
+    first-offgrid-requires
+    same-length-2
+    returns-2)
