@@ -5,7 +5,7 @@ use mathlib.Core.List.{List, [], _∷_, _++_, map}
 use mathlib.Core.Path.{_≡_}
 use lib.Dec.{leb}
 use lib.ListN.{length, take, replicate}
-use Rattle.constellation.specs.Layouts.{layoutOf, classLayout}
+use Rattle.constellation.specs.Layouts.{classLayout}
 use Rattle.g9932.specs.Bits.{weight}
 use Rattle.g9932.specs.Order.{filter, ones}
 use Rattle.g9932.specs.Refusals.{numberOf, placeOf, Verdict, refused, accepted, tableVerdict}
@@ -18,8 +18,8 @@ use Rattle.g9932.specs.declared.Mode.the-variants.{Uncoded, Coded}
 use Rattle.plan.specs.declared.Planned.{Planned}
 use Rattle.plan.specs.declared.Planned.the-variants.{Ready, Refused}
 use Rattle.plan.specs.declared.Sizes.{Sizes}
-use Rattle.plan.specs.declared.Filed.{Filed}
-use Rattle.plan.specs.declared.Cursors.{Cursors}
+use Rattle.plan.specs.declared.filing.Filed.{Filed}
+use Rattle.plan.specs.declared.filing.Cursors.{Cursors}
 
 -- ---- the plan of accepted tables
 
@@ -132,8 +132,15 @@ pub record FileNeeds (least : ℕ) (b t layouts entries places monitored : List 
   pub bitsMost : (k : ℕ) → entry b k ≤ 15
   pub leastIs : 1 ≤ least
 
--- the entries that two tones share, behind the others
-pub record Shares (from h : ℕ) (at : ℕ) (layouts entries places layoutsAfter entriesAfter placesAfter : List ℕ) : Type 0 where
-  pub layoutsAre : take (from + 2 * h) layoutsAfter ≡ take from layouts ++ replicate (2 * h) (layoutOf 1)
+-- entries that two tones share, behind the others
+pub record ShareNeeds (h from at : ℕ) (layouts entries places : List ℕ) : Type 0 where
+  pub layoutsLength : length layouts ≡ 4096
+  pub entriesLength : length entries ≡ 4096
+  pub placesLength : length places ≡ 4096
+  pub most : from + 2 * h ≤ 4096
+  pub atMost : at ≤ from
+
+pub record Shares (one from h at : ℕ) (layouts entries places layoutsAfter entriesAfter placesAfter : List ℕ) : Type 0 where
+  pub layoutsAre : take (from + 2 * h) layoutsAfter ≡ take from layouts ++ replicate (2 * h) one
   pub entriesAre : take (at + h) entriesAfter ≡ take at entries ++ replicate h 2
   pub placesAre : take (at + h) placesAfter ≡ take at places ++ everySecond from h

@@ -82,7 +82,7 @@ pub fn tone_of_place(bits: &[u8], gains: &[u16], tones: &[u16], p: Place) -> Ton
 }
 
 // A test as a number to count with.
-fn one_if(test: bool) -> u16
+pub fn one_if(test: bool) -> u16
     ensures { λ r. ⌜ (r ≡ weight test) × (r ≤ 1) ⌝ }
 {
     test as u16
