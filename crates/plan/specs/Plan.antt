@@ -1,5 +1,5 @@
 -- The plan of a symbol: what its passes need of the tables, by place in t' and by entry of b'.
-use Prim.Native.Nat.{ℕ, zero, suc, _+_, _-_, _*_, _/_, _≤_}
+use Prim.Native.Nat.{ℕ, zero, suc, _+_, _-_, _*_, _/_, _%_, _≤_}
 use mathlib.Core.Bool.{Bool, true, cond}
 use mathlib.Core.List.{List, [], _∷_, _++_, map}
 use mathlib.Core.Path.{_≡_}
@@ -7,7 +7,7 @@ use lib.Dec.{leb}
 use lib.ListN.{length, take, replicate}
 use Rattle.constellation.specs.Layouts.{classLayout}
 use Rattle.g9932.specs.Bits.{weight}
-use Rattle.g9932.specs.Order.{filter, ones}
+use Rattle.g9932.specs.Order.{consIf, filter, ones}
 use Rattle.g9932.specs.Refusals.{numberOf, placeOf, Verdict, refused, accepted, tableVerdict}
 use Rattle.g9932.specs.Sizes.{Tables, entry, toneOf}
 use Rattle.g9932.specs.Symbol.{load, isMonitored, classesOf}
@@ -15,9 +15,12 @@ use Rattle.g9932.specs.declared.Class.{Class}
 use Rattle.g9932.specs.declared.Class.the-variants.{Data, Monitored, Silent}
 use Rattle.g9932.specs.declared.Mode.{Mode}
 use Rattle.g9932.specs.declared.Mode.the-variants.{Uncoded, Coded}
+use Rattle.tables.specs.Checks.{modeVerdict}
 use Rattle.plan.specs.declared.Planned.{Planned}
 use Rattle.plan.specs.declared.Planned.the-variants.{Ready, Refused}
 use Rattle.plan.specs.declared.Sizes.{Sizes}
+use Rattle.plan.specs.declared.Sized.{Sized}
+use Rattle.plan.specs.declared.Sized.the-variants.{Frame, Refused as Unsized}
 use Rattle.plan.specs.declared.filing.Filed.{Filed}
 use Rattle.plan.specs.declared.filing.Cursors.{Cursors}
 
@@ -36,7 +39,7 @@ sharing Coded b t = ones b t
 -- the places, from i on, at which a test holds
 abbrev pub placesWhere : {A : Type 0} → (A → Bool) → ℕ → List A → List ℕ
 placesWhere p i [] = []
-placesWhere p i (a ∷ as) = cond (p a) (i ∷ placesWhere p (suc i) as) (placesWhere p (suc i) as)
+placesWhere p i (a ∷ l) = consIf (p a) i (placesWhere p (suc i) l)
 
 -- h places, two apart
 abbrev pub everySecond : ℕ → ℕ → List ℕ
@@ -81,9 +84,27 @@ abbrev pub Made : Tables → Planned → List ℕ → List ℕ → List ℕ → 
 Made T (Ready p) layouts entries places monitored = PlanIs T p layouts entries places monitored
 Made T (Refused x) layouts entries places monitored = Unit {0}
 
-pub record Plans (T : Tables) (r : Planned) (layouts entries places monitored : List ℕ) : Type 0 where
-  pub answer : plannedVerdict r ≡ tableVerdict T
+-- by the verdict of the refusals that are still open, and by that of all
+pub record PlansBy (v : Verdict) (T : Tables) (r : Planned) (layouts entries places monitored : List ℕ) : Type 0 where
+  pub answer : plannedVerdict r ≡ v
   pub made : Made T r layouts entries places monitored
+
+abbrev pub Plans : Tables → Planned → List ℕ → List ℕ → List ℕ → List ℕ → Type 0
+Plans T r layouts entries places monitored = PlansBy (tableVerdict T) T r layouts entries places monitored
+
+-- ---- what the mode makes of the tones
+
+abbrev pub sizedVerdict : Sized → Verdict
+sizedVerdict (Frame size one) = accepted size
+sizedVerdict (Unsized x) = refused (numberOf x) (placeOf x)
+
+abbrev pub Sharing : Mode → List ℕ → List ℕ → Sized → Type 0
+Sharing m b t (Frame size one) = (one ≡ sharing m b t) × (one % 2 ≡ 0)
+Sharing m b t (Unsized x) = Unit {0}
+
+pub record SizesFrame (m : Mode) (b t : List ℕ) (r : Sized) : Type 0 where
+  pub answer : sizedVerdict r ≡ modeVerdict m b t
+  pub shares : Sharing m b t r
 
 -- ---- filing the tones
 
@@ -94,9 +115,22 @@ pub record Arrays (layouts entries places monitored : List ℕ) : Type 0 where
   pub placesLength : length places ≡ 4096
   pub monitoredLength : length monitored ≡ 4096
 
+pub record PlanNeeds (m : Mode) (one : ℕ) (b t layouts entries places monitored : List ℕ) : Type 0 where
+  pub arrays : Arrays layouts entries places monitored
+  pub most : length t ≤ 4096
+  pub bitsMost : (k : ℕ) → entry b k ≤ 15
+  pub onesIs : one ≡ sharing m b t
+  pub even : one % 2 ≡ 0
+
 -- the classes of a list of tones
 abbrev pub classesBy : List ℕ → List ℕ → List ℕ → List Class
 classesBy b g t = map (λ k. toneOf (entry b k) (entry g k) .class) t
+
+-- a class that a tone of accepted tables has: 1 to 15 bits where it has data
+abbrev pub Carries : Class → Type 0
+Carries (Data n) = (1 ≤ n) × (n ≤ 15)
+Carries Monitored = Unit {0}
+Carries Silent = Unit {0}
 
 -- whether a tone comes before those that share
 abbrev pub isPlaced : ℕ → Class → Bool
@@ -106,7 +140,7 @@ isPlaced least Silent = true
 
 abbrev pub only : {A : Type 0} → (A → Bool) → List A → List A
 only p [] = []
-only p (a ∷ as) = cond (p a) (a ∷ only p as) (only p as)
+only p (a ∷ l) = cond (p a) (a ∷ only p l) (only p l)
 
 -- what one tone adds to the lists
 pub record Files (least : ℕ) (c : Class) (f : Filed) : Type 0 where

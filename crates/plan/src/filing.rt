@@ -2,8 +2,7 @@
 ghost use mathlib.Core.Path.{_≡_};
 ghost use Prim.Native.Nat.{_≤_};
 ghost use Rattle.constellation.specs.Layouts.{layoutList};
-ghost use Rattle.g9932.specs.Symbol.{load};
-ghost use Rattle.plan.specs.Plan.{classesBy, isPlaced, only, Files, Filing, FileNeeds, ShareNeeds, Shares};
+ghost use Rattle.plan.specs.Plan.{Carries, classesBy, isPlaced, only, Files, Filing, FileNeeds, ShareNeeds, Shares};
 use g9932::Class;
 use g9932::Place;
 use g9932::Tone;
@@ -28,7 +27,7 @@ pub struct Cursors {
 
 // What a tone adds. It has an entry of its own from `least` bits on.
 fn file_tone(tone: Tone, least: u8, table: &[u16; 16]) -> Filed
-    requires { ⌜ (load (tone .class) ≤ 15) × (1 ≤ least) × (now table ≡ layoutList) ⌝ }
+    requires { ⌜ Carries (tone .class) × (1 ≤ least) × (now table ≡ layoutList) ⌝ }
     ensures { λ r. ⌜ Files least (tone .class) r ⌝ }
 {
     let class = tone.class;

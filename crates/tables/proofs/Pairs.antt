@@ -17,7 +17,7 @@ use Rattle.g9932.proofs.Search.{first-no, first-all}
 use Rattle.tables.specs.Checks.{anyBelow}
 use Rattle.tables.proofs.Scans.{any-nothing}
 
-pair-at : (l : List ℕ) (k : ℕ) → k < length (inTwos l) → getD (inTwos l) k (pair 0 0) ≡ pair (getD l (2 * k) 0) (getD l (2 * k + 1) 0)
+pub pair-at : (l : List ℕ) (k : ℕ) → k < length (inTwos l) → getD (inTwos l) k (pair 0 0) ≡ pair (getD l (2 * k) 0) (getD l (2 * k + 1) 0)
 pair-at [] k h = absurd (omega arith)
 pair-at (a ∷ []) k h = absurd (omega arith)
 pair-at (a ∷ b ∷ l) zero h = refl
@@ -34,7 +34,7 @@ no-one l {n} e none k = go (ltb k n) refl
     go true h = first-no (λ j. isOne (getD l j 0)) n (any-nothing (λ j. isOne (getD l j 0)) n none) k (ltb-true k n h)
     go false h = ap isOne (List·getD-eq-default l 0 (omega (arith, e, ltb-false k n h)))
 
-no-one-in-front : (l : List ℕ) → ((k : ℕ) → isOne (getD l k 0) ≡ false) → (c : Bool) (j : ℕ) → isOne (getD (zeroInFront c l) j 0) ≡ false
+pub no-one-in-front : (l : List ℕ) → ((k : ℕ) → isOne (getD l k 0) ≡ false) → (c : Bool) (j : ℕ) → isOne (getD (zeroInFront c l) j 0) ≡ false
 no-one-in-front l h true zero = refl
 no-one-in-front l h true (suc j) = h j
 no-one-in-front l h false j = h j

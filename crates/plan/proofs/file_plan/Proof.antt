@@ -1,0 +1,84 @@
+-- `plan::file_plan` meets its contract: the tones filed, and the shared entries behind them, are the plan's lists.
+use mathlib.Core.Path.{refl, _∙_}
+use native.Mathlib.Omega.{arith}
+use Rattle.plan.proofs.Whole.{least-own, plan-is, placed-count}
+use borrow.Author.Needs.{needs}
+use Rattle.plan.proofs.file_plan.Statement.{statement}
+use Rattle.plan.proofs.file_plan.Tie as tie
+
+layout-table-requires : tie.Need-layout-table-requires
+layout-table-requires c κs = search needs
+
+least-own-requires : tie.Need-least-own-requires
+least-own-requires c κs = search needs
+
+file-tones-requires : tie.Need-file-tones-requires
+file-tones-requires c κs =
+    let s = c .before .before .before .before .before .before .before .before .before .before .before .before .before .before in
+    (record { arrays = s .pre .arrays; most = s .pre .most; bitsMost = s .pre .bitsMost; leastIs = rw (c .before .before .before .before .before .least-own .ensures) (least-own (s .args .mode)) }, c .before .before .before .before .before .before .layout-table .ensures)
+
+array-read-share-entries : tie.Need-array-read-share-entries
+array-read-share-entries c = search needs
+
+share-entries-requires : tie.Need-share-entries-requires
+share-entries-requires c κs =
+    let s = c .before .before .before .before .before .before .before .before .before .before .before .before .before .before .before .before .before .before .before .before .before .before .before .before .before .before in
+    let a = s .args in
+    let f = c .before .before .before .before .before .before .before .before .before .before .before .file-tones in
+    let g = rw (c .before .before .before .before .before .before .before .before .before .before .before .before .before .before .before .before .before .least-own .ensures) at (f .ensures) in
+    let n = placed-count (a .mode) (a .bits .now) (a .gains .now) (a .tones .now) in
+    record {
+      layoutsLength = f .kept .1 .1 .1 .1 .1 .0 ∙ s .pre .arrays .layoutsLength;
+      entriesLength = f .kept .1 .1 .1 .1 .1 .1 .0 ∙ s .pre .arrays .entriesLength;
+      placesLength = f .kept .1 .1 .1 .1 .1 .1 .1 .0 ∙ s .pre .arrays .placesLength;
+      most = omega (arith, g .placeIs, s .pre .onesIs, s .pre .most);
+      atMost = g .entryMost;
+    }
+
+add-t37 : tie.Need-add-t37
+add-t37 c =
+    let s = c .before .before .before .before .before .before .before .before .before .before .before .before .before .before .before .before .before .before .before .before .before .before .before .before .before .before .before .before .before .before .before .before .before in
+    let a = s .args in
+    let f = c .before .before .before .before .before .before .before .before .before .before .before .before .before .before .before .before .before .before .file-tones in
+    let g = rw (c .before .before .before .before .before .before .before .before .before .before .before .before .before .before .before .before .before .before .before .before .before .before .before .before .least-own .ensures) at (f .ensures) in
+    let n = placed-count (a .mode) (a .bits .now) (a .gains .now) (a .tones .now) in
+    omega (arith, g .placeIs, g .entryMost, s .pre .onesIs, s .pre .most)
+
+same-length : tie.Need-same-length
+same-length c = search needs
+
+same-length-2 : tie.Need-same-length-2
+same-length-2 c = search needs
+
+same-length-3 : tie.Need-same-length-3
+same-length-3 c = search needs
+
+same-length-4 : tie.Need-same-length-4
+same-length-4 c = search needs
+
+returns : tie.Need-returns
+returns c =
+    let s = c .before .before .before .before .before .before .before .before .before .before .before .before .before .before .before .before .before .before .before .before .before .before .before .before .before .before .before .before .before .before .before .before .before in
+    let a = s .args in
+    let f = c .before .before .before .before .before .before .before .before .before .before .before .before .before .before .before .before .before .before .file-tones in
+    let h = c .before .before .before .before .before .before .share-entries in
+    let g = rw (c .before .before .before .before .before .before .before .before .before .before .before .before .before .before .before .before .before .before .before .before .before .before .before .before .least-own .ensures) at (f .ensures) in
+    let t = c .before .before .before .before .before .before .before .before .before .before .before .before .before .before .before .before .before .before .before .before .before .before .before .before .before .layout-table .ensures in
+    (plan-is (a .mode) (a .bits .now) (a .gains .now) (a .tones .now) (a .ones) (a .size) (f .result) (f .last .1 .1 .1 .1 .1 .0) (f .last .1 .1 .1 .1 .1 .1 .0) (f .last .1 .1 .1 .1 .1 .1 .1 .0) (f .last .1 .1 .1 .1 .1 .1 .1 .1 .0)
+    (h .last .1 .1 .1 .1 .0) (h .last .1 .1 .1 .1 .1 .0) (h .last .1 .1 .1 .1 .1 .1 .0) (s .pre .onesIs) (s .pre .even) g (rw t at (h .ensures)), refl)
+
+pub file-plan-spec : {M : Type 1} → statement M
+file-plan-spec =
+    tie.close
+    (tie.spec
+    layout-table-requires
+    least-own-requires
+    file-tones-requires
+    array-read-share-entries
+    share-entries-requires
+    add-t37
+    same-length
+    same-length-2
+    same-length-3
+    same-length-4
+    returns)

@@ -1,0 +1,65 @@
+-- `plan::size_frame` meets its contract: the counts of the tones decide 7, 8 and L, and 9 never applies.
+use mathlib.Core.Path.{refl}
+use native.Mathlib.Omega.{arith}
+use Rattle.tables.proofs.Modes.{uncoded-verdict, coded-odd, coded-few, coded-done, half-loaded, coded-within, coded-room}
+use Rattle.plan.proofs.Pairs.{no-pair}
+use borrow.Author.Needs.{needs}
+use Rattle.plan.proofs.size_frame.Statement.{statement}
+use Rattle.plan.proofs.size_frame.Tie as tie
+
+count-tones-requires : tie.Need-count-tones-requires
+count-tones-requires c κs = search needs
+
+enum-told : tie.Need-enum-told
+enum-told c = search needs
+
+enum-told-2 : tie.Need-enum-told-2
+enum-told-2 c = search needs
+
+returns : tie.Need-returns
+returns c = rw (c .before .before .enum-told2 .given .1) (record { answer = coded-odd (c .before .before .before .before .count-tones .ensures) (c .if1 .taken); shares = tt })
+
+sub-n : tie.Need-sub-n
+sub-n c = half-loaded (c .before .before .before .before .before .before .count-tones .ensures) (c .before .before .if1 .left)
+
+returns-2 : tie.Need-returns-2
+returns-2 c = rw (c .before .before .before .before .before .enum-told2 .given .1) (record { answer = coded-few (c .before .before .before .before .before .before .before .count-tones .ensures) (c .before .before .before .if1 .left) (c .if2 .taken); shares = tt })
+
+add-t7 : tie.Need-add-t7
+add-t7 c =
+    let k = c .before .before .before .before .before .before .before .count-tones .ensures in
+    omega (arith, coded-within k (c .before .before .before .if1 .left), c .before .before .before .before .before .before .before .before .before .before .good)
+
+sub-t12 : tie.Need-sub-t12
+sub-t12 c =
+    let k = c .before .before .before .before .before .before .before .before .count-tones .ensures in
+    omega (arith, coded-room k (c .before .before .before .before .if1 .left) (c .before .if2 .left))
+
+sub-t13 : tie.Need-sub-t13
+sub-t13 c =
+    let k = c .before .before .before .before .before .before .before .before .count-tones .ensures in
+    omega (arith, coded-room k (c .before .before .before .before .if1 .left) (c .before .if2 .left))
+
+returns-3 : tie.Need-returns-3
+returns-3 c = rw (c .enum-told .given .1) (record { answer = uncoded-verdict _ _ (c .before .before .count-tones .ensures .sumIs); shares = (refl, refl) })
+
+returns-4 : tie.Need-returns-4
+returns-4 c =
+    let k = c .before .before .before .before .before .before .before .before .count-tones in
+    rw (c .before .before .before .before .before .before .enum-told2 .given .1) (record { answer = coded-done (k .ensures) (c .before .before .before .before .if1 .left) (c .before .if2 .left) (no-pair _ _); shares = (k .ensures .onesIs, omega (arith, c .before .before .before .before .if1 .left)) })
+
+pub size-frame-spec : {M : Type 1} → statement M
+size-frame-spec =
+    tie.close
+    (tie.spec
+    count-tones-requires
+    enum-told
+    enum-told-2
+    returns
+    sub-n
+    returns-2
+    add-t7
+    sub-t12
+    sub-t13
+    returns-3
+    returns-4)
