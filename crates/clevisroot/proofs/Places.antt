@@ -5,17 +5,17 @@ use mathlib.Core.Bool.{Bool, true, false, cond, not, _||_}
 use mathlib.Core.List.{List, [], _∷_}
 use mathlib.Core.Path.{_≡_, refl}
 use native.Mathlib.Omega.{arith}
-use borrow.Author.Tests.{ltb-false, eqb-true}
+use borrow.Author.Tests.{ltb-false, eqb-true, eqb-false}
 use lib.Dec.{eqb, ltb, leb}
 use lib.IntN.{ℤ}
 use lib.ListN.{length, drop, length-append, length-map, length-replicate, replicate}
 use Rattle.g9932.specs.Bits.{weight, orAt, first}
 use Rattle.g9932.specs.Sizes.{Tables, entry, Point, points}
-use Rattle.g9932.specs.Refusals.{Verdict, refuseIf, refuseAt, verdictBy, andThen, sizeTest, tableVerdict}
+use Rattle.g9932.specs.Refusals.{Verdict, refuseIf, refuseAt, verdictBy, andThen, sizeTest, listVerdict, modeVerdict, tableVerdict}
 use Rattle.g9932.specs.Order.{consIf, count, filter, isOne, bitsOf, ones, entries, reorderedTones, codedPairs}
 use Rattle.g9932.specs.Trellis.{Reading, frame, breaks, after, zeroState, readPairs, readingOf, keepsCode, lastTwo, heardAt, nextOf, takenBits, width}
 use Rattle.g9932.specs.Symbol.{classesOf, pairsIn, sizeOf, gatherBits, readingIn}
-use Rattle.g9932.specs.Answers.{breakIn, orderVerdict, encodeVerdict, pointsVerdict, readVerdict}
+use Rattle.g9932.specs.Answers.{breakIn, orderVerdict, encodeInputs, encodeVerdict, pointsVerdict, readInputs, readVerdict}
 use Rattle.g9932.specs.declared.Found.{Found}
 use Rattle.g9932.specs.declared.Found.the-variants.{At, Nothing}
 use Rattle.g9932.specs.declared.Mode.{Mode}
@@ -126,21 +126,26 @@ sizes-most G gains nsc e =
     (omega arith, omega arith)
 
 table-place : (T : Tables) → tableVerdict T .place ≤ 8192
-unfolding tableVerdict
+unfolding tableVerdict listVerdict modeVerdict
 table-place T =
-    place-unless 8192 1 (sizeTest (length (T .bits)) (length (T .gains)) (length (T .tones))) _ (λ e.
-    let s = sizes-most (length (T .bits)) (length (T .gains)) (length (T .tones)) e in
-    let g = s .0 in
-    let n = s .1 in
-    place-first 8192 2 _ (length (T .tones)) _ (omega arith)
-    (place-first 8192 3 _ (length (T .tones)) _ (omega arith)
-    (place-first 8192 4 _ (length (T .bits)) _ (omega arith)
-    (place-first 8192 5 _ (length (T .bits)) _ (omega arith)
-    (place-first 8192 6 _ (length (T .bits)) _ (omega arith)
-    (place-if 8192 7 _ _
+    let b = T .bits in
+    let g = T .gains in
+    let t = T .tones in
+    place-and 8192 (listVerdict b g t) (modeVerdict (T .mode) b t)
+    (place-unless 8192 1 (sizeTest (length b) (length g) (length t)) _ (λ e.
+    let s = sizes-most (length b) (length g) (length t) e in
+    place-first 8192 2 _ (length t) _ (omega (arith, s .1))
+    (place-first 8192 3 _ (length t) _ (omega (arith, s .1))
+    (place-first 8192 4 _ (length b) _ (omega (arith, s .0))
+    (place-first 8192 5 _ (length b) _ (omega (arith, s .0))
+    (place-first 8192 6 _ (length b) _ (omega (arith, s .0))
+    (omega arith)))))))
+    (λ e.
+    let s = sizes-most (length b) (length g) (length t) (test-none 0 (sizeTest (length b) (length g) (length t)) _ e .0) in
+    place-if 8192 7 _ _
     (place-if 8192 8 _ _
-    (place-first 8192 9 _ (length (codedPairs (T .mode) (T .bits) (T .tones))) _ (omega (arith, pairs-most (T .mode) (T .bits) (T .tones) n))
-    (omega arith)))))))))
+    (place-first 8192 9 _ (length (codedPairs (T .mode) b t)) _ (omega (arith, pairs-most (T .mode) b t (s .1)))
+    (omega arith))))
 
 -- ---- every call
 
@@ -177,12 +182,20 @@ unfolding refuseAt
 size-at n (At k) v l h e = absurd (omega arith)
 size-at n Nothing v l h e = h e
 
+size-then : (v w : Verdict) (l : ℕ) → (w .number ≡ 0 → w .size ≡ l) → andThen v w .number ≡ 0 → andThen v w .size ≡ l
+unfolding andThen
+size-then v w l h e = go (eqb (v .number) 0) refl e
+  where
+    go : (b : Bool) → eqb (v .number) 0 ≡ b → verdictBy b w v .number ≡ 0 → verdictBy b w v .size ≡ l
+    go true z e = h e
+    go false z e = absurd (eqb-false (v .number) 0 z e)
+
 pub small-order : (T : Tables) (a b : ℕ) → Small (orderVerdict T a b)
 unfolding orderVerdict
 small-order T a b = small-then T _ (λ _. place-if 8192 10 _ _ (omega arith)) (size-if 9 _ _ (sizeOf T) (λ _. refl))
 
 pub small-encode : (T : Tables) (f : List ℕ) (r a b : ℕ) → Small (encodeVerdict T f r a b)
-unfolding encodeVerdict
+unfolding encodeVerdict encodeInputs
 small-encode T f r a b =
     small-then T _ (λ _. place-if 8192 10 _ _ (place-if 8192 11 _ _ (place-if 8192 12 _ _ (omega arith))))
     (size-if 9 _ _ (sizeOf T) (size-if 10 _ _ (sizeOf T) (size-if 11 _ _ (sizeOf T) (λ _. refl))))
@@ -196,17 +209,19 @@ break-inside T q = go (T .mode)
     go Coded = breaks-inside (pairsIn T) zeroState (gatherBits (classesOf T) q)
 
 pub small-read : (T : Tables) (xs ys : List ℤ) (r a : ℕ) → Small (readVerdict T xs ys r a)
-unfolding readVerdict pointsVerdict
+unfolding readVerdict readInputs pointsVerdict
 small-read T xs ys r a =
-    small-then T _
+    let q = points xs ys in
+    let inputs = readInputs (sizeOf T) (length (T .tones)) (length xs) (length ys) a r in
+    small-then T (andThen inputs (pointsVerdict T q r))
     (λ e.
     let k = accepted-tables T e in
     let n : length (T .tones) ≤ 4096 = omega (arith, k .tonesMost, k .tableMost) in
     let i = break-inside T (points xs ys) in
     let c = pairs-most (T .mode) (T .bits) (T .tones) n in
-    place-if 8192 10 _ _
-    (place-if 8192 12 _ _
-    (place-first 8192 13 _ (length (T .tones)) _ (omega arith)
+    place-and 8192 inputs (pointsVerdict T q r)
+    (place-if 8192 10 _ _ (place-if 8192 12 _ _ (omega arith)))
+    (λ _. place-first 8192 13 _ (length (T .tones)) _ (omega arith)
     (place-first 8192 14 _ (length (T .tones)) _ (omega arith)
-    (place-at 8192 15 _ _ (omega arith) (omega arith))))))
-    (size-if 9 _ _ (sizeOf T) (size-if 11 _ _ (sizeOf T) (size-at 12 _ _ (sizeOf T) (size-at 13 _ _ (sizeOf T) (size-at 14 _ _ (sizeOf T) (λ _. refl))))))
+    (place-at 8192 15 _ _ (omega arith) (omega arith)))))
+    (size-then inputs (pointsVerdict T q r) (sizeOf T) (size-at 12 _ _ (sizeOf T) (size-at 13 _ _ (sizeOf T) (size-at 14 _ _ (sizeOf T) (λ _. refl)))))

@@ -7,7 +7,7 @@ ghost use Rattle.g9932.specs.Sizes.{tables};
 ghost use Prim.Native.Nat.{_≤_};
 ghost use lib.ListN.{length};
 ghost use Rattle.plan.specs.Plan.{leastOwn, PlanIs, PlanNeeds, PlansBy, Plans, Arrays, SizesFrame};
-ghost use Rattle.tables.specs.Checks.{modeVerdict};
+ghost use Rattle.g9932.specs.Refusals.{modeVerdict};
 ghost use Rattle.tables.specs.Ordered.{Medley};
 use g9932::Checked;
 use g9932::Mode;

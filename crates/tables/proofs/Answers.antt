@@ -8,7 +8,7 @@ use borrow.Author.Tests.{eq-eqb, eqb-false}
 use lib.ListN.{length, take}
 use Rattle.g9932.specs.Bits.{first}
 use Rattle.g9932.specs.Sizes.{Tables, tables}
-use Rattle.g9932.specs.Refusals.{Verdict, accepted, sizeTest, toneTest, twiceTest, roomTest, tableVerdict}
+use Rattle.g9932.specs.Refusals.{Verdict, accepted, sizeTest, toneTest, twiceTest, roomTest, tableVerdict, listVerdict, modeVerdict}
 use Rattle.g9932.specs.Answers.{verdictOf, orderVerdict, Reorders}
 use Rattle.g9932.specs.declared.Mode.{Mode}
 use Rattle.g9932.specs.declared.Mode.the-variants.{Uncoded}
@@ -19,9 +19,8 @@ use Rattle.g9932.specs.declared.Checked.the-variants.{Accepted, Refused}
 use Rattle.g9932.proofs.Accepted.{accepted-tables}
 use Rattle.g9932.proofs.Search.{first-no}
 use Rattle.g9932.proofs.Verdicts.{test-here, test-past, test-none, found-none, number-some, and-refused, and-accepted, and-none, done-refused, done-accepted}
-use Rattle.tables.specs.Checks.{listVerdict, modeVerdict}
 use Rattle.tables.specs.Ordered.{OrderedBy, Ordered, Medley}
-use Rattle.tables.proofs.Faults.{size-facts, two-parts}
+use Rattle.tables.proofs.Faults.{size-facts}
 use Rattle.tables.proofs.Modes.{uncoded-verdict}
 
 number-none : {l : ℕ} {v : Verdict} → accepted l ≡ v → v .number ≡ 0
@@ -43,8 +42,9 @@ lists-once b g t e =
 
 -- and a bit table whose bits are the tones': in uncoded mode nothing else is refused
 pub lists-medley : (b g t : List ℕ) {l : ℕ} → accepted l ≡ listVerdict b g t → Medley b t
+unfolding tableVerdict
 lists-medley b g t {l} e =
-    let a = accepted-tables (tables Uncoded b g t) (number-none (uncoded-verdict b t refl ∙ and-accepted l e refl ∙ sym (two-parts Uncoded b g t))) in
+    let a = accepted-tables (tables Uncoded b g t) (number-none (uncoded-verdict b t refl ∙ and-accepted l e refl)) in
     record { size = a .tableMost; below = a .tonesBelow; once = lists-once b g t e; bitsMost = a .bitsMost; strayBits = a .strayBits }
 
 pub table-fits : (T : Tables) {l : ℕ} → accepted l ≡ tableVerdict T → length (T .tones) ≤ 4096
@@ -61,14 +61,16 @@ ordered-refused x e =
 
 module _ (m : Mode) (b g t : List ℕ) where
   pub lists-refused : (x : Refusal) → verdictOf (Refused x) ≡ listVerdict b g t → verdictOf (Refused x) ≡ tableVerdict (tables m b g t)
-  lists-refused x e = and-refused x _ e ∙ sym (two-parts m b g t)
+  unfolding tableVerdict
+  lists-refused x e = and-refused x _ e
 
   pub lists-accepted : {l : ℕ} {r : Checked} {order entries : List ℕ} → accepted l ≡ listVerdict b g t
       → OrderedBy (modeVerdict m b t) m b t r order entries → OrderedBy (tableVerdict (tables m b g t)) m b t r order entries
+  unfolding tableVerdict
   lists-accepted {l} e q =
-      let n : tableVerdict (tables m b g t) .number ≡ 0 → modeVerdict m b t .number ≡ 0 = λ z. and-none _ _ (ap (λ (v : Verdict). v .number) (sym (two-parts m b g t)) ∙ z) .1 in
+      let n : tableVerdict (tables m b g t) .number ≡ 0 → modeVerdict m b t .number ≡ 0 = λ z. and-none _ _ z .1 in
       record {
-        answer = and-accepted l e (q .answer) ∙ sym (two-parts m b g t);
+        answer = and-accepted l e (q .answer);
         tones = λ z. q .tones (n z);
         bits = λ z. q .bits (n z);
       }

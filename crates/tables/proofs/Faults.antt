@@ -10,14 +10,14 @@ use lib.Dec.{ltb, eqb}
 use lib.ListN.{length}
 use Rattle.g9932.specs.Bits.{first}
 use Rattle.g9932.specs.Sizes.{tables}
-use Rattle.g9932.specs.Refusals.{Verdict, refused, accepted, refuseIf, refuseAt, andThen, sizeTest, toneTest, twiceTest, bitsTest, strayTest, gainTest, tableVerdict}
+use Rattle.g9932.specs.Refusals.{Verdict, refused, accepted, refuseIf, refuseAt, andThen, sizeTest, toneTest, twiceTest, bitsTest, strayTest, gainTest, tableVerdict, listVerdict, modeVerdict}
 use Rattle.g9932.specs.declared.Found.{Found}
 use Rattle.g9932.specs.declared.Found.the-variants.{At, Nothing}
 use Rattle.g9932.specs.declared.Mode.{Mode}
 use Rattle.g9932.proofs.Identities.{or-false}
 use Rattle.g9932.proofs.Search.{first-no, first-all, first-ext}
 use Rattle.g9932.proofs.Verdicts.{test-here, test-past, found-here, found-past}
-use Rattle.tables.specs.Checks.{anyBelow, placeFault, indexFault, listVerdict, modeVerdict}
+use Rattle.tables.specs.Checks.{anyBelow, placeFault, indexFault}
 use Rattle.tables.proofs.Scans.{any-nothing}
 
 -- where neither of two tests holds anywhere; and where the first of them does not
@@ -95,22 +95,3 @@ module _ (b g t : List ℕ) where
           let w = or-nothing (bitsTest b) (λ k. strayTest b g t k || gainTest b g k) (length b) (any-nothing (indexFault b g t) (length b) e) in
           let v = or-nothing (strayTest b g t) (gainTest b g) (length b) (w .1) in
           none-refused (w .0) (v .0) (v .1)
-
--- what follows a chain of refusals follows its last
-and-test : (n : ℕ) (b : Bool) (v w : Verdict) → andThen (refuseIf (suc n) b v) w ≡ refuseIf (suc n) b (andThen v w)
-unfolding andThen refuseIf
-and-test n true v w = rw (ne-eqb (suc n) 0 (λ e. omega arith))
-and-test n false v w = refl
-
-and-found : (n : ℕ) (f : Found) (v w : Verdict) → andThen (refuseAt (suc n) f v) w ≡ refuseAt (suc n) f (andThen v w)
-unfolding andThen refuseAt
-and-found n (At k) v w = rw (ne-eqb (suc n) 0 (λ e. omega arith))
-and-found n Nothing v w = refl
-
-and-done : (w : Verdict) → andThen (accepted 0) w ≡ w
-unfolding andThen
-and-done w = refl
-
-pub two-parts : (m : Mode) (b g t : List ℕ) → tableVerdict (tables m b g t) ≡ andThen (listVerdict b g t) (modeVerdict m b t)
-unfolding tableVerdict listVerdict modeVerdict
-two-parts m b g t = sym (rw (and-test 0, and-found 1, and-found 2, and-found 3, and-found 4, and-found 5, and-done))

@@ -9,7 +9,7 @@ use lib.Dec.{ltb, leb}
 use lib.ListN.{length, take, drop, replicate, length-replicate}
 use lib.Seq.{sets, take-add, drop-at, length-take-le}
 use Rattle.g9932.specs.Bits.{first}
-use Rattle.g9932.specs.Refusals.{Verdict, refused, accepted, refuseAt, pairTest}
+use Rattle.g9932.specs.Refusals.{Verdict, refused, accepted, refuseAt, pairTest, modeVerdict}
 use Rattle.g9932.specs.Order.{sum, count, isOne, bitsOf, oneBit, filter, singles, others, loaded, ones, entryCount, entries, pairsOf, reorderedTones, reorderedBits, codedPairs, frameSize}
 use Rattle.g9932.specs.declared.Found.{Found}
 use Rattle.g9932.specs.declared.Found.the-variants.{At, Nothing}
@@ -20,7 +20,6 @@ use Rattle.g9932.proofs.Reordering.{entries-law, sum-entries, length-entries, a
 use Rattle.g9932.proofs.Search.{first-none}
 use Rattle.g9932.proofs.Verdicts.{test-here, test-past, found-here, found-past}
 use Rattle.tables.specs.declared.order.Counts.{Counts}
-use Rattle.tables.specs.Checks.{modeVerdict}
 use Rattle.tables.specs.Ordered.{CountsAre, CodedReady, Written}
 use Rattle.tables.proofs.Runs.{take-two, take-three}
 use Rattle.tables.proofs.Counts.{entries-fit}

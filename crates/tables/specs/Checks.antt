@@ -61,22 +61,3 @@ Marks t seen = (k : ℕ) → k < 4096 → getD seen k false ≡ member k t
 pub record Passed (g : ℕ) (t : List ℕ) (r : Found) (seen : List Bool) : Type 0 where
   pub found : r ≡ first (placeFault g t) (length t)
   pub marks : r ≡ Nothing → Marks t seen
-
--- refusals 1 to 6
-unfoldable pub listVerdict : List ℕ → List ℕ → List ℕ → Verdict
-listVerdict b g t =
-    refuseIf 1 (sizeTest (length b) (length g) (length t))
-    (refuseAt 2 (first (toneTest (length b) t) (length t))
-    (refuseAt 3 (first (twiceTest t) (length t))
-    (refuseAt 4 (first (bitsTest b) (length b))
-    (refuseAt 5 (first (strayTest b g t) (length b))
-    (refuseAt 6 (first (gainTest b g) (length b))
-    (accepted 0))))))
-
--- refusals 7 to 9, and L
-unfoldable pub modeVerdict : Mode → List ℕ → List ℕ → Verdict
-modeVerdict m b t =
-    refuseIf 7 (oddTest m b t)
-    (refuseIf 8 (fewTest m b t)
-    (refuseAt 9 (first (pairTest (codedPairs m b t)) (length (codedPairs m b t)))
-    (accepted (frameSize m b t))))

@@ -15,9 +15,8 @@ ghost use mathlib.Core.Path.{_≡_};
 ghost use Prim.Native.Nat.{_≤_};
 ghost use Rattle.g9932.specs.Bits.{weight};
 ghost use Rattle.g9932.specs.Sizes.{tables, entry, toneOf};
-ghost use Rattle.g9932.specs.Refusals.{tableVerdict};
+ghost use Rattle.g9932.specs.Refusals.{tableVerdict, modeVerdict};
 ghost use Rattle.g9932.specs.Answers.{verdictOf, Reorders};
-ghost use Rattle.tables.specs.Checks.{modeVerdict};
 ghost use Rattle.tables.specs.Ordered.{OrderedBy, Ordered, Arrays, Room, Medley};
 
 pub mod lists; // refusals 1 to 6

@@ -14,9 +14,9 @@ ghost use mathlib.Core.Bool.{false};
 ghost use Prim.Native.Nat.{_≤_};
 ghost use lib.ListN.{length, replicate};
 ghost use Rattle.g9932.specs.Bits.{first};
-ghost use Rattle.g9932.specs.Refusals.{sizeTest, toneTest, strayBy, gainBy};
+ghost use Rattle.g9932.specs.Refusals.{sizeTest, toneTest, strayBy, gainBy, listVerdict};
 ghost use Rattle.g9932.specs.Answers.{verdictOf};
-ghost use Rattle.tables.specs.Checks.{anyBelow, indexBy, indexFault, ruleBy, ruleTest, Below, marked, trues, Marks, Passed, listVerdict};
+ghost use Rattle.tables.specs.Checks.{anyBelow, indexBy, indexFault, ruleBy, ruleTest, Below, marked, trues, Marks, Passed};
 
 // 1 SIZE, of the three lengths.
 fn wrong_size(g: usize, gains: usize, nsc: usize) -> bool

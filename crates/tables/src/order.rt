@@ -14,10 +14,10 @@ ghost use lib.ListN.{length, getD, take, drop, set, replicate};
 ghost use lib.Seq.{sets};
 ghost use Rattle.g9932.specs.Bits.{first};
 ghost use Rattle.g9932.specs.Sizes.{entry};
-ghost use Rattle.g9932.specs.Refusals.{pairTest};
+ghost use Rattle.g9932.specs.Refusals.{pairTest, modeVerdict};
 ghost use Rattle.g9932.specs.Order.{isOne, zeroInFront, pairsOf};
 ghost use Rattle.g9932.specs.declared.Mode.the-variants.{Uncoded, Coded};
-ghost use Rattle.tables.specs.Checks.{anyBelow, modeVerdict};
+ghost use Rattle.tables.specs.Checks.{anyBelow};
 ghost use Rattle.tables.specs.Ordered.{OrderedBy, Room, Medley, CountsAre, Written, PlaceReady, CodedReady, Placing};
 
 // Sums over the tones: of the bits, of the loaded tones, and of the 1-bit tones.

@@ -1,9 +1,9 @@
 -- `plan::plan_tables` meets its contract: refusals 1 to 6, and then those of the mode.
 use mathlib.Core.Path.{sym, ap, _∙_}
-use Rattle.tables.proofs.Faults.{two-parts}
 use Rattle.tables.proofs.Answers.{lists-fit, lists-medley, lists-refused}
 use Rattle.g9932.proofs.Verdicts.{and-accepted}
 use Rattle.g9932.specs.Answers.{verdictOf}
+use Rattle.g9932.specs.Refusals.{tableVerdict}
 use borrow.Author.Needs.{needs}
 use Rattle.plan.proofs.plan_tables.Statement.{statement}
 use Rattle.plan.proofs.plan_tables.Tie as tie
@@ -41,11 +41,12 @@ same-length-4 : tie.Need-same-length-4
 same-length-4 c = search needs
 
 returns-2 : tie.Need-returns-2
+unfolding tableVerdict
 returns-2 c =
     let a = c .before .before .before .before .before .before .before .before .before .before .before .before .before .before .before .before .before .before .before .before .before .before .before .args in
     let e = ap verdictOf (sym (c .before .before .before .before .before .before .before .before .before .before .before .before .before .enum-told .given .1)) ∙ c .before .before .before .before .before .before .before .before .before .before .before .before .before .before .before .check-lists .ensures in
     let p = c .before .before .before .before .before .before .before .before .plan-by .ensures in
-    record { answer = and-accepted _ e (p .answer) ∙ sym (two-parts (a .mode) (a .bits .now) (a .gains .now) (a .tones .now)); made = p .made }
+    record { answer = and-accepted _ e (p .answer); made = p .made }
 
 pub plan-tables-spec : {M : Type 1} → statement M
 plan-tables-spec =
