@@ -43,8 +43,8 @@ loop-less c = search needs
 loop-again : tie.Need-loop-again Inv-loop μ-loop
 loop-again c =
     let f = c .before .before .before .filler-label in
-    rw (c .or-here .ensures, c .before .before .label-at .ensures, c .before .before .before .before .place-at .ensures, f .ensures .label, f .ensures .register)
-    (check-step (c .before .before .before .before .before .before .loop .inv) (omega arith))
+    rw (c .or-here .ensures, c .before .before .label-at .ensures, c .before .before .before .before .place-at .ensures)
+    (check-step (c .before .before .before .before .before .before .loop .inv) (omega arith) (f .result .label) (f .result .register) (f .ensures .label) (f .ensures .register))
 
 returns : tie.Need-returns Inv-loop μ-loop
 returns c = check-end (c .before .loop .inv) (omega arith)
