@@ -44,13 +44,15 @@ module _ (ls : List ℕ) (i : ℕ) (l : i + 1 < length ls) where
       → Changing f from ls₀ (two-set ls i x y) (i + 2)
   change-step f x y e g =
       let n : length (two-set ls i x y) ≡ length ls = length-set (set ls i x) (i + 1) y ∙ length-set ls i x in
+      let d = drop-set-lt (i + 2) (set ls i x) (i + 1) y (omega arith) ∙ drop-set-lt (i + 2) ls i x (omega arith) in
       record {
         inside = omega arith;
         labelsLength = n ∙ g .labelsLength;
-        whole = rw (take-two x y, drop-set-lt (i + 2) (set ls i x) (i + 1) y (omega arith), drop-set-lt (i + 2) ls i x (omega arith), append-assoc) (rw e at (g .whole));
+        whole = rw (take-two x y, d, append-assoc) (rw e at (g .whole));
       }
 
-  pub split-step : {from : ℕ} {ls₀ : List ℕ} → Changing splitOnes from ls₀ ls i → Changing splitOnes from ls₀ (two-set ls i (entry ls i % 2) (entry ls i / 2)) (i + 2)
+  pub split-step : {from : ℕ} {ls₀ : List ℕ} → Changing splitOnes from ls₀ ls i
+      → Changing splitOnes from ls₀ (two-set ls i (entry ls i % 2) (entry ls i / 2)) (i + 2)
   split-step = change-step splitOnes (entry ls i % 2) (entry ls i / 2) (ap splitOnes drop-two)
 
   abbrev both : ℕ
