@@ -61,8 +61,9 @@ module _ {frame : List ℕ} {start : ℕ} {es ps ls₀ : List ℕ} (needs : CutN
 
     next-bits : bits (entry es j) (num next) ≡ next
     next-bits =
-        let n : length next ≡ entry es j = length-take-le (entry es j) (drop at (unpack frame)) (omega (arith, length-drop at (unpack frame), length-unpack frame, next-inside)) in
-        rw n at (bits-num next)
+        let d = drop at (unpack frame) in
+        let long : entry es j ≤ length d = omega (arith, length-drop at (unpack frame), length-unpack frame, next-inside) in
+        rw (length-take-le (entry es j) d long) at (bits-num next)
 
     pub cut-step : Cutting frame start es ps ls₀ (set ls (entry ps j) (num next)) (at + entry es j) (j + 1)
     cut-step =

@@ -30,10 +30,10 @@ pub draw-start : (ms : List ℕ) (r : ℕ) → Drawing ms r r 0
 draw-start ms r = record { inside = omega arith; left = refl }
 
 module _ {ms : List ℕ} {r next k : ℕ} (g : Drawing ms r next k) where
-  pub draw-step : k < length ms → Drawing ms r (afterDraws 2 next) (k + 1)
-  draw-step h =
+  pub draw-step : k < length ms → (after : ℕ) → after ≡ afterDraws 2 next → Drawing ms r after (k + 1)
+  draw-step h after e =
       let n : 2 * length (drop k ms) ≡ suc (suc (2 * length (drop (k + 1) ms))) = omega (arith, length-drop k ms, length-drop (k + 1) ms) in
-      record { inside = omega arith; left = rw n at (g .left) }
+      record { inside = omega arith; left = rw e (rw n at (g .left)) }
 
   pub draw-end : length ms ≤ k → next ≡ afterDraws (2 * length ms) r
   draw-end h = rw (drop-of-length-le ms h) at (g .left)
@@ -49,12 +49,12 @@ pub fill-start : (ms : List ℕ) (r : ℕ) (ls₀ : List ℕ) → Filling ms r l
 fill-start ms r ls₀ = record { drawing = draw-start ms r; labelsLength = refl; left = refl }
 
 module _ {ms : List ℕ} {r : ℕ} {ls₀ ls : List ℕ} {next k : ℕ} (g : Filling ms r ls₀ ls next k) where
-  pub fill-step : k < length ms → Filling ms r ls₀ (set ls (entry ms k) (num (drawn 2 next))) (afterDraws 2 next) (k + 1)
-  fill-step h =
+  pub fill-step : k < length ms → (l after : ℕ) → l ≡ num (drawn 2 next) → after ≡ afterDraws 2 next → Filling ms r ls₀ (set ls (entry ms k) l) after (k + 1)
+  fill-step h l after e d =
       record {
-        drawing = draw-step (g .drawing) h;
-        labelsLength = length-set ls (entry ms k) (num (drawn 2 next)) ∙ g .labelsLength;
-        left = rw add-one (rw (drop-cons ms k 0 h) at (g .left));
+        drawing = draw-step (g .drawing) h after d;
+        labelsLength = length-set ls (entry ms k) l ∙ g .labelsLength;
+        left = rw (e, d, add-one) (rw (drop-cons ms k 0 h) at (g .left));
       }
 
   pub fill-end : length ms ≤ k → SetsFiller ms r ls₀ next ls
@@ -70,10 +70,10 @@ pub check-start : (ms : List ℕ) (r : ℕ) (ls : List ℕ) → Checking ms r ls
 check-start ms r ls = record { drawing = draw-start ms r; left = refl }
 
 module _ {ms : List ℕ} {r : ℕ} {ls : List ℕ} {monitor : Found} {next k : ℕ} (g : Checking ms r ls monitor next k) where
-  pub check-step : k < length ms
-      → Checking ms r ls (orAt monitor (not (eqb (entry ls (entry ms k)) (num (drawn 2 next)))) (entry ms k)) (afterDraws 2 next) (k + 1)
+  pub check-step : k < length ms → (l after : ℕ) → l ≡ num (drawn 2 next) → after ≡ afterDraws 2 next
+      → Checking ms r ls (orAt monitor (not (eqb (entry ls (entry ms k)) l)) (entry ms k)) after (k + 1)
   unfolding wrongFiller
-  check-step h = record { drawing = draw-step (g .drawing) h; left = rw add-one (rw (drop-cons ms k 0 h) at (g .left)) }
+  check-step h l after e d = record { drawing = draw-step (g .drawing) h after d; left = rw (e, d, add-one) (rw (drop-cons ms k 0 h) at (g .left)) }
 
   pub check-end : length ms ≤ k → ChecksFiller ms r ls (record { monitor = monitor; register = next })
   unfolding wrongFiller

@@ -26,7 +26,9 @@ filler-label-requires : tie.Need-filler-label-requires Inv-loop μ-loop
 filler-label-requires c κs = search needs
 
 label-at-requires : tie.Need-label-at-requires Inv-loop μ-loop
-label-at-requires c κs = rw (c .before .place-at .ensures) (c .before .before .before .before .before .before .pre .below (c .before .before .before .loop .k) (omega arith))
+label-at-requires c κs =
+    let l = c .before .before .before .loop in
+    rw (c .before .place-at .ensures) (c .before .before .before .before .before .before .pre .below (l .k) (omega arith))
 
 cast-or-here : tie.Need-cast-or-here Inv-loop μ-loop
 cast-or-here c = search needs
@@ -42,9 +44,10 @@ loop-less c = search needs
 
 loop-again : tie.Need-loop-again Inv-loop μ-loop
 loop-again c =
+    let l = c .before .before .before .before .before .before .loop in
     let f = c .before .before .before .filler-label in
-    rw (c .or-here .ensures, c .before .before .label-at .ensures, c .before .before .before .before .place-at .ensures, f .ensures .label, f .ensures .register)
-    (check-step (c .before .before .before .before .before .before .loop .inv) (omega arith))
+    rw (c .or-here .ensures, c .before .before .label-at .ensures, c .before .before .before .before .place-at .ensures)
+    (check-step (l .inv) (omega arith) (f .result .label) (f .result .register) (f .ensures .label) (f .ensures .register))
 
 returns : tie.Need-returns Inv-loop μ-loop
 returns c = check-end (c .before .loop .inv) (omega arith)

@@ -15,9 +15,7 @@ abbrev μ-loop : tie.MeasureT-loop
 μ-loop entries places labels frame₀ w₀ j₀ frame w j = length entries - j
 
 loop-holds : tie.Need-loop-holds Inv-loop μ-loop
-loop-holds c =
-    let s = c .before .before .before .before in
-    collect-start (s .pre)
+loop-holds c = collect-start (c .before .before .before .before .pre)
 
 shared-slice-read-n : tie.Need-shared-slice-read-n Inv-loop μ-loop
 shared-slice-read-n c = omega arith
@@ -53,7 +51,8 @@ loop-again c =
     let s = c .before .before .before .before .before .before .before .before .before .before .before .before .before in
     let p = c .before .before .put in
     let put = rw (c .before .before .before .label-at .ensures, c .before .before .before .before .place-at .ensures) at (p .ensures) in
-    collect-step (s .pre) (c .before .before .before .before .before .before .before .before .loop .inv) (omega arith) (p .result) (p .last .1 .0) (p .kept .1 .0) put
+    let l = c .before .before .before .before .before .before .before .before .loop in
+    collect-step (s .pre) (l .inv) (omega arith) (p .result) (p .last .1 .0) (p .kept .1 .0) put
 
 same-length : tie.Need-same-length Inv-loop μ-loop
 same-length c = c .before .loop .inv .frameLength

@@ -22,7 +22,8 @@ same-length-2 c = search needs
 returns-2 : tie.Need-returns-2
 returns-2 c =
     let r = c .first-offgrid in
-    some-off (c .before .before .before .before .demap-all .ensures) (c .before .before .before .before .before .before .before .before .pre .points) (c .before .if1 .left) (r .result) (r .ensures)
+    let s = c .before .before .before .before .before .before .before .before in
+    some-off (c .before .before .before .before .demap-all .ensures) (s .pre .points) (c .before .if1 .left) (r .result) (r .ensures)
 
 pub demap-points-spec : {M : Type 1} → statement M
 demap-points-spec =

@@ -64,7 +64,8 @@ seen c =
 returns : tie.Need-returns Inv-loop μ-loop
 returns c =
     let r = c .before .label-by in
-    (omega arith, (r .result .label, told (seen (c .before)) (not-true (r .result .on) (c .if1 .taken))), c .before .before .before .before .before .before .loop .inv .1)
+    let l = c .before .before .before .before .before .before .loop in
+    (omega arith, (r .result .label, told (seen (c .before)) (not-true (r .result .on) (c .if1 .taken))), l .inv .1)
 
 add-i : tie.Need-add-i Inv-loop μ-loop
 add-i c = search needs

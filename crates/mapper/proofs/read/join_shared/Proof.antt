@@ -1,25 +1,22 @@
 -- `mapper::read::join_shared` meets its contract. The invariant: the labels before i, and those from i on joined, are what is asked; those
 -- from i on have one bit. The measure is the places left.
 use native.Mathlib.Omega.{arith}
-use Prim.Native.Nat.{_-_, _+_, _*_}
-use mathlib.Core.Path.{_≡_, refl, sym, _∙_}
-use mathlib.Core.List.{_++_}
-use lib.ListN.{length, take, drop, length-set}
-use Rattle.g9932.specs.Sizes.{entry}
+use Prim.Native.Nat.{_-_}
+use lib.ListN.{length}
 use Rattle.mapper.specs.Reading.{joinOnes, JoinNeeds}
-use Rattle.mapper.proofs.SharedLabels.{join-step, join-needs, join-end}
+use Rattle.mapper.proofs.SharedLabels.{Changing, change-start, join-step, join-small, join-needs, join-end}
 use borrow.Author.Needs.{needs}
 use Rattle.mapper.proofs.read.join_shared.Statement.{statement}
 use Rattle.mapper.proofs.read.join_shared.Tie as tie
 
 abbrev Inv-loop : tie.InvT-loop
-Inv-loop labels₀ from i₀ labels i = JoinNeeds labels i × (length labels ≡ length labels₀) × (take i labels ++ joinOnes (drop i labels) ≡ take from labels₀ ++ joinOnes (drop from labels₀))
+Inv-loop labels₀ from i₀ labels i = JoinNeeds labels i × Changing joinOnes from labels₀ labels i
 
 abbrev μ-loop : tie.MeasureT-loop
 μ-loop labels₀ from i₀ labels i = length labels₀ - i
 
 loop-holds : tie.Need-loop-holds Inv-loop μ-loop
-loop-holds c = (c .pre, refl, refl)
+loop-holds c = (c .pre, change-start (c .pre .inside))
 
 add-loop : tie.Need-add-loop Inv-loop μ-loop
 add-loop c = search needs
@@ -42,12 +39,12 @@ slice-read-labels-2 c = search needs
 mul-labels-3 : tie.Need-mul-labels-3 Inv-loop μ-loop
 mul-labels-3 c =
     let l = c .before .before .before .loop in
-    omega (arith, l .inv .0 .ones (l .i + 1) (omega arith) (omega arith))
+    omega (arith, join-small (l .labels) (l .i) (omega arith) (l .inv .0))
 
 add-labels-2 : tie.Need-add-labels-2 Inv-loop μ-loop
 add-labels-2 c =
     let l = c .before .before .before .loop in
-    omega (arith, l .inv .0 .ones (l .i) (omega arith) (omega arith), l .inv .0 .ones (l .i + 1) (omega arith) (omega arith))
+    omega (arith, join-small (l .labels) (l .i) (omega arith) (l .inv .0))
 
 mul-labels-4 : tie.Need-mul-labels-4 Inv-loop μ-loop
 mul-labels-4 c = search needs
@@ -59,21 +56,18 @@ add-i : tie.Need-add-i Inv-loop μ-loop
 add-i c = search needs
 
 loop-less : tie.Need-loop-less Inv-loop μ-loop
-loop-less c = omega (arith, c .before .before .before .loop .inv .1)
+loop-less c = omega (arith, c .before .before .before .loop .inv .1 .labelsLength)
 
 loop-again : tie.Need-loop-again Inv-loop μ-loop
 loop-again c =
     let l = c .before .before .before .loop in
-    let n = length-set (l .labels) (l .i) (entry (l .labels) (l .i) + 2 * entry (l .labels) (l .i + 1)) in
-    (join-needs (l .labels) (l .i) (omega arith) (l .inv .0), n ∙ l .inv .1, join-step (l .labels) (l .i) (omega arith) ∙ l .inv .2)
+    (join-needs (l .labels) (l .i) (omega arith) (l .inv .0), join-step (l .labels) (l .i) (omega arith) (l .inv .1))
 
 same-length : tie.Need-same-length Inv-loop μ-loop
-same-length c = c .before .loop .inv .1
+same-length c = c .before .loop .inv .1 .labelsLength
 
 returns : tie.Need-returns Inv-loop μ-loop
-returns c =
-    let l = c .before .loop in
-    sym (join-end (l .labels) (l .i) (omega arith)) ∙ l .inv .2
+returns c = join-end (c .before .loop .inv .1) (omega arith)
 
 pub join-shared-spec : {M : Type 1} → statement M
 join-shared-spec =

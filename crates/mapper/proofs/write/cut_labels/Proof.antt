@@ -27,7 +27,9 @@ place-at-requires : tie.Need-place-at-requires Inv-loop μ-loop
 place-at-requires c κs = omega (arith, c .before .before .before .before .before .before .before .before .pre .same)
 
 get-requires : tie.Need-get-requires Inv-loop μ-loop
-get-requires c κs = omega (arith, c .before .before .before .before .before .before .before .before .before .pre .counts (c .before .before .before .before .loop .j))
+get-requires c κs =
+    let s = c .before .before .before .before .before .before .before .before .before in
+    omega (arith, s .pre .counts (c .before .before .before .before .loop .j))
 
 cast-put-label : tie.Need-cast-put-label Inv-loop μ-loop
 cast-put-label c =

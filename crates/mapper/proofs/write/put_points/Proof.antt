@@ -31,7 +31,9 @@ mul-point-by-2 : tie.Need-mul-point-by-2 Inv-loop μ-loop
 mul-point-by-2 c = search needs
 
 shared-slice-read-point-by-2 : tie.Need-shared-slice-read-point-by-2 Inv-loop μ-loop
-shared-slice-read-point-by-2 c = omega (arith, c .before .before .before .before .before .before .pre .labelsLength, c .before .before .before .loop .inv .xsLength)
+shared-slice-read-point-by-2 c =
+    let s = c .before .before .before .before .before .before in
+    omega (arith, s .pre .labelsLength, c .before .before .before .loop .inv .xsLength)
 
 point-by-requires : tie.Need-point-by-requires Inv-loop μ-loop
 point-by-requires c κs =
@@ -48,7 +50,9 @@ mul-y : tie.Need-mul-y Inv-loop μ-loop
 mul-y c = search needs
 
 slice-set-from-y : tie.Need-slice-set-from-y Inv-loop μ-loop
-slice-set-from-y c = omega (arith, c .before .before .before .before .before .before .loop .inv .xsLength, c .before .before .before .before .before .before .loop .inv .ysLength)
+slice-set-from-y c =
+    let l = c .before .before .before .before .before .before .loop in
+    omega (arith, l .inv .xsLength, l .inv .ysLength)
 
 add-i : tie.Need-add-i Inv-loop μ-loop
 add-i c = search needs

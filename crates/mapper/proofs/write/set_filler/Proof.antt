@@ -43,9 +43,10 @@ loop-less c = search needs
 
 loop-again : tie.Need-loop-again Inv-loop μ-loop
 loop-again c =
+    let l = c .before .before .before .before .before .before .before .before .loop in
     let f = c .before .before .before .before .before .before .filler-label in
-    rw (c .before .before .put-label .ensures, c .before .before .before .before .place-at .ensures, f .ensures .label, f .ensures .register)
-    (fill-step (c .before .before .before .before .before .before .before .before .loop .inv) (omega arith))
+    rw (c .before .before .put-label .ensures, c .before .before .before .before .place-at .ensures)
+    (fill-step (l .inv) (omega arith) (f .result .label) (f .result .register) (f .ensures .label) (f .ensures .register))
 
 same-length : tie.Need-same-length Inv-loop μ-loop
 same-length c = c .before .loop .inv .labelsLength
