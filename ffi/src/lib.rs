@@ -1,6 +1,7 @@
 //! The functions of include/clevisroot.h and safe wrappers around them. The header says what each
 //! one does; the names here are its names without the prefix.
 
+pub mod descriptors;
 mod raw;
 
 /// Number and place of the refusal (0 and 0 if done), frame size L, register.

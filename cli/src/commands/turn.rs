@@ -1,170 +1,371 @@
 //! `turn`: reads the points as they came and turned by half a turn, and tells the jointer.
 
-use super::tables::turned_shows;
-use super::{given_points, given_tables};
-use crate::arguments::Call;
-use crate::ask;
+use super::encode::typed;
+use super::picture::picture;
+use super::verdict::{Ground, Known, Origin, Verdict, Way};
+use super::verdict_totals::VerdictTotals;
+use crate::ask::{self, trellis_tells, Order};
+use crate::call::{Asked, Call, RESET};
 use crate::fault::Fault;
-use crate::files::{hex_lines, PointList, TableSet};
-use crate::json::{Fields, Json};
-use crate::refusal::{name, Asked};
-use crate::report::{size_words, symbol_fields, Report};
-use clevisroot_sys::Answer;
+use crate::files::{hex_lines, read_tables, PointList, TableSet};
+use crate::json::Json;
+use crate::output::Output;
+use crate::refusal::numbers::{is_of_points, DONE, OFFGRID};
+use crate::refusal::{Question, Refusal};
+use crate::register::{Finder, Search, Settled, ENOUGH_TONES};
+use crate::report::{refusal_fields, symbol_fields, Report};
+use crate::stream::{self, Reports, Task};
+use crate::words::size_words;
+use clevisroot_sys::{self as library, Answer};
 
-/// What the two readings say together.
-enum Verdict {
-    Straight,
-    Turned,
-    CannotTell,
-    Neither,
+struct Turn<'a> {
+    call: &'a Call,
+    set: TableSet,
+    order: Order,
+    /// None while the register has to be found.
+    known: Option<Known>,
+    finder: Finder,
+    totals: VerdictTotals,
 }
 
 /// One reading, either way round.
-struct Reading<'a> {
-    set: &'a TableSet,
-    points: &'a PointList,
-    register: u32,
+struct Reading {
     answer: Answer,
     frame: Vec<u8>,
+    refusal: Option<Refusal>,
 }
 
-pub fn turn(call: &Call) -> Result<Report, Fault> {
-    let set = given_tables(call)?;
-    let points = given_points(call)?;
-    let turned_points = points.turned();
-    let straight = Reading::of(&set, &points, call.register);
-    let json = symbol_fields("turn", &straight.answer);
-    // Whatever is refused before the points are looked at is no word on the clips.
-    if !matches!(straight.answer.number, 0 | 13..) {
-        let refusal = straight.asked().refusal(&straight.answer);
-        return Ok(Report::refused(&straight.answer, &refusal, json));
-    }
-    let turned = Reading::of(&set, &turned_points, call.register);
-    Ok(told(&straight, &turned, json))
+/// Both readings, and what they say together.
+struct Judged {
+    readings: [Reading; 2],
+    verdict: Verdict,
+    ground: Ground,
 }
 
-fn told(straight: &Reading, turned: &Reading, mut json: Fields) -> Report {
-    let verdict = match (straight.answer.number, turned.answer.number) {
-        (0, 0) => Verdict::CannotTell,
-        (0, _) => Verdict::Straight,
-        (_, 0) => Verdict::Turned,
-        _ => Verdict::Neither,
+pub fn turn(call: &Call) -> Result<u8, Fault> {
+    let set = read_tables(&call.operands[0])?;
+    let (_, order) = ask::order(&set);
+    let known = |register, origin| Known {
+        register,
+        origin,
+        agreed: 0,
+        way: None,
+        carried: false,
     };
-    let sentence = verdict.sentence(straight.set);
-    json.push(("frame", straight.frame_json()));
-    json.push(("verdict", Json::text(verdict.word())));
-    json.push(("sentence", Json::text(sentence.clone())));
-    let mut other = symbol_fields("turn", &turned.answer);
-    other.push(("frame", turned.frame_json()));
-    json.push(("turned", Json::Object(other)));
-    let summary = vec![
-        sentence,
-        format!("as they came: {}", straight.words()),
-        format!("turned:       {}", turned.words()),
-    ];
-    Report::new(verdict.status(), summary, json)
+    let task = Turn {
+        call,
+        set,
+        order,
+        known: match call.register {
+            Asked::Find => None,
+            Asked::Reset => Some(known(RESET, Origin::Reset)),
+            Asked::Given(register, _) => Some(known(register, Origin::Given)),
+        },
+        finder: Finder::new(),
+        totals: VerdictTotals::default(),
+    };
+    stream::run(call, task)
 }
 
-impl Verdict {
-    /// The exit status: none that a refusal or a fault has.
-    fn status(&self) -> u8 {
-        match self {
-            Verdict::Straight => 0,
-            Verdict::Turned => 32,
-            Verdict::CannotTell => 33,
-            Verdict::Neither => 34,
+impl Task for Turn<'_> {
+    type Input = PointList;
+
+    fn take(&mut self, number: usize, points: PointList, output: &Output) -> Reports {
+        let register = self.known.map_or(RESET, |known| known.register);
+        let reading = self.reading(&points, register);
+        // Whatever is refused before the points are looked at is no word on the clips.
+        if reading.answer.number != DONE && !is_of_points(reading.answer.number) {
+            let mut reports = self.finish(output);
+            reports.push((number, self.refused(&reading)));
+            return reports;
         }
+        if let Some(known) = self.known {
+            return vec![(number, self.told(&points, Some(known), output))];
+        }
+        let settled = self.finder.push(&self.set, &self.order, (number, points));
+        self.settle(settled, output)
     }
 
-    fn word(&self) -> &'static str {
-        match self {
-            Verdict::Straight => "straight",
-            Verdict::Turned => "turned",
-            Verdict::CannotTell => "cannot tell",
-            Verdict::Neither => "neither",
-        }
+    fn finish(&mut self, output: &Output) -> Reports {
+        let settled = self.finder.finish();
+        self.settle(settled, output)
     }
 
-    /// What the jointer should be told.
-    fn sentence(&self, set: &TableSet) -> String {
-        match self {
-            Verdict::Straight => "Straight: the clips are the right way round, for the points \
-                                  are read as they came and refused when turned."
-                .to_string(),
-            Verdict::Turned => "Turned: the clips are the wrong way round, so swap them; the \
-                                points are refused as they came and read when turned."
-                .to_string(),
-            Verdict::CannotTell => format!(
-                "Cannot tell: the points are read both ways, for {}; a spare tone with 0 bits \
-                 and a gain would tell.",
-                blindness(set)
-            ),
-            Verdict::Neither => "Neither: the points are refused both ways, so look for noise, \
-                                 other tables or another register before you swap the clips."
-                .to_string(),
-        }
+    fn is_hopeless(&self) -> bool {
+        library::check(self.set.lent()).number > 0
+    }
+
+    fn totals(&self) -> Report {
+        self.totals.report()
     }
 }
 
-/// Why this table set cannot tell a turned symbol.
-fn blindness(set: &TableSet) -> String {
-    let (_, order) = ask::order(set);
-    if turned_shows(set, &order) {
-        return "the library reads what it should refuse".to_string();
+impl Turn<'_> {
+    fn monitored(&self) -> usize {
+        self.order.monitored(&self.set).count()
     }
-    if set.coded {
-        format!(
-            "this table set monitors no tone and N, its count of non-zero re-ordered entries, \
-             is even ({})",
-            order.loaded()
-        )
-    } else {
-        "this table set is uncoded and monitors no tone".to_string()
-    }
-}
 
-impl<'a> Reading<'a> {
-    fn of(set: &'a TableSet, points: &'a PointList, register: u32) -> Reading<'a> {
-        let (answer, frame) = ask::read(set, &points.x, &points.y, register);
-        Reading {
-            set,
-            points,
+    fn settle(&mut self, settled: Vec<Settled>, output: &Output) -> Reports {
+        let mut reports = Vec::new();
+        for settled in settled {
+            match settled {
+                Settled::Found(mut register, tones, symbols) => {
+                    for (number, points) in symbols {
+                        let known = Known {
+                            register,
+                            origin: Origin::Found(tones),
+                            agreed: tones,
+                            way: None,
+                            carried: false,
+                        };
+                        reports.push((number, self.told(&points, Some(known), output)));
+                        // They follow each other, whatever became of this one.
+                        let draws = 2 * self.monitored();
+                        register = (0..draws).fold(register, |reg, _| library::draw(reg).reg);
+                    }
+                }
+                Settled::Alone((number, points)) => {
+                    reports.push((number, self.told(&points, None, output)));
+                }
+            }
+        }
+        reports
+    }
+
+    fn reading(&self, points: &PointList, register: u32) -> Reading {
+        let (answer, frame) = ask::read(&self.set, &points.x, &points.y, register);
+        let question = Question {
+            points: Some(points),
             register,
+            typed: typed(self.call),
+            ..Question::of_tables(&self.set)
+        };
+        let refusal = (answer.number != DONE).then(|| question.refusal(&answer));
+        Reading {
             answer,
             frame,
+            refusal,
         }
     }
 
-    fn asked(&self) -> Asked<'_> {
-        Asked {
-            set: self.set,
-            frame: None,
-            points: Some(self.points),
-            register: self.register,
+    /// Tables, points or register are refused, so that there is no verdict.
+    fn refused(&mut self, reading: &Reading) -> Report {
+        let json = symbol_fields("turn", &reading.answer);
+        let report = match &reading.refusal {
+            Some(refusal) => Report::refused(refusal, json),
+            None => Report::new(0, Vec::new(), json),
+        };
+        self.totals.add_refused(report.status);
+        report
+    }
+
+    /// Reads both ways with registers that fit the monitored points as far as any does.
+    fn fitted(&self, points: &PointList, turned: &PointList) -> ([Reading; 2], Search) {
+        let mut search = Search::new();
+        search.add(&self.set, &self.order, points);
+        let [straight, other] = search.examples().map(|register| register.unwrap_or(RESET));
+        let readings = [self.reading(points, straight), self.reading(turned, other)];
+        (readings, search)
+    }
+
+    fn judge(&self, points: &PointList, known: Option<Known>) -> Judged {
+        let turned = points.turned();
+        let (fitted, search) = self.fitted(points, &turned);
+        let by_trellis = only_way(&fitted).filter(|_| trellis_tells(&self.set, &self.order));
+        let readings = match known {
+            Some(known) => [
+                self.reading(points, known.register),
+                self.reading(&turned, known.register),
+            ],
+            None => fitted,
+        };
+        let found = known.filter(|known| matches!(known.origin, Origin::Found(_)));
+        let (verdict, ground) = match (by_trellis, known) {
+            // Where the register was found and read with, both speak; the register is the news.
+            (_, Some(known)) if found.is_some() && only_way(&readings).is_some() => {
+                self.judge_by_register(&readings, known)
+            }
+            (Some(way), _) => (Verdict::sure(way), Ground::Trellis(self.order.loaded())),
+            (None, Some(known)) => self.judge_by_register(&readings, known),
+            (None, None) => judge_without(&readings, search.tones),
+        };
+        Judged {
+            readings,
+            verdict,
+            ground,
         }
     }
 
-    fn words(&self) -> String {
-        let answer = &self.answer;
-        if answer.number > 0 {
-            let place = self.asked().refusal(answer).place;
-            return format!("refused, {} {} {place}", answer.number, name(answer.number));
+    fn judge_by_register(&self, readings: &[Reading; 2], known: Known) -> (Verdict, Ground) {
+        if both_read(readings) {
+            return (Verdict::CannotTell, Ground::Nothing);
+        }
+        let Some(way) = only_way(readings) else {
+            let off_grid = readings
+                .iter()
+                .all(|reading| reading.answer.number == OFFGRID);
+            return match off_grid {
+                true => (Verdict::Neither, Ground::NoRegister),
+                false => (Verdict::Neither, Ground::Tones(known, 0)),
+            };
+        };
+        let tones = agreed(known, way, self.monitored());
+        let ground = Ground::Tones(known, tones);
+        let settled = matches!(known.origin, Origin::Given | Origin::Found(_));
+        if settled || tones >= ENOUGH_TONES {
+            (Verdict::sure(way), ground)
+        } else {
+            (Verdict::perhaps(way), ground)
+        }
+    }
+
+    /// Judges a symbol, reports it, and carries the register on.
+    fn told(&mut self, points: &PointList, known: Option<Known>, output: &Output) -> Report {
+        let judged = self.judge(points, known);
+        self.known = self.carry(&judged, known);
+        self.totals.add(judged.verdict);
+        let mut report = judged.report(&self.set, known.is_some());
+        if output.wants_picture(report.refused) {
+            let answer = &judged.readings[0].answer;
+            let lists = (&points.x[..], &points.y[..]);
+            let caption = judged.caption();
+            report.picture = Some(picture(&self.set, &self.order, lists, answer, caption));
+        }
+        report
+    }
+
+    /// The register for the next symbol: the one after the draws if this one was read, else as it
+    /// is handed back.
+    fn carry(&self, judged: &Judged, known: Option<Known>) -> Option<Known> {
+        let known = known?;
+        let read = judged
+            .readings
+            .iter()
+            .find(|reading| reading.answer.number == DONE);
+        match (read, self.call.register == Asked::Find) {
+            (Some(read), _) => {
+                let way = only_way(&judged.readings);
+                Some(Known {
+                    register: read.answer.reg,
+                    agreed: way.map_or(0, |way| agreed(known, way, self.monitored())),
+                    way,
+                    carried: true,
+                    ..known
+                })
+            }
+            (None, true) => None,
+            (None, false) => Some(Known {
+                origin: Origin::HandedBack,
+                agreed: 0,
+                way: None,
+                ..known
+            }),
+        }
+    }
+}
+
+/// The register is to be found, and was not.
+fn judge_without(readings: &[Reading; 2], tones: usize) -> (Verdict, Ground) {
+    match (both_read(readings), only_way(readings), tones) {
+        (true, _, 0) => (Verdict::CannotTell, Ground::Nothing),
+        (true, ..) | (false, Some(_), _) => (Verdict::CannotTell, Ground::TooFew(tones)),
+        (false, None, _) => (Verdict::Neither, Ground::NoRegister),
+    }
+}
+
+fn both_read(readings: &[Reading; 2]) -> bool {
+    readings.iter().all(|reading| reading.answer.number == DONE)
+}
+
+/// The only way round that is read.
+fn only_way(readings: &[Reading; 2]) -> Option<Way> {
+    match [0, 1].map(|way| readings[way].answer.number == DONE) {
+        [true, false] => Some(Way::Straight),
+        [false, true] => Some(Way::Turned),
+        _ => None,
+    }
+}
+
+/// The monitored tones that agree with a register when this symbol is read this way too.
+fn agreed(known: Known, way: Way, monitored: usize) -> usize {
+    match known.origin {
+        Origin::Found(_) => known.agreed,
+        _ if known.way == Some(way) => known.agreed + monitored,
+        _ => monitored,
+    }
+}
+
+impl Judged {
+    fn report(&self, set: &TableSet, register_known: bool) -> Report {
+        let sentence = self.verdict.sentence(set, &self.ground);
+        let [straight, turned] = &self.readings;
+        let fields = |reading: &Reading| {
+            let mut answer = [
+                reading.answer.number,
+                reading.answer.place,
+                reading.answer.size,
+            ]
+            .map(Some)
+            .to_vec();
+            answer.push(Some(reading.answer.reg).filter(|_| register_known));
+            let mut fields =
+                crate::report::fields("turn", [answer[0], answer[1], answer[2], answer[3]]);
+            if let Some(refusal) = &reading.refusal {
+                fields.extend(refusal_fields(refusal));
+            }
+            fields.push(("frame", reading.frame_json()));
+            fields
+        };
+        let mut json = fields(straight);
+        json.retain(|(key, _)| *key != "sentence");
+        json.push(("verdict", Json::text(self.verdict.word())));
+        json.push(("sure", Json::Flag(self.verdict.is_sure())));
+        json.push(("rests_on", Json::Object(self.ground.fields())));
+        json.push(("sentence", Json::text(sentence.clone())));
+        json.push(("turned", Json::Object(fields(turned))));
+        let summary = vec![
+            sentence,
+            format!("as they came: {}", straight.words(register_known)),
+            format!("turned:       {}", turned.words(register_known)),
+        ];
+        let mut report = Report::new(self.verdict.status(), summary, json);
+        report.refused = self.verdict == Verdict::Neither;
+        report
+    }
+
+    fn caption(&self) -> String {
+        let refusal = self.readings[0].refusal.as_ref();
+        let refused = refusal.map_or(String::new(), |refusal| {
+            format!(
+                "; as they came refused, {} {}",
+                refusal.title(),
+                refusal.place
+            )
+        });
+        format!("turn: {}{refused}", self.verdict.word())
+    }
+}
+
+impl Reading {
+    fn words(&self, register_known: bool) -> String {
+        if let Some(refusal) = &self.refusal {
+            return format!("refused, {} {}", refusal.title(), refusal.place);
         }
         // A long frame is for --json.
         let frame = match self.frame.len() {
             1..=16 => format!("frame {} (hex), ", hex_lines(&self.frame).trim_end()),
             _ => String::new(),
         };
-        format!(
-            "read, {frame}{}, register after {}",
-            size_words(answer.size),
-            answer.reg
-        )
+        let size = size_words(self.answer.size);
+        match register_known {
+            true => format!("read, {frame}{size}, register after {}", self.answer.reg),
+            false => format!("read, {frame}{size}, register not known"),
+        }
     }
 
     fn frame_json(&self) -> Json {
         match self.answer.number {
-            0 => Json::text(hex_lines(&self.frame).replace('\n', "")),
+            DONE => Json::text(hex_lines(&self.frame).replace('\n', "")),
             _ => Json::Null,
         }
     }

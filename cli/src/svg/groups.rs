@@ -2,7 +2,7 @@
 
 use super::Symbol;
 use crate::files::Class;
-use crate::index::SubCarrier;
+use crate::index::Subcarrier;
 use clevisroot_sys as library;
 use std::collections::BTreeMap;
 
@@ -15,7 +15,7 @@ pub struct Group {
 /// A point that one or more tones of a group have.
 pub struct Spot {
     pub point: (i16, i16),
-    pub tones: Vec<SubCarrier>,
+    pub tones: Vec<Subcarrier>,
     pub refused: bool,
 }
 

@@ -8,7 +8,7 @@ use std::process::{Command, Stdio};
 const A: &str = "examples/bench-a.txt";
 
 #[derive(Clone, Debug, PartialEq)]
-enum Value {
+pub enum Value {
     Null,
     Flag(bool),
     Number(i64),
@@ -103,8 +103,7 @@ impl Checker<'_> {
 }
 
 /// The object that a call printed.
-fn object(ran: &Ran) -> BTreeMap<String, Value> {
-    assert_eq!(ran.err, "");
+pub fn object(ran: &Ran) -> BTreeMap<String, Value> {
     python_agrees(&ran.out);
     let mut checker = Checker { rest: &ran.out };
     let value = checker.value();
@@ -133,11 +132,11 @@ fn python_agrees(text: &str) {
     assert!(child.wait().unwrap().success(), "{text}");
 }
 
-fn numbers(list: &[i64]) -> Value {
+pub fn numbers(list: &[i64]) -> Value {
     Value::List(list.iter().map(|&number| Value::Number(number)).collect())
 }
 
-fn text(text: &str) -> Value {
+pub fn text(text: &str) -> Value {
     Value::Text(text.to_string())
 }
 
@@ -155,7 +154,25 @@ fn answer(number: i64, name: &str, place: i64, size: i64, register: Value) -> [V
 fn what_is_done() {
     let check = object(&run(&["check", A, "--json"]));
     assert_eq!(head(&check), answer(0, "DONE", 0, 5, Value::Null));
-    assert_eq!(check["turned_shows"], Value::Flag(true));
+    assert_eq!(
+        ["turned_shows", "turned_shows_without_register"].map(|key| check[key].clone()),
+        [Value::Flag(true), Value::Flag(false)]
+    );
+    assert_eq!(check["mode"], text("coded"));
+    assert_eq!(
+        [
+            "sub_carriers",
+            "tones",
+            "data",
+            "monitored",
+            "silent",
+            "non_zero_entries"
+        ]
+        .map(|key| check[key].clone()),
+        [8, 6, 5, 1, 0, 4].map(Value::Number)
+    );
+    let by_bits = [2, 1, 1, 1, 0, 0, 0, 0, 0, 0, 0, 0, 0, 0, 0];
+    assert_eq!(check["tones_by_bits"], numbers(&by_bits));
     let order = object(&run(&["order", A, "--json"]));
     assert_eq!(head(&order), answer(0, "DONE", 0, 5, Value::Null));
     assert_eq!(order["tones"], numbers(&[7, 5, 2, 4, 3, 6]));
@@ -201,6 +218,26 @@ fn what_is_refused() {
     );
     assert_eq!(read["place_is"], text("place in t'"));
     assert!(!read.contains_key("frame"));
+    assert_eq!(
+        ["sub_carrier", "file", "line", "pair_sub_carriers"].map(|key| read[key].clone()),
+        [
+            Value::Number(4),
+            text("standard input"),
+            Value::Number(4),
+            Value::Null
+        ]
+    );
+    let broken = b"1,1\n1,1\n1,1\n-1,-1\n1,1\n-1,-1";
+    let read = object(&run_with(broken, &["read", A, "-", "--json"]));
+    assert_eq!(read["place_is"], text("pair"));
+    assert_eq!(read["pair_sub_carriers"], numbers(&[2, 3, 6]));
+    assert_eq!(read["sub_carrier"], Value::Null);
+    let set = tables("json-gain.txt", "coded", 9, &[(7, 2, 0), (8, 2, 1)]);
+    let check = object(&run(&["check", &set, "--json"]));
+    assert_eq!(
+        [&check["sub_carrier"], &check["line"], &check["file"]],
+        [&Value::Number(7), &Value::Number(3), &text(&set)]
+    );
     let set = tables("json-few.txt", "coded", 9, &[(8, 2, 1)]);
     let check = object(&run(&["check", &set, "--json"]));
     assert_eq!(head(&check), answer(8, "FEW", 0, 0, Value::Null));
@@ -216,7 +253,41 @@ fn both_readings_of_turn() {
     );
     assert_eq!(
         [&turn["verdict"], &turn["frame"]],
-        [&text("turned"), &Value::Null]
+        [&text("perhaps turned"), &Value::Null]
+    );
+    assert_eq!(
+        [
+            &turn["sure"],
+            &turn["place_is"],
+            &turn["sub_carrier"],
+            &turn["line"]
+        ],
+        [
+            &Value::Flag(false),
+            &text("place in t'"),
+            &Value::Number(4),
+            &Value::Number(6)
+        ]
+    );
+    let Value::Object(ground) = &turn["rests_on"] else {
+        panic!("no object")
+    };
+    assert_eq!(
+        [
+            "register",
+            "register_is",
+            "monitored_tones",
+            "wrong_register_alike_one_in",
+            "trellis"
+        ]
+        .map(|key| ground[key].clone()),
+        [
+            Value::Number(8_388_607),
+            text("reset value, assumed"),
+            Value::Number(1),
+            Value::Number(4),
+            Value::Flag(false)
+        ]
     );
     let Value::Object(turned) = &turn["turned"] else {
         panic!("no object")
@@ -226,6 +297,14 @@ fn both_readings_of_turn() {
         answer(0, "DONE", 0, 5, Value::Number(2_097_151))
     );
     assert_eq!(turned["frame"], text("15"));
+    // The refusal inside, when it is the turned one.
+    let turn = object(&run(&["turn", A, "examples/bench-a.csv", "--json"]));
+    let Value::Object(turned) = &turn["turned"] else {
+        panic!("no object")
+    };
+    assert_eq!(turned["place_is"], text("place in t'"));
+    assert_eq!(turned["sub_carrier"], Value::Number(4));
+    assert!(!turn.contains_key("place_is"));
 }
 
 #[test]
@@ -237,6 +316,6 @@ fn strange_file_names_are_escaped() {
     let points = file("b \"q\".csv", "1,1\n1,1\n1,1\n1,1\n1,1\n1,1");
     assert_eq!(
         object(&run(&["turn", A, &points, "--json"]))["verdict"],
-        text("turned")
+        text("perhaps turned")
     );
 }

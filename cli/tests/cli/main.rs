@@ -3,6 +3,7 @@
 mod commands;
 mod examples;
 mod faults;
+mod find;
 mod json;
 mod refusals;
 mod robust;

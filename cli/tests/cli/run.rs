@@ -84,3 +84,16 @@ pub fn tables(name: &str, mode: &str, carriers: usize, tones: &[(usize, usize, u
 pub fn equal(count: usize, bits: usize) -> Vec<(usize, usize, usize)> {
     (0..count).map(|tone| (tone, bits, 512)).collect()
 }
+
+/// The same points turned by half a turn.
+pub fn turned(points: &str) -> String {
+    let negative = |number: &str| (-number.trim().parse::<i16>().unwrap()).to_string();
+    let turn = |line: &str| {
+        let point = line.split('#').next().unwrap();
+        match point.split_once(',') {
+            Some((x, y)) if x != "x" => format!("{},{}\n", negative(x), negative(y)),
+            _ => "\n".to_string(),
+        }
+    };
+    points.lines().map(turn).collect()
+}
