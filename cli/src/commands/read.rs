@@ -10,7 +10,7 @@ use crate::fault::Fault;
 use crate::files::{hex_lines, read_tables, PointList, TableSet};
 use crate::json::Json;
 use crate::output::Output;
-use crate::refusal::numbers::{is_of_points, DONE};
+use crate::refusal::numbers::{is_of_points, DONE, MONITOR};
 use crate::refusal::Question;
 use crate::register::{Finder, Settled};
 use crate::report::{done_words, fields, reason, symbol_fields, Report, Written};
@@ -49,7 +49,12 @@ impl Task for Read<'_> {
 
     fn take(&mut self, number: usize, points: PointList, output: &Output) -> Reports {
         if let Some(register) = self.register {
-            return vec![self.read(number, &points, register, None, output)];
+            let answer = ask::read(&self.set, &points.x, &points.y, register).0;
+            // A register that was found is found anew where a symbol may be missing.
+            if self.call.register != Asked::Find || answer.number != MONITOR {
+                return vec![self.read(number, &points, register, None, output)];
+            }
+            self.register = None;
         }
         // What is refused before the register is looked at needs none.
         let answer = ask::read(&self.set, &points.x, &points.y, RESET).0;
@@ -82,9 +87,10 @@ impl Read<'_> {
         let mut reports = Vec::new();
         for settled in settled {
             match settled {
-                Settled::Found(mut register, tones, symbols) => {
-                    for (number, points) in symbols {
-                        reports.push(self.read(number, &points, register, Some(tones), output));
+                Settled::Found(run) => {
+                    let mut register = run.register;
+                    for (number, points) in run.symbols {
+                        reports.push(self.read(number, &points, register, Some(run.tones), output));
                         register = self.after_draws(register);
                     }
                 }

@@ -10,7 +10,7 @@ use crate::fault::Fault;
 use crate::files::{hex_lines, read_tables, PointList, TableSet};
 use crate::json::Json;
 use crate::output::Output;
-use crate::refusal::numbers::{is_of_points, DONE, OFFGRID};
+use crate::refusal::numbers::{is_of_points, DONE, MONITOR, OFFGRID};
 use crate::refusal::{Question, Refusal};
 use crate::register::{Finder, Search, Settled, ENOUGH_TONES};
 use crate::report::{refusal_fields, symbol_fields, Report};
@@ -80,7 +80,10 @@ impl Task for Turn<'_> {
             return reports;
         }
         if let Some(known) = self.known {
-            return vec![(number, self.told(&points, Some(known), output))];
+            if self.call.register != Asked::Find || !self.is_out_of_step(&points, known) {
+                return vec![(number, self.told(&points, Some(known), output))];
+            }
+            self.known = None;
         }
         let settled = self.finder.push(&self.set, &self.order, (number, points));
         self.settle(settled, output)
@@ -105,16 +108,34 @@ impl Turn<'_> {
         self.order.monitored(&self.set).count()
     }
 
+    /// Whether a register that was found is not that of this symbol: one may be missing before it.
+    fn is_out_of_step(&self, points: &PointList, known: Known) -> bool {
+        let readings = [
+            self.reading(points, known.register),
+            self.reading(&points.turned(), known.register),
+        ];
+        match only_way(&readings) {
+            Some(way) => known.way.is_some_and(|before| before != way),
+            None => readings
+                .iter()
+                .all(|reading| reading.answer.number == MONITOR),
+        }
+    }
+
     fn settle(&mut self, settled: Vec<Settled>, output: &Output) -> Reports {
         let mut reports = Vec::new();
         for settled in settled {
             match settled {
-                Settled::Found(mut register, tones, symbols) => {
-                    for (number, points) in symbols {
+                Settled::Found(run) => {
+                    let mut register = run.register;
+                    for (number, points) in run.symbols {
                         let known = Known {
                             register,
-                            origin: Origin::Found(tones),
-                            agreed: tones,
+                            origin: match run.checked {
+                                true => Origin::Found(run.tones),
+                                false => Origin::FoundAcross(run.tones),
+                            },
+                            agreed: run.tones,
                             way: None,
                             carried: false,
                         };
@@ -209,13 +230,18 @@ impl Turn<'_> {
                 false => (Verdict::Neither, Ground::Tones(known, 0)),
             };
         };
-        let tones = agreed(known, way, self.monitored());
-        let ground = Ground::Tones(known, tones);
-        let settled = matches!(known.origin, Origin::Given | Origin::Found(_));
-        if settled || tones >= ENOUGH_TONES {
-            (Verdict::sure(way), ground)
-        } else {
-            (Verdict::perhaps(way), ground)
+        let known = known.reading(way, self.monitored());
+        let sure = match known.origin {
+            Origin::Given | Origin::Found(_) => true,
+            Origin::FoundAcross(_) => false,
+            Origin::Reset | Origin::HandedBack | Origin::Contradicted => {
+                known.agreed >= ENOUGH_TONES
+            }
+        };
+        let ground = Ground::Tones(known, known.agreed);
+        match sure {
+            true => (Verdict::sure(way), ground),
+            false => (Verdict::perhaps(way), ground),
         }
     }
 
@@ -244,11 +270,12 @@ impl Turn<'_> {
             .find(|reading| reading.answer.number == DONE);
         match (read, self.call.register == Asked::Find) {
             (Some(read), _) => {
-                let way = only_way(&judged.readings);
+                let known = match only_way(&judged.readings) {
+                    Some(way) => known.reading(way, self.monitored()),
+                    None => known,
+                };
                 Some(Known {
                     register: read.answer.reg,
-                    agreed: way.map_or(0, |way| agreed(known, way, self.monitored())),
-                    way,
                     carried: true,
                     ..known
                 })
@@ -283,15 +310,6 @@ fn only_way(readings: &[Reading; 2]) -> Option<Way> {
         [true, false] => Some(Way::Straight),
         [false, true] => Some(Way::Turned),
         _ => None,
-    }
-}
-
-/// The monitored tones that agree with a register when this symbol is read this way too.
-fn agreed(known: Known, way: Way, monitored: usize) -> usize {
-    match known.origin {
-        Origin::Found(_) => known.agreed,
-        _ if known.way == Some(way) => known.agreed + monitored,
-        _ => monitored,
     }
 }
 

@@ -3,7 +3,7 @@
 use crate::ask::{self, Order};
 use crate::files::{PointList, TableSet};
 use crate::json::{Fields, Json};
-use crate::register::{Found, Search, ENOUGH_TONES};
+use crate::register::{Found, Search, ENOUGH_TONES, TONES_OF_STREAM};
 use crate::words::count;
 
 /// The exit status where nothing can be told.
@@ -33,8 +33,12 @@ pub enum Origin {
     Given,
     /// The monitored tones gave it; so many of them.
     Found(usize),
+    /// So many monitored tones of several symbols gave it, too few to say that none is missing.
+    FoundAcross(usize),
     /// A symbol before was refused and handed it back, so that it may be out of step.
     HandedBack,
+    /// Symbols before were read the other way round with it, so that one may be missing.
+    Contradicted,
 }
 
 /// A register, and what speaks for it.
@@ -47,6 +51,30 @@ pub struct Known {
     pub way: Option<Way>,
     /// It is the one after a symbol that was read.
     pub carried: bool,
+}
+
+impl Known {
+    /// What it is to a symbol that is read this way with it: clips are not swapped within a stream,
+    /// so that a change of the way speaks against the register.
+    pub fn reading(self, way: Way, monitored: usize) -> Known {
+        match (self.origin, self.way) {
+            (_, Some(before)) if before != way => Known {
+                origin: Origin::Contradicted,
+                agreed: monitored,
+                way: Some(way),
+                ..self
+            },
+            (Origin::Found(_) | Origin::FoundAcross(_), _) => Known {
+                way: Some(way),
+                ..self
+            },
+            _ => Known {
+                agreed: self.agreed + monitored,
+                way: Some(way),
+                ..self
+            },
+        }
+    }
 }
 
 /// What a verdict rests on.
@@ -131,6 +159,11 @@ fn sure_sentence(clips: &str, readings: &str, ground: &Ground) -> String {
     match ground {
         Ground::Tones(known, tones) => {
             match known.origin {
+                Origin::Found(found) if known.carried => format!(
+                "{clips}: {readings} with register {}, which goes on from the one that {found} \
+                 monitored tones of the symbols before gave.",
+                known.register
+            ),
                 Origin::Found(found) => format!(
                 "{clips}, whatever the register was: {readings} with register {}, which {found} \
                  monitored tones give ({} filler bits, where 23 fix it and {} to spare {}), and \
@@ -164,18 +197,33 @@ fn sure_sentence(clips: &str, readings: &str, ground: &Ground) -> String {
 
 fn perhaps_sentence(word: &str, readings: &str, ground: &Ground) -> String {
     let rest = match ground {
-        Ground::Tones(known, tones) => format!(
-            "but only with register {}, which {}, and {}",
-            known.register,
-            origin_words(known),
-            agreement(*tones)
-        ),
+        Ground::Tones(known, tones) => match known.origin {
+            Origin::FoundAcross(found) => format!(
+                "but only with register {}, which {found} monitored tones of several symbols give \
+                 if none is missing between them",
+                known.register
+            ),
+            _ => format!(
+                "but only with register {}, which {}, and {}",
+                known.register,
+                origin_words(known),
+                agreement(*tones)
+            ),
+        },
         _ => "but that rests on nothing".to_string(),
     };
     format!(
         "Perhaps {word}: {readings}, {rest}; the writer's register (--register N) would settle it, \
-         and so would --register find from {ENOUGH_TONES} monitored tones on, in one symbol or in \
-         several that follow each other."
+         and so would --register find from {}.",
+        enough_words()
+    )
+}
+
+/// "12 monitored tones in one symbol, or 32 in several that follow each other"
+fn enough_words() -> String {
+    format!(
+        "{ENOUGH_TONES} monitored tones in one symbol, or {TONES_OF_STREAM} in several that follow \
+         each other"
     )
 }
 
@@ -198,10 +246,10 @@ fn neither_sentence(ground: &Ground) -> String {
 fn why_not_told(set: &TableSet, ground: &Ground) -> String {
     if let Ground::TooFew(tones) = ground {
         return format!(
-            "the points are read both ways, for {} of the 23 bits of the register, and \
-             {ENOUGH_TONES} tones, in one symbol or in several that follow each other, or the \
-             writer's register (--register N) would settle it",
-            equations(*tones)
+            "the points are read both ways, for {} for the 23 bits of the register; the writer's \
+             register (--register N) would settle it, and so would {}",
+            equations(*tones),
+            enough_words()
         );
     }
     let (_, order) = ask::order(set);
@@ -252,8 +300,11 @@ fn origin_words(known: &Known) -> &'static str {
         (Origin::Reset, true) => "goes back to the value at reset, assumed because none was given",
         (Origin::Given, false) => "was given",
         (Origin::Given, true) => "goes back to the one that was given",
-        (Origin::Found(_), _) => "the monitored tones give",
+        (Origin::Found(_) | Origin::FoundAcross(_), _) => "the monitored tones give",
         (Origin::HandedBack, _) => "a refused symbol handed back and which may be out of step",
+        (Origin::Contradicted, _) => {
+            "read a symbol before the other way round and so may be out of step"
+        }
     }
 }
 
@@ -266,7 +317,9 @@ impl Ground {
                     Origin::Reset => "reset value, assumed",
                     Origin::Given => "given",
                     Origin::Found(_) => "found",
+                    Origin::FoundAcross(_) => "found, if no symbol is missing",
                     Origin::HandedBack => "handed back by a refused symbol",
+                    Origin::Contradicted => "contradicted by a symbol before",
                 };
                 (Json::Number(known.register.into()), word, Some(*tones))
             }
@@ -303,9 +356,9 @@ pub fn not_found_sentence(set: &TableSet, order: &Order, points: &PointList) -> 
                    same with every register; leave --register find out."
             .to_string(),
         (tones, Found::Open) => format!(
-            "Cannot tell the register: {} for its 23 bits, and {ENOUGH_TONES} monitored tones are \
-             needed, in one symbol or in several that follow each other.",
-            equations(tones)
+            "Cannot tell the register: {} for its 23 bits, where it takes {}.",
+            equations(tones),
+            enough_words()
         ),
         _ => "Cannot tell the register: none gives the points of the monitored tones, so look for \
               noise or other tables."
