@@ -1,6 +1,6 @@
 //! `encode`: frames to points.
 
-use super::picture::{caption, picture};
+use super::picture::{caption, Picture};
 use super::totals::Totals;
 use crate::ask::{self, Order, Points};
 use crate::call::{Asked, Call};
@@ -65,14 +65,16 @@ impl Task for Encode<'_> {
                 file: csv(&points, &[]),
             });
             if output.wants_picture(false) {
-                let caption = caption("encode", self.register, &answer, None);
-                report.picture = Some(picture(
-                    &self.set,
-                    &self.order,
-                    (&points.x, &points.y),
-                    &answer,
-                    caption,
-                ));
+                let picture = Picture {
+                    set: &self.set,
+                    order: &self.order,
+                    x: &points.x,
+                    y: &points.y,
+                    typed: None,
+                    answer: &answer,
+                };
+                let caption = caption(("encode", number), self.register, &answer, None);
+                report.picture = Some(picture.draw(caption));
             }
             report
         };

@@ -1,7 +1,7 @@
 //! `read`: points to frames.
 
 use super::encode::typed;
-use super::picture::{caption, picture};
+use super::picture::{caption, Picture};
 use super::totals::Totals;
 use super::verdict::{not_found_sentence, CANNOT_TELL};
 use crate::ask::{self, Order};
@@ -152,9 +152,16 @@ impl Read<'_> {
         // Points that are refused for what they are can be drawn too.
         let drawable = answer.number == DONE || is_of_points(answer.number);
         if drawable && output.wants_picture(report.refused) {
-            let caption = caption("read", register, &answer, refusal.as_ref());
-            let lists = (&points.x[..], &points.y[..]);
-            report.picture = Some(picture(&self.set, &self.order, lists, &answer, caption));
+            let picture = Picture {
+                set: &self.set,
+                order: &self.order,
+                x: &points.x,
+                y: &points.y,
+                typed: Some(points),
+                answer: &answer,
+            };
+            let caption = caption(("read", number), register, &answer, refusal.as_ref());
+            report.picture = Some(picture.draw(caption));
         }
         let lost = self.call.register == Asked::Find && report.refused;
         self.register = (!lost).then_some(answer.reg);

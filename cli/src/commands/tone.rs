@@ -100,6 +100,7 @@ fn refused(command: &'static str, number: u32, sentence: String) -> Report {
         number,
         place_is: None,
         place: "at place 0: the one tone asked for".to_string(),
+        spot: "at place 0: the one tone asked for".to_string(),
         sentence,
         details: Vec::new(),
     };

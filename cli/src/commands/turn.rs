@@ -1,7 +1,7 @@
 //! `turn`: reads the points as they came and turned by half a turn, and tells the jointer.
 
 use super::encode::typed;
-use super::picture::picture;
+use super::picture::{titled, Picture};
 use super::verdict::{Ground, Known, Origin, Verdict, Way};
 use super::verdict_totals::VerdictTotals;
 use crate::ask::{self, trellis_tells, Order};
@@ -81,7 +81,7 @@ impl Task for Turn<'_> {
         }
         if let Some(known) = self.known {
             if self.call.register != Asked::Find || !self.is_out_of_step(&points, known) {
-                return vec![(number, self.told(&points, Some(known), output))];
+                return vec![(number, self.told(number, &points, Some(known), output))];
             }
             self.known = None;
         }
@@ -139,14 +139,14 @@ impl Turn<'_> {
                             way: None,
                             carried: false,
                         };
-                        reports.push((number, self.told(&points, Some(known), output)));
+                        reports.push((number, self.told(number, &points, Some(known), output)));
                         // They follow each other, whatever became of this one.
                         let draws = 2 * self.monitored();
                         register = (0..draws).fold(register, |reg, _| library::draw(reg).reg);
                     }
                 }
                 Settled::Alone((number, points)) => {
-                    reports.push((number, self.told(&points, None, output)));
+                    reports.push((number, self.told(number, &points, None, output)));
                 }
             }
         }
@@ -246,16 +246,27 @@ impl Turn<'_> {
     }
 
     /// Judges a symbol, reports it, and carries the register on.
-    fn told(&mut self, points: &PointList, known: Option<Known>, output: &Output) -> Report {
+    fn told(
+        &mut self,
+        number: usize,
+        points: &PointList,
+        known: Option<Known>,
+        output: &Output,
+    ) -> Report {
         let judged = self.judge(points, known);
         self.known = self.carry(&judged, known);
         self.totals.add(judged.verdict);
         let mut report = judged.report(&self.set, known.is_some());
         if output.wants_picture(report.refused) {
-            let answer = &judged.readings[0].answer;
-            let lists = (&points.x[..], &points.y[..]);
-            let caption = judged.caption();
-            report.picture = Some(picture(&self.set, &self.order, lists, answer, caption));
+            let picture = Picture {
+                set: &self.set,
+                order: &self.order,
+                x: &points.x,
+                y: &points.y,
+                typed: Some(points),
+                answer: &judged.readings[0].answer,
+            };
+            report.picture = Some(picture.draw(judged.caption(number)));
         }
         report
     }
@@ -351,16 +362,20 @@ impl Judged {
         report
     }
 
-    fn caption(&self) -> String {
+    fn caption(&self, number: usize) -> String {
         let refusal = self.readings[0].refusal.as_ref();
         let refused = refusal.map_or(String::new(), |refusal| {
             format!(
                 "; as they came refused, {} {}",
                 refusal.title(),
-                refusal.place
+                refusal.spot
             )
         });
-        format!("turn: {}{refused}", self.verdict.word())
+        format!(
+            "{}: {}{refused}",
+            titled("turn", number),
+            self.verdict.word()
+        )
     }
 }
 

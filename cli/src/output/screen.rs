@@ -40,5 +40,7 @@ pub fn print(text: &str) -> Result<(), Fault> {
 
 /// Prints to standard error. If that fails too, the exit status is all there is.
 pub fn complain(message: &str) {
-    let _ = writeln!(io::stderr(), "clevisroot: {message}");
+    // In one piece, so that two tools of a pipe do not mix their lines.
+    let line = format!("clevisroot: {message}\n");
+    let _ = io::stderr().write_all(line.as_bytes());
 }

@@ -11,6 +11,8 @@ pub struct Refusal {
     /// What the place counts; none where it is 0 for lack of one.
     pub place_is: Option<&'static str>,
     pub place: String,
+    /// The same without the line of the file.
+    pub spot: String,
     pub sentence: String,
     /// The place in fields: sub-carrier, the pair's tones, file and line.
     pub details: Fields,
@@ -44,6 +46,7 @@ impl<'a> Question<'a> {
             number: answer.number,
             place_is: found.kind,
             place: found.words(),
+            spot: found.spot(),
             sentence: sentences::sentence(self, answer),
             details: found.fields(),
         }

@@ -125,9 +125,18 @@ fn at_pair(question: &Question, answer: &Answer) -> Found {
 impl Found {
     /// "at place 3 in t', sub-carrier 4, line 6 of points.csv"
     pub fn words(&self) -> String {
+        let line = self.line.as_ref();
+        let line = line.map_or(String::new(), |(line, file)| {
+            format!(", line {line} of {file}")
+        });
+        self.spot() + &line
+    }
+
+    /// "at place 3 in t', sub-carrier 4"
+    pub fn spot(&self) -> String {
         let number = self.number;
         let tone = |tone: &Subcarrier| format!(", sub-carrier {tone}");
-        let place = match self.kind {
+        match self.kind {
             None => format!("at place 0: {}", self.whole),
             Some("pair") => format!("at pair {number}: {}", self.pair_words()),
             Some("sub-carrier") => format!("at sub-carrier {number}"),
@@ -136,12 +145,7 @@ impl Found {
                 format!("at place {number} in t'{tones}")
             }
             Some(_) => format!("at place {number} in t"),
-        };
-        let line = self.line.as_ref();
-        let line = line.map_or(String::new(), |(line, file)| {
-            format!(", line {line} of {file}")
-        });
-        place + &line
+        }
     }
 
     fn pair_words(&self) -> String {
