@@ -200,26 +200,28 @@ fn check_outputs(call: &Call) -> Result<(), Fault> {
         }
     }
     for option in [&OUT, &SVG] {
-        let Some(output) = call.file(option) else {
+        let Some(output) = call.file(option).filter(|output| output.is_file()) else {
             continue;
         };
-        for (operand, word) in call.command.operands.iter().zip(&call.operands) {
-            if matches!(operand, Operand::Input(_))
-                && output.is_file()
-                && same_file(output, input(word))
-            {
-                let (option, name) = (option.name, operand.name());
-                return wrong(format!("--{option} would overwrite {name}, which is read"));
-            }
+        if let Some(name) = overwritten(call, output) {
+            let option = option.name;
+            return wrong(format!("--{option} would overwrite {name}, which is read"));
         }
         if is_standard_output(output) {
-            return wrong(format!(
-                "--{} names the file that is printed to",
-                option.name
-            ));
+            let option = option.name;
+            return wrong(format!("--{option} names the file that is printed to"));
         }
     }
     Ok(())
+}
+
+/// The operand whose file this output would overwrite.
+fn overwritten(call: &Call, output: &Path) -> Option<&'static str> {
+    let mut operands = call.command.operands.iter().zip(&call.operands);
+    let found = operands.find(|(operand, word)| {
+        matches!(operand, Operand::Input(_)) && same_file(output, input(word))
+    });
+    found.map(|(operand, _)| operand.name())
 }
 
 /// The file of an operand; standard input has a name too.

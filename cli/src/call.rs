@@ -42,14 +42,18 @@ pub struct Command {
 impl Command {
     /// How it is called.
     pub fn form(&self) -> String {
-        let mut form = format!("clevisroot {}", self.name);
-        for operand in self.operands {
-            form.push_str(&format!(" {}", operand.name()));
-        }
+        let mut form = format!("clevisroot {}", self.short_form());
         for option in self.options {
             form.push_str(&format!(" [{}]", option.form()));
         }
         form
+    }
+
+    /// Its name and its operands.
+    pub fn short_form(&self) -> String {
+        let names = self.operands.iter().map(Operand::name);
+        let words: Vec<&str> = [self.name].into_iter().chain(names).collect();
+        words.join(" ")
     }
 
     /// The fault of a wrong call: what is wrong, and how it is called.
@@ -109,6 +113,14 @@ impl Call {
             let name = self.command.operands[operand].name();
             self.command.wrong(&format!("{name} is not a whole number"))
         })
+    }
+
+    /// The register as it was typed.
+    pub fn typed_register(&self) -> Option<&str> {
+        match &self.register {
+            Asked::Given(_, typed) => Some(typed),
+            Asked::Reset | Asked::Find => None,
+        }
     }
 
     /// The register that the library is given where none has to be found.

@@ -67,26 +67,29 @@ pub fn bash(commands: &[Command]) -> String {
 }
 
 pub fn fish(commands: &[Command]) -> String {
-    let mut script = "# Completions of clevisroot for fish.\n".to_string();
-    for command in commands {
-        let (name, about) = (command.name, single_quoted(command.about));
-        script.push_str(&format!(
-            "complete -c clevisroot -n __fish_use_subcommand -f -a {name} -d {about}\n"
+    let commands: String = commands.iter().map(fish_command).collect();
+    format!("# Completions of clevisroot for fish.\n{commands}")
+}
+
+fn fish_command(command: &Command) -> String {
+    let (name, about) = (command.name, single_quoted(command.about));
+    let here = format!("complete -c clevisroot -n '__fish_seen_subcommand_from {name}'");
+    let mut lines =
+        format!("complete -c clevisroot -n __fish_use_subcommand -f -a {name} -d {about}\n");
+    for option in command.options {
+        let (name, about) = (option.name, single_quoted(option.about));
+        lines.push_str(&format!(
+            "{here} -l {name}{} -d {about}\n",
+            fish_value(option)
         ));
-        let here = format!("complete -c clevisroot -n '__fish_seen_subcommand_from {name}'");
-        for option in command.options {
-            let (name, about) = (option.name, single_quoted(option.about));
-            let value = fish_value(option);
-            script.push_str(&format!("{here} -l {name}{value} -d {about}\n"));
-        }
-        if !words(command).is_empty() {
-            script.push_str(&format!(
-                "{here} -f -a {}\n",
-                single_quoted(&words(command))
-            ));
-        }
     }
-    script
+    if !words(command).is_empty() {
+        lines.push_str(&format!(
+            "{here} -f -a {}\n",
+            single_quoted(&words(command))
+        ));
+    }
+    lines
 }
 
 fn fish_value(option: &Opt) -> &'static str {
@@ -99,25 +102,12 @@ fn fish_value(option: &Opt) -> &'static str {
 }
 
 pub fn zsh(commands: &[Command]) -> String {
-    let mut list = String::new();
-    let mut cases = String::new();
-    for command in commands {
-        let (name, about) = (command.name, command.about.replace('\'', "'\\''"));
-        list.push_str(&format!("    '{name}:{about}'\n"));
-        let mut specs: Vec<String> = command
-            .options
-            .iter()
-            .map(|option| zsh_option(option))
-            .collect();
-        for operand in command.operands {
-            specs.push(match operand {
-                Operand::Input(name) => format!("':{name}:_files'"),
-                Operand::Number(name) => format!("':{name}: '"),
-                Operand::Word(name, words) => format!("':{name}:({})'", words.join(" ")),
-            });
-        }
-        cases.push_str(&format!("    {name}) _arguments {} ;;\n", specs.join(" ")));
-    }
+    let quoted = |command: &Command| {
+        let about = command.about.replace('\'', "'\\''");
+        format!("    '{}:{about}'\n", command.name)
+    };
+    let list: String = commands.iter().map(quoted).collect();
+    let cases: String = commands.iter().map(zsh_case).collect();
     format!(
         "#compdef clevisroot\n# Completions of clevisroot for zsh.\n\
          local -a commands\ncommands=(\n{list}    'help:the help of a command'\n)\n\
@@ -125,6 +115,17 @@ pub fn zsh(commands: &[Command]) -> String {
          local command=$words[2]\n  shift words; (( CURRENT-- ))\n  case $command in\n{cases}  \
          esac\nfi\n"
     )
+}
+
+fn zsh_case(command: &Command) -> String {
+    let options = command.options.iter().map(|option| zsh_option(option));
+    let operands = command.operands.iter().map(|operand| match operand {
+        Operand::Input(name) => format!("':{name}:_files'"),
+        Operand::Number(name) => format!("':{name}: '"),
+        Operand::Word(name, words) => format!("':{name}:({})'", words.join(" ")),
+    });
+    let specs: Vec<String> = options.chain(operands).collect();
+    format!("    {}) _arguments {} ;;\n", command.name, specs.join(" "))
 }
 
 fn zsh_option(option: &Opt) -> String {

@@ -58,15 +58,7 @@ pub fn tool(commands: &[Command]) -> String {
 }
 
 fn command_line(command: &Command) -> String {
-    row(&(short_form(command), command.about))
-}
-
-fn short_form(command: &Command) -> String {
-    let mut form = command.name.to_string();
-    for operand in command.operands {
-        form.push_str(&format!(" {}", operand.name()));
-    }
-    form
+    row(&(command.short_form(), command.about))
 }
 
 fn row((form, about): &(String, &str)) -> String {
@@ -103,31 +95,33 @@ pub fn command(command: &Command) -> String {
 /// The manual page, as man reads it.
 pub fn manual(commands: &[Command]) -> String {
     let version = env!("CARGO_PKG_VERSION");
-    let mut page = format!(
+    let commands: String = commands.iter().map(manual_section).collect();
+    let options: String = option_lines()
+        .iter()
+        .map(|(form, about)| tagged(form, about))
+        .collect();
+    let statuses = STATUS.map(|(status, about)| tagged(status, about)).concat();
+    format!(
         ".TH CLEVISROOT 1 \"\" \"clevisroot {version}\"\n.SH NAME\nclevisroot \\- {}\n\
-         .SH SYNOPSIS\n.B clevisroot\n.I COMMAND OPERANDS OPTIONS\n.SH COMMANDS\n",
-        roff(ABOUT)
-    );
-    for command in commands {
-        let (form, details) = (roff(&command.form()), roff(command.details));
-        page.push_str(&format!(
-            ".SS {}\n.nf\n{form}\n.fi\n.PP\n{}.\n.PP\n.nf\n{details}.fi\n",
-            roff(command.name),
-            roff(command.about)
-        ));
-    }
-    page.push_str(".SH OPTIONS\n");
-    for (form, about) in option_lines() {
-        page.push_str(&format!(".TP\n.B {}\n{}\n", roff(&form), roff(about)));
-    }
-    page.push_str(&format!(
-        ".SH FILES\n.nf\n{}.fi\n.SH EXIT STATUS\n",
+         .SH SYNOPSIS\n.B clevisroot\n.I COMMAND OPERANDS OPTIONS\n.SH COMMANDS\n{commands}\
+         .SH OPTIONS\n{options}.SH FILES\n.nf\n{}.fi\n.SH EXIT STATUS\n{statuses}",
+        roff(ABOUT),
         roff(FILES)
-    ));
-    for (status, about) in STATUS {
-        page.push_str(&format!(".TP\n.B {}\n{}\n", roff(status), roff(about)));
-    }
-    page
+    )
+}
+
+fn manual_section(command: &Command) -> String {
+    format!(
+        ".SS {}\n.nf\n{}\n.fi\n.PP\n{}.\n.PP\n.nf\n{}.fi\n",
+        roff(command.name),
+        roff(&command.form()),
+        roff(command.about),
+        roff(command.details)
+    )
+}
+
+fn tagged(tag: &str, about: &str) -> String {
+    format!(".TP\n.B {}\n{}\n", roff(tag), roff(about))
 }
 
 /// Text that man prints as it is.

@@ -51,10 +51,17 @@ impl Report {
         report.refused = true;
         report
     }
+
+    /// A refusal in place of a result that was asked for.
+    pub fn refused_result(refusal: &Refusal, json: Fields) -> Report {
+        let mut report = Report::refused(refusal, json);
+        report.reason = Some(reason(refusal));
+        report
+    }
 }
 
 /// The reason of a refusal in a line.
-pub fn reason(refusal: &Refusal) -> String {
+fn reason(refusal: &Refusal) -> String {
     let Refusal {
         place, sentence, ..
     } = refusal;

@@ -1,23 +1,23 @@
 //! `encode`: frames to points.
 
 use super::picture::{caption, Picture};
+use super::reading::Tables;
 use super::totals::Totals;
 use crate::ask::{self, Order, Points};
-use crate::call::{Asked, Call};
+use crate::call::Call;
 use crate::fault::Fault;
-use crate::files::{read_tables, Frame, TableSet};
+use crate::files::{Frame, TableSet};
 use crate::json::Json;
 use crate::output::Output;
+use crate::refusal::numbers::DONE;
 use crate::refusal::Question;
-use crate::report::{done_words, reason, symbol_fields, Report, Written};
+use crate::report::{done_words, symbol_fields, Report, Written};
 use crate::stream::{self, Reports, Task};
-use clevisroot_sys as library;
+use clevisroot_sys::Answer;
 use std::fmt::Write;
 
-struct Encode<'a> {
-    call: &'a Call,
-    set: TableSet,
-    order: Order,
+struct Encode {
+    tables: Tables,
     register: u32,
     /// A remark on each place: whose point it is.
     remarks: Vec<String>,
@@ -25,61 +25,37 @@ struct Encode<'a> {
 }
 
 pub fn encode(call: &Call) -> Result<u8, Fault> {
-    let set = read_tables(&call.operands[0])?;
-    let (_, order) = ask::order(&set);
+    let tables = Tables::of(call)?;
     let task = Encode {
-        call,
         register: call.register_value(),
-        remarks: remarks(&set, &order),
-        set,
-        order,
+        remarks: remarks(&tables.set, &tables.order),
+        tables,
         totals: Totals::default(),
     };
     stream::run(call, task)
 }
 
-impl Task for Encode<'_> {
+impl Task for Encode {
     type Input = Frame;
 
     fn take(&mut self, number: usize, frame: Frame, output: &Output) -> Reports {
-        let (answer, points) = ask::encode(&self.set, &frame.bytes, self.register);
-        let mut json = symbol_fields("encode", &answer);
-        let report = if answer.number > 0 {
-            let question = Question {
-                frame: Some(&frame),
-                register: self.register,
-                typed: typed(self.call),
-                ..Question::of_tables(&self.set)
-            };
-            let refusal = question.refusal(&answer);
-            let mut report = Report::refused(&refusal, json);
-            report.reason = Some(reason(&refusal));
-            report
-        } else {
-            json.push(("tones", Json::numbers(&self.order.tones)));
-            json.push(("x", Json::numbers(&points.x)));
-            json.push(("y", Json::numbers(&points.y)));
-            let mut report = Report::new(0, vec![done_words(&answer)], json);
-            report.result = Some(Written {
-                screen: csv(&points, &self.remarks),
-                file: csv(&points, &[]),
-            });
-            if output.wants_picture(false) {
-                let picture = Picture {
-                    set: &self.set,
-                    order: &self.order,
-                    x: &points.x,
-                    y: &points.y,
-                    typed: None,
-                    answer: &answer,
+        let (answer, points) = ask::encode(&self.tables.set, &frame.bytes, self.register);
+        let mut report = match answer.number {
+            DONE => self.done(&answer, &points),
+            _ => {
+                let question = Question {
+                    frame: Some(&frame),
+                    ..self.tables.question(self.register)
                 };
-                let caption = caption(("encode", number), self.register, &answer, None);
-                report.picture = Some(picture.draw(caption));
+                let refusal = question.refusal(&answer);
+                Report::refused_result(&refusal, symbol_fields("encode", &answer))
             }
-            report
         };
+        if answer.number == DONE && output.wants_picture(false) {
+            report.picture = Some(self.picture(number, &answer, &points));
+        }
         self.register = answer.reg;
-        let register = Some(self.register);
+        let register = Some(answer.reg);
         self.totals
             .add(number, Some(answer.number), report.status, register);
         vec![(number, report)]
@@ -90,7 +66,7 @@ impl Task for Encode<'_> {
     }
 
     fn is_hopeless(&self) -> bool {
-        library::check(self.set.lent()).number > 0
+        self.tables.are_refused()
     }
 
     fn totals(&self) -> Report {
@@ -98,11 +74,29 @@ impl Task for Encode<'_> {
     }
 }
 
-/// The register as it was typed.
-pub fn typed(call: &Call) -> Option<&str> {
-    match &call.register {
-        Asked::Given(_, typed) => Some(typed),
-        _ => None,
+impl Encode {
+    fn done(&self, answer: &Answer, points: &Points) -> Report {
+        let mut json = symbol_fields("encode", answer);
+        json.push(("tones", Json::numbers(&self.tables.order.tones)));
+        json.push(("x", Json::numbers(&points.x)));
+        json.push(("y", Json::numbers(&points.y)));
+        let mut report = Report::new(0, vec![done_words(answer)], json);
+        report.result = Some(Written {
+            screen: csv(points, &self.remarks),
+            file: csv(points, &[]),
+        });
+        report
+    }
+
+    fn picture(&self, number: usize, answer: &Answer, points: &Points) -> String {
+        let picture = Picture {
+            tables: &self.tables,
+            x: &points.x,
+            y: &points.y,
+            typed: None,
+            answer,
+        };
+        picture.draw(caption(("encode", number), self.register, answer, None))
     }
 }
 

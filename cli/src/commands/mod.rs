@@ -4,15 +4,18 @@
 mod details;
 mod encode;
 mod figures;
+mod judge;
 mod pages;
 mod picture;
 mod read;
+mod reading;
 mod tables;
 mod tone;
 mod totals;
 mod turn;
 mod verdict;
 mod verdict_totals;
+mod verdict_words;
 
 use crate::call::{Command, Operand};
 use crate::options::{JSON, OUT, REGISTER, REGISTER_OR_FIND, STOP, SVG};

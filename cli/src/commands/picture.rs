@@ -1,7 +1,7 @@
 //! The picture of a symbol, as `--svg` wants it.
 
-use crate::ask::Order;
-use crate::files::{PointList, TableSet};
+use super::reading::Tables;
+use crate::files::PointList;
 use crate::refusal::{refused_places, Refusal};
 use crate::svg::{self, Symbol};
 use crate::words::size_words;
@@ -9,8 +9,7 @@ use clevisroot_sys::Answer;
 
 /// What a picture is made of.
 pub struct Picture<'a> {
-    pub set: &'a TableSet,
-    pub order: &'a Order,
+    pub tables: &'a Tables,
     pub x: &'a [i16],
     pub y: &'a [i16],
     /// The points as they were typed, if they were.
@@ -21,13 +20,14 @@ pub struct Picture<'a> {
 impl Picture<'_> {
     /// The picture of the points, with the places that were refused.
     pub fn draw(&self, caption: String) -> String {
+        let Tables { set, order, .. } = self.tables;
         svg::draw(&Symbol {
-            set: self.set,
-            order: self.order,
+            set,
+            order,
             x: self.x,
             y: self.y,
             typed: self.typed,
-            refused: &refused_places(self.set, self.order, self.answer),
+            refused: &refused_places(set, order, self.answer),
             caption,
         })
     }

@@ -1,26 +1,24 @@
 //! `read`: points to frames.
 
-use super::encode::typed;
 use super::picture::{caption, Picture};
+use super::reading::{Reading, Tables};
 use super::totals::Totals;
-use super::verdict::{not_found_sentence, CANNOT_TELL};
-use crate::ask::{self, Order};
+use super::verdict::CANNOT_TELL;
+use super::verdict_words::not_found_sentence;
 use crate::call::{Asked, Call, RESET};
 use crate::fault::Fault;
-use crate::files::{hex_lines, read_tables, PointList, TableSet};
+use crate::files::{hex_lines, PointList};
 use crate::json::Json;
 use crate::output::Output;
-use crate::refusal::numbers::{is_of_points, DONE, MONITOR};
-use crate::refusal::Question;
-use crate::register::{Finder, Settled};
-use crate::report::{done_words, fields, reason, symbol_fields, Report, Written};
+use crate::refusal::numbers::MONITOR;
+use crate::register::{Finder, FoundRegister, Settled};
+use crate::report::{done_words, fields, symbol_fields, Report, Written};
 use crate::stream::{self, Reports, Task};
-use clevisroot_sys as library;
 
-struct Read<'a> {
-    call: &'a Call,
-    set: TableSet,
-    order: Order,
+struct Read {
+    tables: Tables,
+    /// The register is to be found.
+    find: bool,
     /// None while it has to be found.
     register: Option<u32>,
     finder: Finder,
@@ -28,43 +26,37 @@ struct Read<'a> {
 }
 
 pub fn read(call: &Call) -> Result<u8, Fault> {
-    let set = read_tables(&call.operands[0])?;
-    let (_, order) = ask::order(&set);
+    let find = call.register == Asked::Find;
     let task = Read {
-        call,
-        set,
-        order,
-        register: match call.register {
-            Asked::Find => None,
-            _ => Some(call.register_value()),
-        },
+        tables: Tables::of(call)?,
+        find,
+        register: (!find).then(|| call.register_value()),
         finder: Finder::new(),
         totals: Totals::default(),
     };
     stream::run(call, task)
 }
 
-impl Task for Read<'_> {
+impl Task for Read {
     type Input = PointList;
 
     fn take(&mut self, number: usize, points: PointList, output: &Output) -> Reports {
-        if let Some(register) = self.register {
-            let answer = ask::read(&self.set, &points.x, &points.y, register).0;
-            // A register that was found is found anew where a symbol may be missing.
-            if self.call.register != Asked::Find || answer.number != MONITOR {
-                return vec![self.read(number, &points, register, None, output)];
-            }
-            self.register = None;
-        }
+        let symbol = (number, points);
+        let register = self.register.unwrap_or(RESET);
+        let reading = self.tables.read(&symbol.1, register);
         // What is refused before the register is looked at needs none.
-        let answer = ask::read(&self.set, &points.x, &points.y, RESET).0;
-        if answer.number != DONE && !is_of_points(answer.number) {
+        if !reading.is_of_points() {
             let mut reports = self.finish(output);
-            reports.push(self.read(number, &points, RESET, None, output));
-            self.register = None;
+            reports.push(self.told(&symbol, register, &reading, None, output));
             return reports;
         }
-        let settled = self.finder.push(&self.set, &self.order, (number, points));
+        // A register that was found is found anew where a symbol may be missing.
+        let out_of_step = self.find && reading.answer.number == MONITOR;
+        if self.register.is_some() && !out_of_step {
+            return vec![self.told(&symbol, register, &reading, None, output)];
+        }
+        let Tables { set, order, .. } = &self.tables;
+        let settled = self.finder.push(set, order, symbol);
         self.settle(settled, output)
     }
 
@@ -74,7 +66,7 @@ impl Task for Read<'_> {
     }
 
     fn is_hopeless(&self) -> bool {
-        library::check(self.set.lent()).number > 0
+        self.tables.are_refused()
     }
 
     fn totals(&self) -> Report {
@@ -82,101 +74,92 @@ impl Task for Read<'_> {
     }
 }
 
-impl Read<'_> {
+impl Read {
     fn settle(&mut self, settled: Vec<Settled>, output: &Output) -> Reports {
         let mut reports = Vec::new();
-        for settled in settled {
-            match settled {
-                Settled::Found(run) => {
-                    let mut register = run.register;
-                    for (number, points) in run.symbols {
-                        reports.push(self.read(number, &points, register, Some(run.tones), output));
-                        register = self.after_draws(register);
-                    }
+        for Settled { symbol, found } in settled {
+            reports.push(match found {
+                Some(found) => {
+                    let reading = self.tables.read(&symbol.1, found.register);
+                    self.told(&symbol, found.register, &reading, Some(found), output)
                 }
-                Settled::Alone((number, points)) => reports.push(self.not_found(number, &points)),
-            }
+                None => self.not_found(symbol.0, &symbol.1),
+            });
         }
         reports
     }
 
-    /// The register after the draws of one symbol, whatever became of it.
-    fn after_draws(&self, register: u32) -> u32 {
-        let draws = 2 * self.order.monitored(&self.set).count();
-        (0..draws).fold(register, |register, _| library::draw(register).reg)
-    }
-
-    /// Reads one symbol; `found` has the count of tones that gave the register.
-    fn read(
+    /// Reports a reading and carries the register on.
+    fn told(
         &mut self,
-        number: usize,
-        points: &PointList,
+        (number, points): &(usize, PointList),
         register: u32,
-        found: Option<usize>,
+        reading: &Reading,
+        found: Option<FoundRegister>,
         output: &Output,
     ) -> (usize, Report) {
-        let (answer, frame) = ask::read(&self.set, &points.x, &points.y, register);
-        let mut json = symbol_fields("read", &answer);
-        if self.call.register == Asked::Find {
-            json.push(("register_before", Json::Number(register.into())));
-        }
-        let question = Question {
-            points: Some(points),
-            register,
-            typed: typed(self.call),
-            ..Question::of_tables(&self.set)
-        };
-        let refusal = (answer.number != DONE).then(|| question.refusal(&answer));
-        let mut report = match &refusal {
-            Some(refusal) => {
-                let mut report = Report::refused(refusal, json);
-                report.reason = Some(reason(refusal));
-                report
-            }
-            None => {
-                let hex = hex_lines(&frame);
-                json.push(("frame", Json::text(hex.replace('\n', ""))));
-                let mut report = Report::new(0, vec![done_words(&answer)], json);
-                report.result = Some(Written {
-                    screen: hex.clone(),
-                    file: hex,
-                });
-                report
-            }
-        };
-        if let Some(tones) = found {
+        let mut report = self.report(register, reading);
+        if let Some(FoundRegister { tones, .. }) = found {
             report.summary.push(format!(
                 "register before {register}, found from {tones} monitored tones"
             ));
         }
         // Points that are refused for what they are can be drawn too.
-        let drawable = answer.number == DONE || is_of_points(answer.number);
-        if drawable && output.wants_picture(report.refused) {
-            let picture = Picture {
-                set: &self.set,
-                order: &self.order,
-                x: &points.x,
-                y: &points.y,
-                typed: Some(points),
-                answer: &answer,
-            };
-            let caption = caption(("read", number), register, &answer, refusal.as_ref());
-            report.picture = Some(picture.draw(caption));
+        if reading.is_of_points() && output.wants_picture(report.refused) {
+            report.picture = Some(self.picture(*number, points, register, reading));
         }
-        let lost = self.call.register == Asked::Find && report.refused;
-        self.register = (!lost).then_some(answer.reg);
+        let lost = self.find && report.refused;
+        self.register = (!lost).then_some(reading.answer.reg);
+        let answered = Some(reading.answer.number);
         self.totals
-            .add(number, Some(answer.number), report.status, self.register);
-        (number, report)
+            .add(*number, answered, report.status, self.register);
+        (*number, report)
+    }
+
+    fn report(&self, register: u32, reading: &Reading) -> Report {
+        let mut json = symbol_fields("read", &reading.answer);
+        if self.find {
+            json.push(("register_before", Json::Number(register.into())));
+        }
+        if let Some(refusal) = &reading.refusal {
+            return Report::refused_result(refusal, json);
+        }
+        let hex = hex_lines(&reading.frame);
+        json.push(("frame", Json::text(hex.replace('\n', ""))));
+        let mut report = Report::new(0, vec![done_words(&reading.answer)], json);
+        report.result = Some(Written {
+            screen: hex.clone(),
+            file: hex,
+        });
+        report
+    }
+
+    fn picture(
+        &self,
+        number: usize,
+        points: &PointList,
+        register: u32,
+        reading: &Reading,
+    ) -> String {
+        let picture = Picture {
+            tables: &self.tables,
+            x: &points.x,
+            y: &points.y,
+            typed: Some(points),
+            answer: &reading.answer,
+        };
+        let (answer, refusal) = (&reading.answer, reading.refusal.as_ref());
+        picture.draw(caption(("read", number), register, answer, refusal))
     }
 
     /// No register can be told, so that nothing can be read.
     fn not_found(&mut self, number: usize, points: &PointList) -> (usize, Report) {
-        let sentence = not_found_sentence(&self.set, &self.order, points);
+        let sentence = not_found_sentence(&self.tables, points);
         let mut json = fields("read", [None; 4]);
         json.push(("sentence", Json::text(sentence.clone())));
         let mut report = Report::new(CANNOT_TELL, vec![sentence.clone()], json);
         report.reason = Some(sentence);
+        self.register = None;
         self.totals.add(number, None, report.status, None);
         (number, report)
     }

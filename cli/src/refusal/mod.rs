@@ -1,9 +1,11 @@
 //! Refusals in words: the name, the place as what it is, and a sentence that helps.
 
-mod asked;
 pub mod numbers;
 mod place;
+mod question;
 mod sentences;
+mod told;
 
-pub use asked::{Question, Refusal};
 pub use place::refused_places;
+pub use question::Question;
+pub use told::Refusal;

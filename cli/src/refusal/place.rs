@@ -1,10 +1,10 @@
 //! The place of a refusal as what it is: a place in t or t', a sub-carrier, a pair, or none; with
 //! the tones that stand there and the line of the file they came from.
 
-use super::asked::Question;
 use super::numbers::{
     BITS, FRAME, GAIN, MONITOR, OFFGRID, PAIR, ROOM, SEED, STRAY, TONE, TRELLIS, TWICE,
 };
+use super::question::Question;
 use crate::ask::{self, Order};
 use crate::files::TableSet;
 use crate::index::{Place, Subcarrier};

@@ -1,11 +1,11 @@
 //! One sentence a refusal: what is wrong with these very tables, and what to do about it.
 
-use super::asked::Question;
 use super::numbers::{
     BITS, FEW, FRAME, GAIN, MONITOR, ODD, OFFGRID, PAIR, ROOM, SEED, SIZE, STRAY, TONE, TRELLIS,
     TWICE,
 };
 use super::place::{place_of, subcarrier_of};
+use super::question::Question;
 use crate::ask;
 use crate::files::{Class, TableSet};
 use crate::index::Place;

@@ -4,6 +4,7 @@
 use super::search::{Found, Search, ENOUGH_TONES};
 use crate::ask::Order;
 use crate::files::{PointList, TableSet};
+use clevisroot_sys as library;
 use std::collections::VecDeque;
 
 /// Symbols may be missing between two of a stream. 23 of the 64 filler bits of so many tones fix
@@ -13,21 +14,22 @@ pub const TONES_OF_STREAM: usize = 32;
 /// A symbol with its number.
 pub type Numbered = (usize, PointList);
 
-/// A register before the first of some symbols that follow each other.
-pub struct Run {
+/// A register that was found.
+#[derive(Clone, Copy, Debug)]
+pub struct FoundRegister {
+    /// Before the symbol.
     pub register: u32,
     /// The monitored tones that gave it.
     pub tones: usize,
-    /// They are enough to say that no symbol is missing.
+    /// They are enough to say that no symbol is missing between them.
     pub checked: bool,
-    pub symbols: Vec<Numbered>,
 }
 
-/// What became of symbols that waited.
-pub enum Settled {
-    Found(Run),
-    /// It gives no register, neither alone nor together with its neighbours.
-    Alone(Numbered),
+/// A symbol that waits no longer, with its register unless it gives none, neither alone nor
+/// together with its neighbours.
+pub struct Settled {
+    pub symbol: Numbered,
+    pub found: Option<FoundRegister>,
 }
 
 pub struct Finder {
@@ -68,26 +70,36 @@ impl Finder {
     /// No symbol comes any more.
     pub fn finish(&mut self) -> Vec<Settled> {
         let settled = match self.contradicted {
-            true => self.waiting.drain(..).map(Settled::Alone).collect(),
+            true => self.waiting.drain(..).map(alone).collect(),
             false => self.settle(false),
         };
         *self = Finder::new();
         settled
     }
 
-    /// Hands those that wait back with their register, or each alone if they give none.
+    /// Hands those that wait back with their registers, or each alone if they give none.
     fn settle(&mut self, checked: bool) -> Vec<Settled> {
         let (tones, found) = (self.search.tones, self.search.found());
         self.search = Search::new();
+        let draws = 2 * tones / self.waiting.len().max(1);
         let symbols = self.waiting.drain(..);
         match found {
-            Found::Straight(register) | Found::Turned(register) => vec![Settled::Found(Run {
-                register,
-                tones,
-                checked,
-                symbols: symbols.collect(),
-            })],
-            Found::Open | Found::Neither => symbols.map(Settled::Alone).collect(),
+            Found::Straight(register) | Found::Turned(register) => symbols
+                .scan(register, |next, symbol| {
+                    let register = *next;
+                    *next = after_draws(register, draws);
+                    let found = FoundRegister {
+                        register,
+                        tones,
+                        checked,
+                    };
+                    Some(Settled {
+                        symbol,
+                        found: Some(found),
+                    })
+                })
+                .collect(),
+            Found::Open | Found::Neither => symbols.map(alone).collect(),
         }
     }
 
@@ -98,13 +110,29 @@ impl Finder {
             let Some(oldest) = self.waiting.pop_front() else {
                 break;
             };
-            dropped.push(Settled::Alone(oldest));
+            dropped.push(alone(oldest));
             self.contradicted = true;
-            self.search = Search::new();
-            for (_, points) in &self.waiting {
-                self.search.add(set, order, points);
-            }
+            self.search = search_of(set, order, &self.waiting);
         }
         dropped
     }
+}
+
+fn alone(symbol: Numbered) -> Settled {
+    Settled {
+        symbol,
+        found: None,
+    }
+}
+
+fn search_of(set: &TableSet, order: &Order, symbols: &VecDeque<Numbered>) -> Search {
+    let mut search = Search::new();
+    for (_, points) in symbols {
+        search.add(set, order, points);
+    }
+    search
+}
+
+fn after_draws(register: u32, draws: usize) -> u32 {
+    (0..draws).fold(register, |register, _| library::draw(register).reg)
 }

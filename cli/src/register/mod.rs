@@ -4,5 +4,5 @@ mod equations;
 mod finder;
 mod search;
 
-pub use finder::{Finder, Settled, TONES_OF_STREAM};
+pub use finder::{Finder, FoundRegister, Settled, TONES_OF_STREAM};
 pub use search::{Found, Search, ENOUGH_TONES};

@@ -4,6 +4,7 @@
 use super::equations::{Register, Solutions, System};
 use crate::ask::Order;
 use crate::files::{PointList, TableSet};
+use crate::refusal::numbers::DONE;
 use clevisroot_sys as library;
 
 /// Fewer monitored tones never tell: 11 give 22 equations for 23 bits.
@@ -44,22 +45,24 @@ impl Search {
     /// Adds the monitored points of the next symbol. A point that is none of the four contradicts
     /// every register.
     pub fn add(&mut self, set: &TableSet, order: &Order, points: &PointList) {
-        for place in order.monitored(set) {
-            let Some((x, y)) = points.at(place) else {
-                continue;
-            };
+        let points = order.monitored(set).filter_map(|place| points.at(place));
+        for (x, y) in points {
             let read = library::read_point(2, x, y);
             self.tones += 1;
-            for bit in 0..2 {
-                let (sum, value) = (self.register.draw(), read.label >> bit & 1 == 1);
-                self.straight.add(sum, value);
-                self.turned.add(sum, !value);
-            }
-            if read.number > 0 {
+            self.add_bit(read.label & 1 == 1);
+            self.add_bit(read.label >> 1 & 1 == 1);
+            if read.number != DONE {
                 self.straight.add(0, true);
                 self.turned.add(0, true);
             }
         }
+    }
+
+    /// The next filler bit was read so: turned, it is the other one.
+    fn add_bit(&mut self, value: bool) {
+        let sum = self.register.draw();
+        self.straight.add(sum, value);
+        self.turned.add(sum, !value);
     }
 
     pub fn found(&self) -> Found {

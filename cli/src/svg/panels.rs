@@ -96,6 +96,7 @@ impl<'a> Panel<'a> {
             pen.path("could", &could.collect::<String>());
         }
         self.draw_spots(pen);
+        self.draw_refused(pen);
         for spot in &self.group.spots {
             self.label(pen, spot);
         }
@@ -130,29 +131,28 @@ impl<'a> Panel<'a> {
     }
 
     fn draw_spots(&self, pen: &mut Pen) {
-        let size = self.marker();
+        let half = [2.0, 3.5, 5.5][self.marker()];
         let (mut markers, mut arrows) = (String::new(), String::new());
         for spot in &self.group.spots {
             let drawn = self.scale.drawn(spot.point);
             match (drawn.outside, self.group.class) {
                 (Some(direction), _) => {
-                    arrows.push_str(&arrow(tip(drawn.at, direction), direction))
+                    arrows.push_str(&arrow(tip(drawn.at, direction), direction));
                 }
                 (None, Class::Data(_)) => markers.push_str(&dot(drawn.at)),
-                (None, Class::Monitored) => {
-                    markers.push_str(&diamond(drawn.at, [2.0, 3.5, 5.5][size]));
-                }
-                (None, Class::Silent) => {
-                    markers.push_str(&triangle(drawn.at, [2.0, 3.5, 5.5][size]));
-                }
+                (None, Class::Monitored) => markers.push_str(&diamond(drawn.at, half)),
+                (None, Class::Silent) => markers.push_str(&triangle(drawn.at, half)),
             }
         }
         let class = match self.group.class {
-            Class::Data(_) => ["small data", "middling data", "large data"][size],
+            Class::Data(_) => ["small data", "middling data", "large data"][self.marker()],
             Class::Monitored | Class::Silent => "monitored",
         };
         pen.path(class, &markers);
         pen.path("solid", &arrows);
+    }
+
+    fn draw_refused(&self, pen: &mut Pen) {
         let spots = self.group.spots.iter();
         for spot in spots.filter(|spot| !spot.refused.is_empty()) {
             refused(pen, self.scale.drawn(spot.point).at);

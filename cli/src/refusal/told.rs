@@ -1,8 +1,8 @@
-//! What was asked when a refusal came, and all that is said of it.
+//! All that is said of a refusal.
 
 use super::numbers::name;
+use super::question::Question;
 use super::{place, sentences};
-use crate::files::{Frame, PointList, TableSet};
 use crate::json::Fields;
 use clevisroot_sys::Answer;
 
@@ -18,28 +18,7 @@ pub struct Refusal {
     pub details: Fields,
 }
 
-/// What was asked.
-pub struct Question<'a> {
-    pub set: &'a TableSet,
-    pub frame: Option<&'a Frame>,
-    pub points: Option<&'a PointList>,
-    pub register: u32,
-    /// The register as it was typed.
-    pub typed: Option<&'a str>,
-}
-
-impl<'a> Question<'a> {
-    /// A question about tables alone.
-    pub fn of_tables(set: &'a TableSet) -> Question<'a> {
-        Question {
-            set,
-            frame: None,
-            points: None,
-            register: 0,
-            typed: None,
-        }
-    }
-
+impl Question<'_> {
     pub fn refusal(&self, answer: &Answer) -> Refusal {
         let found = place::of(self, answer);
         Refusal {
