@@ -23,13 +23,13 @@ pub struct Opt {
 pub const REGISTER: Opt = Opt {
     name: "register",
     kind: Kind::Register,
-    about: "the filler register before the first symbol (8388607, its value at reset)",
+    about: "the filler register before the first symbol, else 8388607 (reset)",
 };
 
 pub const REGISTER_OR_FIND: Opt = Opt {
     name: "register",
     kind: Kind::RegisterOrFind,
-    about: "the same, or find: work it out from the monitored tones (12 are enough)",
+    about: "the filler register before the first symbol, or find it from the points",
 };
 
 pub const OUT: Opt = Opt {

@@ -117,7 +117,8 @@ pub fn table_fields(command: &'static str, answer: &Answer) -> Fields {
     fields(command, [Some(number), Some(place), Some(size), None])
 }
 
-/// The fields of a call for a symbol.
+/// The fields of a call for a symbol. A register too large for the library's type stands for the
+/// largest there is, which nobody typed.
 pub fn symbol_fields(command: &'static str, answer: &Answer) -> Fields {
     let Answer {
         number,
@@ -125,5 +126,6 @@ pub fn symbol_fields(command: &'static str, answer: &Answer) -> Fields {
         size,
         reg,
     } = *answer;
-    fields(command, [Some(number), Some(place), Some(size), Some(reg)])
+    let register = Some(reg).filter(|&reg| reg != u32::MAX);
+    fields(command, [Some(number), Some(place), Some(size), register])
 }

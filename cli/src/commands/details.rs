@@ -54,8 +54,9 @@ sentence what to tell the jointer, and what that rests on.
 Without --register the value at reset is assumed; then the verdict is only perhaps so, unless 12
 monitored tones agree. With --register N it holds if N is the writer's register. With --register
 find the register is worked out from the monitored tones, and the verdict holds whatever the
-register was: 12 tones of one symbol are enough, or 32 of several that follow each other. Coded, and with an odd count of non-zero re-ordered entries, the
-trellis code tells without any register. docs/FIND-THE-REGISTER.md has the reasons.
+register was: 12 tones of one symbol are enough, or 32 of several that follow each other. Coded,
+and with an odd count of non-zero re-ordered entries, the trellis code tells without any register.
+docs/FIND-THE-REGISTER.md has the reasons.
 
 Exit status: 0 straight, 32 turned, 36 perhaps (straight or turned), 33 cannot tell, 34 neither
 way is read; 1 to 10 and 12 if the tables, the count of points or the register are refused. A

@@ -280,20 +280,9 @@ fn trellis() {
 fn label() {
     let place = "at place 0: the one tone";
     for bits in ["0", "16", "256", "99999999999999999999"] {
-        refused(
-            &run(&["map", bits, "0"]),
-            16,
-            "LABEL",
-            place,
-            "1 to 15 bits",
-        );
-        refused(
-            &run(&["point", bits, "1", "1"]),
-            16,
-            "LABEL",
-            place,
-            "1 to 15 bits",
-        );
+        for words in [vec!["map", bits, "0"], vec!["point", bits, "1", "1"]] {
+            refused(&run(&words), 16, "LABEL", place, "1 to 15 bits");
+        }
     }
     for label in ["16", "4294967296", "99999999999999999999"] {
         refused(&run(&["map", "4", label]), 16, "LABEL", place, "0 to 15");
