@@ -18,7 +18,7 @@ pub struct Judged {
     /// The register that they were read with; none if it had to be found and was not.
     pub known: Option<Known>,
     pub verdict: Verdict,
-    ground: Ground,
+    pub ground: Ground,
 }
 
 impl Judged {
@@ -70,7 +70,10 @@ impl Judged {
         json.retain(|(key, _)| *key != "sentence");
         json.push(("verdict", Json::text(self.verdict.word())));
         json.push(("sure", Json::Flag(self.verdict.is_sure())));
-        json.push(("rests_on", Json::Object(ground_fields(&self.ground))));
+        json.push((
+            "rests_on",
+            Json::Object(ground_fields(self.verdict, &self.ground)),
+        ));
         json.push(("sentence", Json::text(sentence.clone())));
         json.push(("turned", Json::Object(self.fields(turned))));
         let summary = vec![

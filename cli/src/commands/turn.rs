@@ -108,7 +108,8 @@ impl Turn {
         output: &Output,
     ) -> Report {
         self.known = self.carried(judged);
-        self.totals.add(judged.verdict);
+        self.totals
+            .add(judged.verdict, judged.ground.is_conditional());
         let mut report = judged.report(&self.tables.set);
         if output.wants_picture(report.refused) {
             report.picture = Some(self.picture(number, points, judged));

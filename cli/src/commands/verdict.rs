@@ -1,5 +1,7 @@
 //! Verdicts on the clips: how sure they are, and what they rest on.
 
+use crate::register::ENOUGH_TONES;
+
 /// The exit status where nothing can be told.
 pub const CANNOT_TELL: u8 = 33;
 
@@ -139,5 +141,15 @@ impl Verdict {
 
     pub fn is_sure(self) -> bool {
         matches!(self, Verdict::Straight | Verdict::Turned)
+    }
+}
+
+impl Ground {
+    /// Whether a sure verdict holds only if the register that was given is the writer's.
+    pub fn is_conditional(&self) -> bool {
+        match self {
+            Ground::Tones(known) => known.origin == Origin::Given && known.agreed < ENOUGH_TONES,
+            _ => false,
+        }
     }
 }

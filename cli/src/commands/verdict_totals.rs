@@ -18,6 +18,8 @@ const ALL: [Verdict; 6] = [
 #[derive(Default)]
 pub struct VerdictTotals {
     verdicts: BTreeMap<Verdict, usize>,
+    /// Some verdict holds whatever register was given: straight, turned.
+    unconditional: [bool; 2],
     /// Symbols refused before their points were looked at.
     refused: usize,
     /// The exit status of the first of them.
@@ -25,8 +27,13 @@ pub struct VerdictTotals {
 }
 
 impl VerdictTotals {
-    pub fn add(&mut self, verdict: Verdict) {
+    pub fn add(&mut self, verdict: Verdict, conditional: bool) {
         *self.verdicts.entry(verdict).or_default() += 1;
+        match verdict {
+            Verdict::Straight => self.unconditional[0] |= !conditional,
+            Verdict::Turned => self.unconditional[1] |= !conditional,
+            _ => {}
+        }
     }
 
     pub fn add_refused(&mut self, status: u8) {
@@ -38,19 +45,34 @@ impl VerdictTotals {
         self.verdicts.get(&verdict).copied().unwrap_or(0)
     }
 
-    /// The sure verdicts if they agree, else the ones that are perhaps so; symbols that say
-    /// nothing do not count against one that does.
+    fn has(&self, verdict: Verdict) -> bool {
+        self.of(verdict) > 0
+    }
+
+    /// The clips are the same for all symbols. What holds whatever register was given decides; what
+    /// holds only if that is the writer's decides if no symbol speaks against it; then comes what is
+    /// perhaps so. Symbols that say nothing do not count against one that does.
     fn whole(&self) -> Option<Verdict> {
-        let told = |verdict: &Verdict| self.of(*verdict) > 0;
-        let one_of = |pair: [Verdict; 2]| match pair.map(|verdict| told(&verdict)) {
-            [true, true] => Some(Verdict::CannotTell),
-            [true, false] => Some(pair[0]),
-            [false, true] => Some(pair[1]),
-            [false, false] => None,
-        };
-        one_of([Verdict::Straight, Verdict::Turned])
-            .or_else(|| one_of([Verdict::PerhapsStraight, Verdict::PerhapsTurned]))
-            .or_else(|| ALL.into_iter().find(told))
+        let [straight, turned] = [Verdict::Straight, Verdict::Turned].map(|way| self.has(way));
+        let perhaps = [Verdict::PerhapsStraight, Verdict::PerhapsTurned].map(|way| self.has(way));
+        let refused = self.has(Verdict::Neither);
+        match (self.unconditional, [straight, turned], perhaps) {
+            ([true, true], ..) | ([false, false], [true, true], _) => Some(Verdict::CannotTell),
+            ([true, false], ..) => Some(Verdict::Straight),
+            ([false, true], ..) => Some(Verdict::Turned),
+            (_, [true, false], [_, false]) if !refused => Some(Verdict::Straight),
+            (_, [false, true], [false, _]) if !refused => Some(Verdict::Turned),
+            (_, [false, _], [false, true]) | (_, [false, true], [false, false]) => {
+                Some(Verdict::PerhapsTurned)
+            }
+            (_, [_, false], [true, false]) | (_, [true, false], [false, false]) => {
+                Some(Verdict::PerhapsStraight)
+            }
+            (_, [false, false], [false, false]) => {
+                ALL.into_iter().find(|&verdict| self.has(verdict))
+            }
+            _ => Some(Verdict::CannotTell),
+        }
     }
 
     pub fn report(&self) -> Report {

@@ -185,7 +185,7 @@ fn origin_words(known: &Known) -> &'static str {
 }
 
 /// What a verdict rests on, in fields.
-pub fn ground_fields(ground: &Ground) -> Fields {
+pub fn ground_fields(verdict: Verdict, ground: &Ground) -> Fields {
     let (register, tones) = match ground {
         Ground::Tones(known) => (Json::Number(known.register.into()), Some(known.agreed)),
         Ground::TooFew(tones) => (Json::Null, Some(*tones)),
@@ -193,7 +193,12 @@ pub fn ground_fields(ground: &Ground) -> Fields {
     };
     let number = |number: u64| Json::Number(i64::try_from(number).unwrap_or(i64::MAX));
     let few = tones.filter(|tones| (1..ENOUGH_TONES).contains(tones));
+    let holds_if = match verdict.is_sure() && ground.is_conditional() {
+        true => Json::text("the register that was given is the writer's"),
+        false => Json::Null,
+    };
     vec![
+        ("holds_if", holds_if),
         ("trellis", Json::Flag(matches!(ground, Ground::Trellis(_)))),
         ("register", register),
         ("register_is", Json::text(register_word(ground))),

@@ -155,6 +155,9 @@ fn what_a_verdict_rests_on() {
     let given = inner(&object(&given), "rests_on");
     has(&given, &few);
     has(&given, &[("register_is", text("given"))]);
+    let condition = "the register that was given is the writer's";
+    has(&given, &[("holds_if", text(condition))]);
+    has(&assumed, &[("holds_if", Value::Null)]);
     let words = [
         "turn",
         "examples/five-twos.txt",

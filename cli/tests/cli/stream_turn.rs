@@ -168,3 +168,18 @@ fn some_tones_of_several_symbols_are_a_perhaps() {
         }
     }
 }
+
+/// The register that is given is the one before a symbol that is missing: some first symbols look
+/// turned by chance, but those after them contradict it.
+#[test]
+fn a_wrong_register_does_not_decide_on_a_stream() {
+    let mut deceived = 0;
+    for register in (1..=40).map(|number| (number * 209_701).to_string()) {
+        let text = symbols(12, &register)[1..].join("\n");
+        let words = ["turn", A, "-", "--register", &register];
+        let ran = run_with(text.as_bytes(), &words);
+        deceived += usize::from(verdicts(&ran)[0] == "Turned");
+        assert!(ran.status != 0 && ran.status != 32, "{}", ran.out);
+    }
+    assert!(deceived > 3, "{deceived}");
+}
