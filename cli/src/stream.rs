@@ -20,7 +20,7 @@ pub trait Task {
     fn finish(&mut self, output: &Output) -> Reports;
 
     /// Whether no symbol can be other than refused, so that the first says all.
-    fn is_hopeless(&self) -> bool;
+    fn are_tables_refused(&self) -> bool;
 
     fn totals(&self) -> Report;
 }
@@ -30,7 +30,7 @@ pub fn run<T: Task>(call: &Call, mut task: T) -> Result<u8, Fault> {
     let mut symbols = Symbols::open(&call.operands[1])?;
     let mut output = Output::open(call)?;
     let first = symbols.next()?;
-    if task.is_hopeless() || !symbols.has_more()? {
+    if task.are_tables_refused() || !symbols.has_more()? {
         let report = first.and_then(|(number, input)| only(&mut task, number, input, &output));
         return report.map_or(Ok(0), |report| output.single(report));
     }
@@ -70,7 +70,7 @@ fn deliver(call: &Call, reports: Reports, output: &mut Output) -> Result<bool, F
     for (number, report) in reports {
         let refused = report.refused;
         output.symbol(number, report)?;
-        if output.is_left() || (refused && call.has(&STOP)) {
+        if output.has_no_reader() || (refused && call.has(&STOP)) {
             return Ok(true);
         }
     }

@@ -65,7 +65,7 @@ impl Task for Read {
         self.settle(settled, output)
     }
 
-    fn is_hopeless(&self) -> bool {
+    fn are_tables_refused(&self) -> bool {
         self.tables.are_refused()
     }
 

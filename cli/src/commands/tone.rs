@@ -27,6 +27,8 @@ fn map_report(call: &Call) -> Result<Report, Fault> {
         return Ok(refused("map", point.number, label_sentence(bits)));
     }
     let mut json = tone_fields("map", 0);
+    json.push(("bits", Json::Number(bits.into())));
+    json.push(("label", Json::Number(label.into())));
     json.push(("x", Json::Number(point.x.into())));
     json.push(("y", Json::Number(point.y.into())));
     let summary = format!(
@@ -58,6 +60,9 @@ fn point_report(call: &Call) -> Result<Report, Fault> {
     }
     let label = found.label;
     let mut json = tone_fields("point", 0);
+    json.push(("bits", Json::Number(bits.into())));
+    json.push(("x", Json::Number(x.into())));
+    json.push(("y", Json::Number(y.into())));
     json.push(("label", Json::Number(label.into())));
     let summary = format!(
         "0 DONE: {}, point ({x}, {y}): label {label} ({label:0width$b})",

@@ -72,7 +72,7 @@ impl Task for Turn {
         self.settle(settled, output)
     }
 
-    fn is_hopeless(&self) -> bool {
+    fn are_tables_refused(&self) -> bool {
         self.tables.are_refused()
     }
 

@@ -4,8 +4,8 @@ use std::io::{self, IsTerminal, Write};
 use std::time::{Duration, Instant};
 
 /// Work that takes no longer needs no progress line.
-const PATIENCE: Duration = Duration::from_secs(1);
-const PAUSE: Duration = Duration::from_millis(250);
+const QUIET_TIME: Duration = Duration::from_secs(1);
+const INTERVAL: Duration = Duration::from_millis(250);
 
 pub struct Progress {
     started: Instant,
@@ -24,10 +24,10 @@ impl Progress {
 
     /// So many symbols are done.
     pub fn show(&mut self, symbols: usize) {
-        if !self.terminal || self.started.elapsed() < PATIENCE {
+        if !self.terminal || self.started.elapsed() < QUIET_TIME {
             return;
         }
-        if self.shown.is_some_and(|shown| shown.elapsed() < PAUSE) {
+        if self.shown.is_some_and(|shown| shown.elapsed() < INTERVAL) {
             return;
         }
         self.shown = Some(Instant::now());

@@ -58,8 +58,8 @@ impl Output {
     }
 
     /// Whether nobody is left who would see what comes.
-    pub fn is_left(&self) -> bool {
-        self.screen.left && self.out.is_none() && self.svg.is_none()
+    pub fn has_no_reader(&self) -> bool {
+        self.screen.reader_gone && self.out.is_none() && self.svg.is_none()
     }
 
     /// Delivers the only report of a call and tells the exit status.
@@ -70,6 +70,7 @@ impl Output {
         }
         let notes = self.write_files()?;
         let text = if self.json {
+            report.json.extend(noted(&notes));
             document(&report.json)
         } else {
             let result = report.result.as_ref().filter(|_| self.out.is_none());
@@ -100,9 +101,10 @@ impl Output {
     }
 
     /// Delivers the totals of a stream and tells the exit status.
-    pub fn totals(mut self, report: Report) -> Result<u8, Fault> {
+    pub fn totals(mut self, mut report: Report) -> Result<u8, Fault> {
         let notes = self.write_files()?;
         let text = if self.json {
+            report.json.extend(noted(&notes));
             format!("\n  ],\n  \"totals\": {}\n}}\n", line(&report.json))
         } else {
             let lines = report.summary.iter().chain(&notes);
@@ -217,4 +219,10 @@ impl Output {
             complain(&format!("{symbol}{reason}"));
         }
     }
+}
+
+/// What was written, as a field, if anything was.
+fn noted(notes: &[String]) -> Option<(&'static str, Json)> {
+    let list = notes.iter().map(|note| Json::text(note.clone())).collect();
+    (!notes.is_empty()).then_some(("notes", Json::List(list)))
 }

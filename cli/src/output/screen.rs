@@ -7,25 +7,25 @@ use std::io::{self, ErrorKind, Write};
 /// Standard output. A reader that has gone away has had what it wanted.
 pub struct Screen {
     /// The reader has gone away.
-    pub left: bool,
+    pub reader_gone: bool,
 }
 
 impl Screen {
     pub fn open() -> Result<Screen, Fault> {
         match standard_output_was_open() {
-            true => Ok(Screen { left: false }),
+            true => Ok(Screen { reader_gone: false }),
             false => Err(Fault::access("standard output", "it is closed")),
         }
     }
 
     pub fn print(&mut self, text: &str) -> Result<(), Fault> {
-        if self.left {
+        if self.reader_gone {
             return Ok(());
         }
         let mut out = io::stdout().lock();
         let written = out.write_all(text.as_bytes()).and_then(|()| out.flush());
         match written {
-            Err(error) if error.kind() == ErrorKind::BrokenPipe => self.left = true,
+            Err(error) if error.kind() == ErrorKind::BrokenPipe => self.reader_gone = true,
             Err(error) => return Err(Fault::access("standard output", error)),
             Ok(()) => {}
         }

@@ -52,8 +52,13 @@ fn one_tone_and_figures() {
         [&Value::Number(0), &Value::Number(-3)]
     );
     assert_eq!([&map["size"], &map["register"]], [&Value::Null; 2]);
+    has(
+        &map,
+        &[("bits", Value::Number(4)), ("label", Value::Number(9))],
+    );
     let point = object(&run(&["point", "4", "-3", "3", "--json"]));
     assert_eq!(point["label"], Value::Number(9));
+    has(&point, &[("x", Value::Number(-3)), ("y", Value::Number(3))]);
     let label = object(&run(&["map", "4", "16", "--json"]));
     assert_eq!(
         [&label["number"], &label["name"]],
@@ -211,4 +216,22 @@ fn strange_file_names_are_escaped() {
         object(&run(&["turn", A, &points, "--json"]))["verdict"],
         text("perhaps turned")
     );
+}
+
+#[test]
+fn what_was_written() {
+    let out = crate::run::path("json-out.csv");
+    let out = out.to_str().unwrap();
+    let note = Value::List(vec![text(&format!("result written to {out}"))]);
+    let one = run(&["encode", A, "examples/bench-a.hex", "--json", "--out", out]);
+    has(&object(&one), &[("notes", note.clone())]);
+    let many = run(&[
+        "encode",
+        A,
+        "examples/bench-a-stream.hex",
+        "--json",
+        "--out",
+        out,
+    ]);
+    has(&inner(&object(&many), "totals"), &[("notes", note)]);
 }

@@ -205,9 +205,9 @@ fn a_long_stream_takes_no_more_memory() {
     let set = tables("memory.txt", "uncoded", 4096, &equal(4096, 8));
     let frames = file(
         "memory.hex",
-        format!("{}\n\n", "a5".repeat(4096)).repeat(300),
+        format!("{}\n\n", "a5".repeat(4096)).repeat(400),
     );
-    let script = "ulimit -v 24000; \"$TOOL\" encode \"$1\" \"$2\" | \"$TOOL\" turn \"$1\" -";
+    let script = "ulimit -v 48000; \"$TOOL\" encode \"$1\" \"$2\" | \"$TOOL\" turn \"$1\" -";
     let mut command = Command::new("sh");
     command
         .args(["-c", script, "sh", &set, &frames])
@@ -218,7 +218,7 @@ fn a_long_stream_takes_no_more_memory() {
     let ran = Ran::of(&command.output().unwrap());
     // Nothing tells in an uncoded set without a monitored tone.
     assert_eq!(ran.status, 33, "{}", ran.err);
-    let totals = "300 symbols: 300 cannot tell; in all: cannot tell";
+    let totals = "400 symbols: 400 cannot tell; in all: cannot tell";
     assert_eq!(ran.out.lines().last(), Some(totals));
 }
 
