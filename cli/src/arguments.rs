@@ -1,24 +1,14 @@
 //! The words of the command line.
 
-use crate::commands::{Command, COMMANDS};
+use crate::call::{Asked, Call, Command, Operand};
 use crate::fault::Fault;
-use crate::files::saturating;
+use crate::files::register_number;
 use crate::help;
+use crate::options::{Kind, Opt, OPTIONS, OUT, SVG};
+use crate::output::{is_standard_output, same_file};
+use crate::words::shown;
 use std::ffi::{OsStr, OsString};
-use std::path::PathBuf;
-
-/// The register at reset.
-pub const RESET: u32 = 8_388_607;
-
-/// A command with all that belongs to it.
-pub struct Call {
-    pub command: &'static Command,
-    pub operands: Vec<OsString>,
-    pub register: u32,
-    pub out: Option<PathBuf>,
-    pub svg: Option<PathBuf>,
-    pub json: bool,
-}
+use std::path::Path;
 
 pub enum Request {
     /// A text to print and nothing else: help or the version.
@@ -26,125 +16,219 @@ pub enum Request {
     Call(Call),
 }
 
-pub fn parse(words: &[OsString]) -> Result<Request, Fault> {
-    let Some((first, rest)) = words.split_first() else {
-        return Err(Fault::usage(help::usage()));
-    };
-    if is_help(first) {
-        return Ok(Request::Text(help::tool()));
-    }
-    if first == "--version" {
+pub fn parse(words: &[OsString], commands: &'static [Command]) -> Result<Request, Fault> {
+    let wants_help = before_dashes(words).any(is_help);
+    if !wants_help && before_dashes(words).any(is_version) {
         let version = format!("clevisroot {}\n", env!("CARGO_PKG_VERSION"));
         return Ok(Request::Text(version));
     }
-    let command = COMMANDS
-        .iter()
-        .find(|command| first == command.name)
-        .ok_or_else(|| Fault::usage(format!("no command {first:?}\n{}", help::usage())))?;
-    let mut before_dashes = rest.iter().take_while(|word| *word != "--");
-    if before_dashes.any(|word| is_help(word)) {
+    let mut sorted = Words::of(words, wants_help);
+    let asks = sorted.operands.first().is_some_and(|word| word == "help");
+    if asks {
+        sorted.operands.remove(0);
+    }
+    if sorted.operands.is_empty() {
+        return match wants_help || asks {
+            true => Ok(Request::Text(help::tool(commands))),
+            false => Err(Fault::usage(help::USAGE)),
+        };
+    }
+    let command = find(commands, &sorted.operands.remove(0))?;
+    if wants_help || asks {
         return Ok(Request::Text(help::command(command)));
     }
-    Words::of(rest).call(command).map(Request::Call)
+    sorted.call(command, commands).map(Request::Call)
 }
 
-fn is_help(word: &OsStr) -> bool {
+fn before_dashes(words: &[OsString]) -> impl Iterator<Item = &OsString> {
+    words.iter().take_while(|word| *word != "--")
+}
+
+fn is_help(word: &OsString) -> bool {
     word == "--help" || word == "-h"
 }
 
-/// The words sorted into operands and options.
+fn is_version(word: &OsString) -> bool {
+    word == "--version" || word == "-V"
+}
+
+fn find(commands: &'static [Command], name: &OsStr) -> Result<&'static Command, Fault> {
+    let mut found = commands.iter().filter(|command| name == command.name);
+    let message = || Fault::usage(format!("no command {name:?}\n{}", help::USAGE));
+    found.next().ok_or_else(message)
+}
+
+/// The words sorted into operands, the command's name among them, and options.
 #[derive(Default)]
 struct Words {
     operands: Vec<OsString>,
-    options: Vec<(String, Option<OsString>)>,
+    options: Vec<Given>,
+}
+
+/// An option as it was given.
+struct Given {
+    name: String,
+    value: Option<OsString>,
+    /// The value is the next word, not after `=`.
+    apart: bool,
 }
 
 impl Words {
     /// `--name` and `--name=value` are options until `--`; all else is an operand, `-3` too. An
-    /// option that takes a value and has no `=` takes the next word.
-    fn of(words: &[OsString]) -> Words {
+    /// option that takes a value and has no `=` takes the next word. Words that ask for help are
+    /// left out where it is given.
+    fn of(words: &[OsString], without_help: bool) -> Words {
         let mut sorted = Words::default();
         let mut words = words.iter();
         while let Some(word) = words.next() {
             let option = word.to_str().and_then(|word| word.strip_prefix("--"));
             match option {
+                _ if without_help && is_help(word) => {}
                 None => sorted.operands.push(word.clone()),
                 Some("") => sorted.operands.extend(words.by_ref().cloned()),
-                Some(option) => sorted.options.push(match option.split_once('=') {
-                    Some((name, value)) => (name.to_string(), Some(value.into())),
-                    None if option == "json" => (option.to_string(), None),
-                    None => (option.to_string(), words.next().cloned()),
-                }),
+                Some(option) => sorted.options.push(Given::of(option, &mut words)),
             }
         }
         sorted
     }
 
-    fn call(self, command: &'static Command) -> Result<Call, Fault> {
+    fn call(self, command: &'static Command, commands: &'static [Command]) -> Result<Call, Fault> {
         let mut call = Call {
             command,
+            commands,
             operands: self.operands,
-            register: RESET,
-            out: None,
-            svg: None,
-            json: false,
+            register: Asked::Reset,
+            options: Vec::new(),
         };
-        let wrong = |message: &str| Fault::usage(help::wrong(command, message));
-        for (count, (name, value)) in self.options.iter().enumerate() {
-            if !command.options.contains(&name.as_str()) {
-                return Err(wrong(&format!("no option --{name} here")));
+        for (count, given) in self.options.iter().enumerate() {
+            let name = &given.name;
+            let twice = self.options[..count]
+                .iter()
+                .any(|other| other.name == *name);
+            if twice {
+                return Err(command.wrong(&format!("--{} is given twice", shown(name))));
             }
-            if self.options[..count].iter().any(|(other, _)| other == name) {
-                return Err(wrong(&format!("--{name} is given twice")));
-            }
-            call.set(name, value.as_deref())
-                .map_err(|message| wrong(&format!("--{name} {message}")))?;
+            let mut options = command.options.iter();
+            let option = options.find(|option| option.name == name);
+            let unknown = || command.wrong(&format!("no option --{} here", shown(name)));
+            set(&mut call, option.ok_or_else(unknown)?, given)
+                .map_err(|message| command.wrong(&format!("--{name} {message}")))?;
         }
-        if call.operands.len() != command.operands.len() {
-            return Err(wrong("not the operands it takes"));
-        }
-        if call.out.is_some() && call.out == call.svg {
-            return Err(wrong("--out and --svg name the same file"));
-        }
-        if call.operands.iter().filter(|word| *word == "-").count() > 1 {
-            return Err(wrong("standard input can be one of the files, not two"));
-        }
+        check_operands(&call)?;
+        check_outputs(&call)?;
         Ok(call)
     }
 }
 
-impl Call {
-    fn set(&mut self, name: &str, value: Option<&OsStr>) -> Result<(), &'static str> {
-        match (name, value) {
-            ("json", None) => self.json = true,
-            ("json", Some(_)) => return Err("takes no value"),
-            ("register", Some(value)) => {
-                let number = value.to_str().and_then(|word| saturating(word, u32::MAX));
-                self.register = number.ok_or("takes a whole number")?;
-            }
-            ("out", Some(value)) => self.out = Some(file_named(value)?),
-            ("svg", Some(value)) => self.svg = Some(file_named(value)?),
-            _ => return Err("takes a value"),
+impl Given {
+    fn of<'a>(option: &str, words: &mut impl Iterator<Item = &'a OsString>) -> Given {
+        let (name, value) = match option.split_once('=') {
+            Some((name, value)) => (name, Some(value.into())),
+            None => (option, None),
+        };
+        let takes = OPTIONS
+            .iter()
+            .any(|other| other.name == name && other.kind != Kind::Flag);
+        let apart = value.is_none() && takes;
+        Given {
+            name: name.to_string(),
+            value: value.or_else(|| if apart { words.next().cloned() } else { None }),
+            apart,
         }
-        Ok(())
-    }
-
-    /// A number among the operands, as `read` reads it.
-    pub fn number<T>(&self, operand: usize, read: impl Fn(&str) -> Option<T>) -> Result<T, Fault> {
-        let word = self.operands[operand].to_str().and_then(read);
-        word.ok_or_else(|| {
-            let name = self.command.operands[operand];
-            Fault::usage(help::wrong(
-                self.command,
-                &format!("{name} is not a whole number"),
-            ))
-        })
     }
 }
 
-fn file_named(value: &OsStr) -> Result<PathBuf, &'static str> {
-    if value == "-" || value.is_empty() {
-        return Err("takes the name of a file");
+/// Takes an option into the call.
+fn set(call: &mut Call, option: &'static Opt, given: &Given) -> Result<(), String> {
+    let value = match (option.kind, &given.value) {
+        (Kind::Flag, Some(_)) => return Err("takes no value".to_string()),
+        (Kind::Flag, None) => OsString::new(),
+        (_, None) => return Err("takes a value".to_string()),
+        (_, Some(value)) => value.clone(),
+    };
+    let word = value.to_string_lossy();
+    if given.apart && word.starts_with("--") {
+        return Err(format!(
+            "takes a value, and `{0}` looks like an option: for a value of that name write --{1}={0}",
+            shown(&word),
+            option.name
+        ));
     }
-    Ok(PathBuf::from(value))
+    match option.kind {
+        Kind::Register | Kind::RegisterOrFind => call.register = register(option.kind, &word)?,
+        Kind::Output if word == "-" || word.is_empty() => {
+            return Err("takes the name of a file".to_string())
+        }
+        Kind::Flag | Kind::Output => call.options.push((option.name, value)),
+    }
+    Ok(())
+}
+
+fn register(kind: Kind, word: &str) -> Result<Asked, String> {
+    match (kind, register_number(word)) {
+        (_, Some(number)) => Ok(Asked::Given(number, word.to_string())),
+        (Kind::RegisterOrFind, None) if word == "find" => Ok(Asked::Find),
+        (Kind::RegisterOrFind, None) => Err("takes a whole number or `find`".to_string()),
+        _ => Err("takes a whole number".to_string()),
+    }
+}
+
+fn check_operands(call: &Call) -> Result<(), Fault> {
+    let command = call.command;
+    if call.operands.len() != command.operands.len() {
+        return Err(command.wrong("not the operands it takes"));
+    }
+    if call.operands.iter().filter(|word| *word == "-").count() > 1 {
+        return Err(command.wrong("standard input can be one of the files, not two"));
+    }
+    for (operand, word) in command.operands.iter().zip(&call.operands) {
+        if let Operand::Word(name, words) = operand {
+            if !words.iter().any(|known| word == known) {
+                return Err(command.wrong(&format!("{name} is one of {}", words.join(", "))));
+            }
+        }
+    }
+    Ok(())
+}
+
+/// No output may take the place of an input, of the other output, or of what is printed.
+fn check_outputs(call: &Call) -> Result<(), Fault> {
+    let wrong = |message: String| Err(call.command.wrong(&message));
+    if let (Some(out), Some(svg)) = (call.file(&OUT), call.file(&SVG)) {
+        if same_file(out, svg) {
+            return wrong("--out and --svg name the same file".to_string());
+        }
+    }
+    for option in [&OUT, &SVG] {
+        let Some(output) = call.file(option).filter(|output| output.is_file()) else {
+            continue;
+        };
+        if let Some(name) = overwritten(call, output) {
+            let option = option.name;
+            return wrong(format!("--{option} would overwrite {name}, which is read"));
+        }
+        if is_standard_output(output) {
+            let option = option.name;
+            return wrong(format!("--{option} names the file that is printed to"));
+        }
+    }
+    Ok(())
+}
+
+/// The operand whose file this output would overwrite.
+fn overwritten(call: &Call, output: &Path) -> Option<&'static str> {
+    let mut operands = call.command.operands.iter().zip(&call.operands);
+    let found = operands.find(|(operand, word)| {
+        matches!(operand, Operand::Input(_)) && same_file(output, input(word))
+    });
+    found.map(|(operand, _)| operand.name())
+}
+
+/// The file of an operand; standard input has a name too.
+fn input(word: &OsStr) -> &Path {
+    Path::new(if word == "-" {
+        OsStr::new("/dev/stdin")
+    } else {
+        word
+    })
 }

@@ -1,7 +1,7 @@
 //! Questions to the library, with lists of the right length lent for its answers.
 
 use crate::files::{Class, TableSet};
-use crate::index::{Place, SubCarrier};
+use crate::index::{Place, Subcarrier};
 use clevisroot_sys::{self as library, Answer};
 
 /// The re-ordered tables.
@@ -43,25 +43,38 @@ pub fn read(set: &TableSet, x: &[i16], y: &[i16], register: u32) -> (Answer, Vec
     (answer, frame)
 }
 
+/// N is odd in coded mode: then the trellis code refuses every symbol that is turned by half a turn,
+/// whatever the register.
+pub fn trellis_tells(set: &TableSet, order: &Order) -> bool {
+    set.coded && order.loaded() % 2 == 1
+}
+
 /// The bytes of a frame of these tables, 0 if they are refused.
 pub fn frame_bytes(set: &TableSet) -> usize {
     library::check(set.lent()).size.div_ceil(8) as usize
 }
 
 impl Order {
-    pub fn tone_at(&self, place: Place) -> Option<SubCarrier> {
-        self.tones.get(place.0).map(|&tone| SubCarrier(tone))
+    pub fn tone_at(&self, place: Place) -> Option<Subcarrier> {
+        self.tones.get(place.0).map(|&tone| Subcarrier(tone))
     }
 
     /// t' with its places.
-    pub fn places(&self) -> impl Iterator<Item = (Place, SubCarrier)> + '_ {
+    pub fn places(&self) -> impl Iterator<Item = (Place, Subcarrier)> + '_ {
         let tones = self.tones.iter().enumerate();
-        tones.map(|(place, &tone)| (Place(place), SubCarrier(tone)))
+        tones.map(|(place, &tone)| (Place(place), Subcarrier(tone)))
     }
 
     /// N: the non-zero entries of b'.
     pub fn loaded(&self) -> usize {
         self.bits.iter().filter(|&&bits| bits > 0).count()
+    }
+
+    /// The places of the monitored tones, in the order of their draws.
+    pub fn monitored<'a>(&'a self, set: &'a TableSet) -> impl Iterator<Item = Place> + 'a {
+        let monitored = move |tone| set.class_of(tone) == Class::Monitored;
+        let places = self.places().filter(move |&(_, tone)| monitored(tone));
+        places.map(|(place, _)| place)
     }
 
     /// The places of each coded pair. Two 1-bit tones share an entry; the first entry of an odd

@@ -1,149 +1,136 @@
-//! What `--help` prints, and the line that a wrong call is answered with.
+//! What `--help` prints, and the manual page, from the tables of commands and options.
 
-use crate::commands::{Command, COMMANDS};
+use crate::call::Command;
+use crate::options::OPTIONS;
 
-/// The forms of all calls.
-pub fn usage() -> String {
-    "usage: clevisroot COMMAND [OPERANDS] [OPTIONS]; see clevisroot --help".to_string()
-}
+/// The form of all calls.
+pub const USAGE: &str = "usage: clevisroot COMMAND [OPERANDS] [OPTIONS]; see clevisroot --help";
 
-/// What is wrong with a call of a command, and how it is called.
-pub fn wrong(command: &Command, message: &str) -> String {
-    let name = command.name;
+const ABOUT: &str =
+    "VDSL2 tables, frames and points (G.993.2 clause 10.3), from files you can edit";
+
+/// Options that every command takes.
+const ALWAYS: [(&str, &str); 2] = [
+    (
+        "--help, -h",
+        "this text, or that of a command (also: help COMMAND)",
+    ),
+    ("--version, -V", "the version"),
+];
+
+const FILES: &str = "\
+files (# begins a comment; - is standard input, for one of the files)
+  TABLES   mode coded (or uncoded), carriers G, then a line a tone in t order:
+           sub-carrier, bits, gain (512 stands for 1)
+  FRAME    hex, two digits a byte, byte 0 first; an empty line between frames
+  POINTS   x,y, a line a place in t' order; an empty line or a header x,y between symbols
+";
+
+const STATUS: [(&str, &str); 10] = [
+    ("0", "done; of turn: straight"),
+    ("1 to 16", "the refusal's number"),
+    ("32", "turn: turned"),
+    (
+        "33",
+        "turn: cannot tell; read: the register cannot be found",
+    ),
+    ("34", "turn: neither way is read"),
+    ("35", "figures: one does not agree"),
+    ("36", "turn: perhaps straight or perhaps turned"),
+    ("64", "the call is wrong"),
+    (
+        "65",
+        "a file says something else than its kind of file says",
+    ),
+    ("66", "a file cannot be read or written"),
+];
+
+pub fn tool(commands: &[Command]) -> String {
+    let commands: String = commands.iter().map(command_line).collect();
+    let options: String = option_lines().iter().map(row).collect();
+    let statuses = STATUS.map(|(status, about)| (status.to_string(), about));
+    let statuses: String = statuses.iter().map(row).collect();
     format!(
-        "{name}: {message}\nusage: {}; see clevisroot {name} --help",
-        form(command)
+        "clevisroot: {ABOUT}\n\n{USAGE}\n\ncommands\n{commands}\noptions, before or after the \
+         command\n{options}\n{FILES}\nexit status\n{statuses}\nexample\n  clevisroot check \
+         examples/bench-a.txt\n"
     )
 }
 
-fn form(command: &Command) -> String {
-    let mut words = vec!["clevisroot", command.name];
-    words.extend(command.operands);
-    let options = command.options.iter().map(|name| match *name {
-        "register" => " [--register N]",
-        "out" => " [--out FILE]",
-        "svg" => " [--svg FILE]",
-        _ => " [--json]",
-    });
-    words.join(" ") + &options.collect::<String>()
-}
-
-pub fn tool() -> String {
-    let commands: String = COMMANDS.iter().map(command_line).collect();
-    format!("{ABOUT}\n{}\n\ncommands\n{commands}\n{REST}", usage())
-}
-
 fn command_line(command: &Command) -> String {
-    let form = format!("{} {}", command.name, command.operands.join(" "));
-    format!("  {form:<24}{}\n", command.about)
+    row(&(command.short_form(), command.about))
+}
+
+fn row((form, about): &(String, &str)) -> String {
+    format!("  {form:<24}{about}\n")
+}
+
+/// All options with what they do.
+fn option_lines() -> Vec<(String, &'static str)> {
+    let options = OPTIONS.iter().map(|option| (option.form(), option.about));
+    let always = ALWAYS
+        .iter()
+        .map(|(form, about)| (form.to_string(), *about));
+    options.chain(always).collect()
 }
 
 pub fn command(command: &Command) -> String {
+    let options = command.options.iter();
+    let options: String = options
+        .map(|option| row(&(option.form(), option.about)))
+        .collect();
+    let options = match options.as_str() {
+        "" => String::new(),
+        _ => format!("options\n{options}\n"),
+    };
     format!(
-        "clevisroot {}: {}\n\nusage: {}\n\n{}",
+        "clevisroot {}: {}\n\nusage: {}\n\n{options}{}",
         command.name,
         command.about,
-        form(command),
+        command.form(),
         command.details
     )
 }
 
-const ABOUT: &str = "\
-clevisroot: VDSL2 tables, frames and points (G.993.2 clause 10.3), from files you can edit
-";
+/// The manual page, as man reads it.
+pub fn manual(commands: &[Command]) -> String {
+    let version = env!("CARGO_PKG_VERSION");
+    let commands: String = commands.iter().map(manual_section).collect();
+    let options: String = option_lines()
+        .iter()
+        .map(|(form, about)| tagged(form, about))
+        .collect();
+    let statuses = STATUS.map(|(status, about)| tagged(status, about)).concat();
+    format!(
+        ".TH CLEVISROOT 1 \"\" \"clevisroot {version}\"\n.SH NAME\nclevisroot \\- {}\n\
+         .SH SYNOPSIS\n.B clevisroot\n.I COMMAND OPERANDS OPTIONS\n.SH COMMANDS\n{commands}\
+         .SH OPTIONS\n{options}.SH FILES\n.nf\n{}.fi\n.SH EXIT STATUS\n{statuses}",
+        roff(ABOUT),
+        roff(FILES)
+    )
+}
 
-const REST: &str = "\
-options
-  --register N   the filler register before the symbol (8388607, its value at reset)
-  --out FILE     the result into a file: points of encode, frame of read, lists of order
-  --svg FILE     a picture of the points and the bit loading (encode and read)
-  --json         one JSON object instead of text
-  --help         this text, or that of a command
-  --version      the version
+fn manual_section(command: &Command) -> String {
+    format!(
+        ".SS {}\n.nf\n{}\n.fi\n.PP\n{}.\n.PP\n.nf\n{}.fi\n",
+        roff(command.name),
+        roff(&command.form()),
+        roff(command.about),
+        roff(command.details)
+    )
+}
 
-files (# begins a comment; - is standard input, for one of the files)
-  TABLES   mode coded (or uncoded), carriers G, then a line a tone in t order:
-           sub-carrier, bits, gain (512 stands for 1)
-  FRAME    hex, two digits a byte, byte 0 first
-  POINTS   x,y, a line a place in t' order
+fn tagged(tag: &str, about: &str) -> String {
+    format!(".TP\n.B {}\n{}\n", roff(tag), roff(about))
+}
 
-exit status
-  0           done
-  1 to 16     the refusal's number
-  32, 33, 34  turn: turned, cannot tell, neither
-  35          figures: one does not agree
-  64          the call is wrong
-  65          a file says something else than its kind of file says
-  66          a file cannot be read or written
-
-example
-  clevisroot check examples/bench-a.txt
-";
-
-pub const CHECK: &str = "\
-Checks the table set and tells L, the bits of a frame; also how the tones are loaded, and
-whether a clip that is the wrong way round would show. Refusals are 1 to 9.
-
-example
-  clevisroot check examples/bench-a.txt
-";
-
-pub const ORDER: &str = "\
-Writes the re-ordered tone table t' and the re-ordered bit table b', 16 numbers a line. Points
-are in the order of t'. In coded mode b' does not run beside t': its zeros come first, and two
-1-bit tones share an entry of 2. Refusals are 1 to 10.
-
-example
-  clevisroot order examples/bench-a.txt --out order.txt
-";
-
-pub const ENCODE: &str = "\
-Writes the points of a frame, x,y, a line a place in t' order, and tells the register for the
-next symbol. What it prints is a POINTS file. The frame has L bits: bit k is in byte k / 8, at
-weight 2 to the (k mod 8); unused high bits are 0. Refusals are 1 to 12.
-
-examples
-  clevisroot encode examples/bench-a.txt examples/bench-a.hex --svg symbol.svg
-  echo 15 | clevisroot encode examples/bench-a.txt - --register 2097151
-";
-
-pub const READ: &str = "\
-Reads exact points back to the frame, hex, 32 bytes a line. What it prints is a FRAME file. The
-register must be the one the points were written with. Refusals are 1 to 10 and 12 to 15; with
-13, 14 and 15 the picture of --svg is drawn too and shows what was refused.
-
-example
-  clevisroot read examples/bench-a.txt examples/bench-a.csv --out frame.hex
-";
-
-pub const TURN: &str = "\
-Reads the points as they came and turned by half a turn (every x,y as -x,-y), and says in one
-sentence what to tell the jointer. Exit status: 0 straight, 32 turned, 33 the table set cannot
-tell, 34 neither way is read; 1 to 10 and 12 if the tables, the count of points or the register
-are refused.
-
-example
-  clevisroot turn examples/bench-a.txt examples/bench-a-turned.csv
-";
-
-pub const MAP: &str = "\
-Tells the point of one label on a tone of 1 to 15 bits. The refusal is 16.
-
-example
-  clevisroot map 5 24
-";
-
-pub const POINT: &str = "\
-Tells the label of one point on a tone of 1 to 15 bits. Refusals are 16 for the bits, then 13.
-
-example
-  clevisroot point 5 -3 5
-";
-
-pub const FIGURES: &str = "\
-Works out the bench figures of document 01 and prints each beside the page's value. The ones
-with a * are the page's small set. Exit status: 0 if all agree, else 35.
-
-example
-  clevisroot figures
-";
+/// Text that man prints as it is.
+fn roff(text: &str) -> String {
+    let escaped = text.replace('\\', "\\e").replace('-', "\\-");
+    let line = |line: &str| match line.chars().next() {
+        Some('.' | '\'') => format!("\\&{line}"),
+        _ => line.to_string(),
+    };
+    let lines: Vec<String> = escaped.split('\n').map(line).collect();
+    lines.join("\n")
+}

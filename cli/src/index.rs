@@ -8,7 +8,7 @@ pub struct Place(pub usize);
 
 /// A sub-carrier index.
 #[derive(Clone, Copy, Debug, PartialEq, Eq, PartialOrd, Ord)]
-pub struct SubCarrier(pub u16);
+pub struct Subcarrier(pub u16);
 
 impl fmt::Display for Place {
     fn fmt(&self, f: &mut fmt::Formatter) -> fmt::Result {
@@ -16,7 +16,7 @@ impl fmt::Display for Place {
     }
 }
 
-impl fmt::Display for SubCarrier {
+impl fmt::Display for Subcarrier {
     fn fmt(&self, f: &mut fmt::Formatter) -> fmt::Result {
         self.0.fmt(f)
     }

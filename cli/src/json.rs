@@ -2,6 +2,7 @@
 
 use std::fmt::Write;
 
+#[derive(Clone)]
 pub enum Json {
     Null,
     Flag(bool),
@@ -43,6 +44,13 @@ pub fn document(fields: &[(&'static str, Json)]) -> String {
         write_field(field, &mut out);
     }
     out + "\n}\n"
+}
+
+/// The object as text, in one line.
+pub fn line(fields: &[(&'static str, Json)]) -> String {
+    let mut out = String::new();
+    write_items('{', fields, '}', &mut out, write_field);
+    out
 }
 
 fn write_field((key, value): &(&'static str, Json), out: &mut String) {

@@ -3,18 +3,25 @@
 
 mod arguments;
 mod ask;
+mod call;
 mod commands;
-mod deliver;
+mod completions;
 mod fault;
 mod files;
 mod help;
 mod index;
 mod json;
+mod options;
+mod output;
 mod refusal;
+mod register;
 mod report;
+mod stream;
 mod svg;
+mod words;
 
 use arguments::{parse, Request};
+use commands::COMMANDS;
 use fault::Fault;
 use std::ffi::OsString;
 use std::process::ExitCode;
@@ -23,7 +30,7 @@ fn main() -> ExitCode {
     // Not args(): that one panics if a file name is not UTF-8.
     let words: Vec<OsString> = std::env::args_os().skip(1).collect();
     let status = answer(&words).unwrap_or_else(|fault| {
-        deliver::complain(&fault.message);
+        output::complain(&fault.message);
         fault.status
     });
     ExitCode::from(status)
@@ -31,11 +38,8 @@ fn main() -> ExitCode {
 
 /// Answers one call of the tool and tells its exit status.
 fn answer(words: &[OsString]) -> Result<u8, Fault> {
-    match parse(words)? {
-        Request::Text(text) => deliver::print(&text).map(|()| 0),
-        Request::Call(call) => {
-            let report = (call.command.run)(&call)?;
-            deliver::deliver(&report, &call)
-        }
+    match parse(words, &COMMANDS)? {
+        Request::Text(text) => output::print(&text).map(|()| 0),
+        Request::Call(call) => (call.command.run)(&call),
     }
 }

@@ -1,7 +1,9 @@
 //! What a command has to say, for a person and for a program.
 
 use crate::json::{Fields, Json};
-use crate::refusal::{name, Refusal};
+use crate::refusal::numbers::name;
+use crate::refusal::Refusal;
+use crate::words::size_words;
 use clevisroot_sys::Answer;
 
 /// The main result: with remarks on the screen, without in a file.
@@ -17,6 +19,10 @@ pub struct Report {
     pub result: Option<Written>,
     pub json: Fields,
     pub picture: Option<String>,
+    /// The symbol or the tables are refused.
+    pub refused: bool,
+    /// The reason in a line, where no result comes for one that was asked for.
+    pub reason: Option<String>,
 }
 
 impl Report {
@@ -28,35 +34,53 @@ impl Report {
             result: None,
             json,
             picture: None,
+            refused: false,
+            reason: None,
         }
     }
 
     /// What the library's refusal says.
-    pub fn refused(answer: &Answer, refusal: &Refusal, json: Fields) -> Report {
+    pub fn refused(refusal: &Refusal, json: Fields) -> Report {
         let summary = vec![
-            format!("refused: {} {}", answer.number, name(answer.number)),
+            format!("refused: {}", refusal.title()),
             refusal.place.clone(),
             refusal.sentence.clone(),
         ];
-        let mut report = Report::new(status_of(answer.number), summary, json);
-        let place_is = refusal.place_is.map_or(Json::Null, Json::text);
-        report.json.push(("place_is", place_is));
-        report
-            .json
-            .push(("sentence", Json::text(refusal.sentence.clone())));
+        let mut report = Report::new(status_of(refusal.number), summary, json);
+        report.json.extend(refusal_fields(refusal));
+        report.refused = true;
         report
     }
 
-    /// The text for a person. Where the result follows, all else is a comment, so that the whole
-    /// is a file that this tool reads.
-    pub fn text(&self, notes: &[String], with_result: bool) -> String {
-        let result = self.result.as_ref().filter(|_| with_result);
-        let mark = if result.is_some() { "# " } else { "" };
-        let lines = self.summary.iter().chain(notes);
-        let mut text: String = lines.map(|line| format!("{mark}{line}\n")).collect();
-        text.push_str(result.map_or("", |result| &result.screen));
-        text
+    /// A refusal in place of a result that was asked for.
+    pub fn refused_result(refusal: &Refusal, json: Fields) -> Report {
+        let mut report = Report::refused(refusal, json);
+        report.reason = Some(reason(refusal));
+        report
     }
+}
+
+/// The reason of a refusal in a line.
+fn reason(refusal: &Refusal) -> String {
+    let Refusal {
+        place, sentence, ..
+    } = refusal;
+    format!("refused: {} {place}: {sentence}", refusal.title())
+}
+
+/// What JSON says of a refusal besides its number and place.
+pub fn refusal_fields(refusal: &Refusal) -> Fields {
+    let place_is = refusal.place_is.map_or(Json::Null, Json::text);
+    let mut fields = vec![("place_is", place_is)];
+    fields.extend(refusal.details.iter().cloned());
+    fields.push(("sentence", Json::text(refusal.sentence.clone())));
+    fields
+}
+
+/// "0 DONE: L = 5 bits in 1 byte, register after 2097151"
+pub fn done_words(answer: &Answer) -> String {
+    let (size, register) = (size_words(answer.size), answer.reg);
+    format!("0 DONE: {size}, register after {register}")
 }
 
 /// The exit status of a refusal is its number.
@@ -93,7 +117,8 @@ pub fn table_fields(command: &'static str, answer: &Answer) -> Fields {
     fields(command, [Some(number), Some(place), Some(size), None])
 }
 
-/// The fields of a call for a symbol.
+/// The fields of a call for a symbol. A register too large for the library's type stands for the
+/// largest there is, which nobody typed.
 pub fn symbol_fields(command: &'static str, answer: &Answer) -> Fields {
     let Answer {
         number,
@@ -101,17 +126,6 @@ pub fn symbol_fields(command: &'static str, answer: &Answer) -> Fields {
         size,
         reg,
     } = *answer;
-    fields(command, [Some(number), Some(place), Some(size), Some(reg)])
-}
-
-/// "L = 5 bits in 1 byte"
-pub fn size_words(size: u32) -> String {
-    let bytes = size.div_ceil(8);
-    format!("L = {} in {}", count(size, "bit"), count(bytes, "byte"))
-}
-
-/// "1 byte", "2 bytes"
-pub fn count(number: u32, thing: &str) -> String {
-    let plural = if number == 1 { "" } else { "s" };
-    format!("{number} {thing}{plural}")
+    let register = Some(reg).filter(|&reg| reg != u32::MAX);
+    fields(command, [Some(number), Some(place), Some(size), register])
 }

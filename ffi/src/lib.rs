@@ -1,6 +1,7 @@
 //! The functions of include/clevisroot.h and safe wrappers around them. The header says what each
 //! one does; the names here are its names without the prefix.
 
+pub mod descriptors;
 mod raw;
 pub mod refusals;
 

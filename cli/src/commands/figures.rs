@@ -1,12 +1,13 @@
 //! `figures`: document 01's bench figures, worked out now, each beside the page's value.
 
-use crate::arguments::{Call, RESET};
 use crate::ask;
+use crate::call::{Call, RESET};
 use crate::fault::Fault;
 use crate::files::{Entry, TableSet};
-use crate::index::SubCarrier;
+use crate::index::Subcarrier;
 use crate::json::Json;
-use crate::refusal::name;
+use crate::output::Output;
+use crate::refusal::numbers::name;
 use crate::report::{fields, Report};
 use clevisroot_sys as library;
 use std::fmt::Display;
@@ -22,7 +23,11 @@ struct Figure {
     now: String,
 }
 
-pub fn figures(_: &Call) -> Result<Report, Fault> {
+pub fn figures(call: &Call) -> Result<u8, Fault> {
+    Output::open(call)?.single(figures_report())
+}
+
+fn figures_report() -> Report {
     let mut figures = table_a_figures();
     figures.extend(small_table_figures());
     figures.extend(point_figures());
@@ -36,7 +41,7 @@ pub fn figures(_: &Call) -> Result<Report, Fault> {
     json.push(("agree", Json::Flag(status == 0)));
     let list = figures.iter().map(Figure::json).collect();
     json.push(("figures", Json::List(list)));
-    Ok(Report::new(status, summary, json))
+    Report::new(status, summary, json)
 }
 
 impl Figure {
@@ -103,7 +108,7 @@ fn equal_tones(coded: bool, tones: u16, bits: u8) -> TableSet {
 fn push(set: &mut TableSet, tone: u16, bits: u8, gain: u16) {
     set.push_tone(&Entry {
         line: 0,
-        tone: SubCarrier(tone),
+        tone: Subcarrier(tone),
         bits,
         gain,
     });

@@ -1,102 +1,112 @@
-//! The commands: what each one takes, and the function that answers it.
+//! The commands: what each one takes, and the function that answers it. Parsing, `--help`, the
+//! manual page and the completions are made from this table.
 
+mod details;
+mod encode;
 mod figures;
-mod symbol;
+mod judge;
+mod pages;
+mod picture;
+mod read;
+mod reading;
 mod tables;
 mod tone;
+mod totals;
 mod turn;
+mod verdict;
+mod verdict_totals;
+mod verdict_words;
 
-use crate::arguments::Call;
-use crate::fault::Fault;
-use crate::files::{read_points, read_tables, PointList, Source, TableSet};
-use crate::help;
-use crate::report::Report;
+use crate::call::{Command, Operand};
+use crate::options::{JSON, OUT, REGISTER, REGISTER_OR_FIND, STOP, SVG};
 
-pub struct Command {
-    pub name: &'static str,
-    pub operands: &'static [&'static str],
-    /// The names of the options it takes besides --help.
-    pub options: &'static [&'static str],
-    /// What it does, in a line.
-    pub about: &'static str,
-    /// What its help says besides.
-    pub details: &'static str,
-    pub run: fn(&Call) -> Result<Report, Fault>,
-}
+const TABLES: Operand = Operand::Input("TABLES");
+const FRAME: Operand = Operand::Input("FRAME");
+const POINTS: Operand = Operand::Input("POINTS");
 
-pub const COMMANDS: [Command; 8] = [
+pub const COMMANDS: [Command; 10] = [
     Command {
         name: "check",
-        operands: &["TABLES"],
-        options: &["json"],
+        operands: &[TABLES],
+        options: &[&JSON],
         about: "check a table set and tell L",
-        details: help::CHECK,
+        details: details::CHECK,
         run: tables::check,
     },
     Command {
         name: "order",
-        operands: &["TABLES"],
-        options: &["out", "json"],
+        operands: &[TABLES],
+        options: &[&OUT, &JSON],
         about: "write the re-ordered tables t' and b'",
-        details: help::ORDER,
+        details: details::ORDER,
         run: tables::order,
     },
     Command {
         name: "encode",
-        operands: &["TABLES", "FRAME"],
-        options: &["register", "out", "svg", "json"],
-        about: "write the points of a frame",
-        details: help::ENCODE,
-        run: symbol::encode,
+        operands: &[TABLES, FRAME],
+        options: &[&REGISTER, &OUT, &SVG, &STOP, &JSON],
+        about: "write the points of a frame, or of many",
+        details: details::ENCODE,
+        run: encode::encode,
     },
     Command {
         name: "read",
-        operands: &["TABLES", "POINTS"],
-        options: &["register", "out", "svg", "json"],
-        about: "read points back to the frame",
-        details: help::READ,
-        run: symbol::read,
+        operands: &[TABLES, POINTS],
+        options: &[&REGISTER_OR_FIND, &OUT, &SVG, &STOP, &JSON],
+        about: "read points back to the frame, one symbol or many",
+        details: details::READ,
+        run: read::read,
     },
     Command {
         name: "turn",
-        operands: &["TABLES", "POINTS"],
-        options: &["register", "json"],
+        operands: &[TABLES, POINTS],
+        options: &[&REGISTER_OR_FIND, &SVG, &STOP, &JSON],
         about: "tell whether the clips are the wrong way round",
-        details: help::TURN,
+        details: details::TURN,
         run: turn::turn,
     },
     Command {
         name: "map",
-        operands: &["BITS", "LABEL"],
-        options: &["json"],
+        operands: &[Operand::Number("BITS"), Operand::Number("LABEL")],
+        options: &[&JSON],
         about: "the point of one label",
-        details: help::MAP,
+        details: details::MAP,
         run: tone::map,
     },
     Command {
         name: "point",
-        operands: &["BITS", "X", "Y"],
-        options: &["json"],
+        operands: &[
+            Operand::Number("BITS"),
+            Operand::Number("X"),
+            Operand::Number("Y"),
+        ],
+        options: &[&JSON],
         about: "the label of one point",
-        details: help::POINT,
+        details: details::POINT,
         run: tone::point,
     },
     Command {
         name: "figures",
         operands: &[],
-        options: &["json"],
+        options: &[&JSON],
         about: "work out the bench figures and compare them with the page",
-        details: help::FIGURES,
+        details: details::FIGURES,
         run: figures::figures,
     },
+    Command {
+        name: "man",
+        operands: &[],
+        options: &[],
+        about: "print the manual page",
+        details: details::MAN,
+        run: pages::man,
+    },
+    Command {
+        name: "completions",
+        operands: &[Operand::Word("SHELL", &["bash", "fish", "zsh"])],
+        options: &[],
+        about: "print the completions for a shell",
+        details: details::COMPLETIONS,
+        run: pages::completions,
+    },
 ];
-
-/// The table set that the first operand names.
-fn given_tables(call: &Call) -> Result<TableSet, Fault> {
-    Source::read(&call.operands[0]).and_then(|source| read_tables(&source))
-}
-
-/// The points that the second operand names.
-fn given_points(call: &Call) -> Result<PointList, Fault> {
-    Source::read(&call.operands[1]).and_then(|source| read_points(&source))
-}

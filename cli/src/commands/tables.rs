@@ -1,49 +1,72 @@
 //! `check` and `order`.
 
-use super::given_tables;
-use crate::arguments::{Call, RESET};
-use crate::ask::{self, Order};
+use crate::ask::{self, trellis_tells, Order};
+use crate::call::Call;
 use crate::fault::Fault;
-use crate::files::{Class, TableSet};
+use crate::files::{read_tables, Class, TableSet};
 use crate::json::{Fields, Json};
-use crate::refusal::Asked;
-use crate::report::{size_words, table_fields, Report, Written};
+use crate::output::Output;
+use crate::refusal::numbers::DONE;
+use crate::refusal::Question;
+use crate::register::ENOUGH_TONES;
+use crate::report::{table_fields, Report, Written};
+use crate::words::{mode_word, size_words};
 use clevisroot_sys::{self as library, Answer};
 use std::fmt::Display;
 
-pub fn check(call: &Call) -> Result<Report, Fault> {
-    let set = given_tables(call)?;
+pub fn check(call: &Call) -> Result<u8, Fault> {
+    let set = read_tables(&call.operands[0])?;
     let answer = library::check(set.lent());
-    let mut json = table_fields("check", &answer);
-    if answer.number > 0 {
-        return Ok(refused(&set, &answer, json));
-    }
-    let (_, order) = ask::order(&set);
+    let json = table_fields("check", &answer);
+    let report = match answer.number {
+        DONE => accepted(&set, &answer, json),
+        _ => refused(&set, &answer, json),
+    };
+    Output::open(call)?.single(report)
+}
+
+fn accepted(set: &TableSet, answer: &Answer, mut json: Fields) -> Report {
+    let (_, order) = ask::order(set);
     let monitored = set.count(|class| class == Class::Monitored);
     let silent = set.count(|class| class == Class::Silent);
+    let data = set.tone_count() - monitored - silent;
     let summary = vec![
         "0 DONE: the table set is accepted".to_string(),
         size_words(answer.size),
         format!(
-            "{}, G = {}, NSC = {}: {} with data, {monitored} monitored, {silent} silent",
-            if set.coded { "coded" } else { "uncoded" },
+            "{}, G = {}, NSC = {}: {data} with data, {monitored} monitored, {silent} silent",
+            mode_word(set.coded),
             set.carriers(),
             set.tone_count(),
-            set.tone_count() - monitored - silent,
         ),
-        format!("tones by bits: {}", loading_words(&set)),
-        turned_words(&set, &order),
+        format!("tones by bits: {}", loading_words(set)),
+        turned_words(set, &order, monitored),
     ];
-    json.push(("turned_shows", Json::Flag(turned_shows(&set, &order))));
-    Ok(Report::new(0, summary, json))
+    let number = |number: usize| Json::Number(number as i64);
+    let of_bits = |bits| number(set.count(|class| class == Class::Data(bits)));
+    json.extend([
+        ("mode", Json::text(mode_word(set.coded))),
+        ("sub_carriers", number(set.carriers())),
+        ("tones", number(set.tone_count())),
+        ("data", number(data)),
+        ("monitored", number(monitored)),
+        ("silent", number(silent)),
+        ("tones_by_bits", Json::List((1..=15).map(of_bits).collect())),
+        ("non_zero_entries", number(order.loaded())),
+    ]);
+    let trellis = trellis_tells(set, &order);
+    json.push(("turned_shows", Json::Flag(trellis || monitored > 0)));
+    let always = trellis || monitored >= ENOUGH_TONES;
+    json.push(("turned_shows_without_register", Json::Flag(always)));
+    Report::new(0, summary, json)
 }
 
-pub fn order(call: &Call) -> Result<Report, Fault> {
-    let set = given_tables(call)?;
+pub fn order(call: &Call) -> Result<u8, Fault> {
+    let set = read_tables(&call.operands[0])?;
     let (answer, order) = ask::order(&set);
     let mut json = table_fields("order", &answer);
-    if answer.number > 0 {
-        return Ok(refused(&set, &answer, json));
+    if answer.number != DONE {
+        return Output::open(call)?.single(refused(&set, &answer, json));
     }
     json.push(("tones", Json::numbers(&order.tones)));
     json.push(("bits", Json::numbers(&order.bits)));
@@ -54,17 +77,11 @@ pub fn order(call: &Call) -> Result<Report, Fault> {
         screen: lists.clone(),
         file: lists,
     });
-    Ok(report)
+    Output::open(call)?.single(report)
 }
 
 fn refused(set: &TableSet, answer: &Answer, json: Fields) -> Report {
-    let asked = Asked {
-        set,
-        frame: None,
-        points: None,
-        register: RESET,
-    };
-    Report::refused(answer, &asked.refusal(answer), json)
+    Report::refused(&Question::of_tables(set).refusal(answer), json)
 }
 
 /// "2 of 1 bit, 1 of 4 bits"
@@ -81,25 +98,23 @@ fn loading_words(set: &TableSet) -> String {
     }
 }
 
-/// Whether reading refuses every symbol of these tables that is turned by half a turn.
-pub fn turned_shows(set: &TableSet, order: &Order) -> bool {
-    let monitored = set.count(|class| class == Class::Monitored) > 0;
-    monitored || (set.coded && order.loaded() % 2 == 1)
-}
-
-fn turned_words(set: &TableSet, order: &Order) -> String {
-    let monitored = set.count(|class| class == Class::Monitored) > 0;
-    let reason = match (set.coded, monitored) {
-        (_, true) => "shows, because a tone is monitored".to_string(),
-        (false, false) => "does not show, because no tone is monitored".to_string(),
-        (true, false) => {
-            let loaded = order.loaded();
-            let (shows, parity) = match loaded % 2 {
-                0 => ("does not show", "even"),
-                _ => ("shows", "odd"),
-            };
-            format!("{shows}, because no tone is monitored and N = {loaded} is {parity}")
-        }
+/// Whether reading tells a turned symbol, and what it needs for that.
+fn turned_words(set: &TableSet, order: &Order, monitored: usize) -> String {
+    let loaded = order.loaded();
+    let tones = match monitored {
+        1 => "1 tone is monitored".to_string(),
+        tones => format!("{tones} tones are monitored"),
+    };
+    let reason = if trellis_tells(set, order) {
+        format!("shows whatever the register, because N = {loaded} is odd")
+    } else if monitored >= ENOUGH_TONES {
+        format!("shows whatever the register (--register find), because {tones}")
+    } else if monitored > 0 {
+        format!("shows if the register is known, because {tones}")
+    } else if set.coded {
+        format!("does not show, because no tone is monitored and N = {loaded} is even")
+    } else {
+        "does not show, because no tone is monitored".to_string()
     };
     format!("a turned clip {reason}")
 }

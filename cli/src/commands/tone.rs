@@ -1,26 +1,39 @@
 //! `map` and `point`: one tone on its own.
 
-use crate::arguments::Call;
+use crate::call::Call;
 use crate::fault::Fault;
 use crate::files::{saturating, signed};
 use crate::json::{Fields, Json};
+use crate::output::Output;
+use crate::refusal::numbers::{DONE, LABEL, OFFGRID};
 use crate::refusal::Refusal;
-use crate::report::{count, fields, Report};
-use clevisroot_sys::{self as library, Answer};
+use crate::report::{fields, Report};
+use crate::words::{count, shown};
+use clevisroot_sys as library;
 
-pub fn map(call: &Call) -> Result<Report, Fault> {
+pub fn map(call: &Call) -> Result<u8, Fault> {
+    Output::open(call)?.single(map_report(call)?)
+}
+
+pub fn point(call: &Call) -> Result<u8, Fault> {
+    Output::open(call)?.single(point_report(call)?)
+}
+
+fn map_report(call: &Call) -> Result<Report, Fault> {
     let bits = bits_operand(call)?;
     let label = call.number(1, |word| saturating(word, u32::MAX))?;
     let point = library::map_label(bits, label);
-    if point.number > 0 {
+    if point.number != DONE {
         return Ok(refused("map", point.number, label_sentence(bits)));
     }
     let mut json = tone_fields("map", 0);
+    json.push(("bits", Json::Number(bits.into())));
+    json.push(("label", Json::Number(label.into())));
     json.push(("x", Json::Number(point.x.into())));
     json.push(("y", Json::Number(point.y.into())));
     let summary = format!(
         "0 DONE: {}, label {label} ({label:0width$b}): point ({}, {})",
-        count(bits.into(), "bit"),
+        count(bits, "bit"),
         point.x,
         point.y,
         width = usize::from(bits)
@@ -28,16 +41,18 @@ pub fn map(call: &Call) -> Result<Report, Fault> {
     Ok(Report::new(0, vec![summary], json))
 }
 
-pub fn point(call: &Call) -> Result<Report, Fault> {
+fn point_report(call: &Call) -> Result<Report, Fault> {
     let bits = bits_operand(call)?;
-    let (x, y) = (call.number(1, signed)?, call.number(2, signed)?);
+    let ((x, _), (y, _)) = (call.number(1, signed)?, call.number(2, signed)?);
     let found = library::read_point(bits, x, y);
-    if found.number > 0 {
+    if found.number != DONE {
         let sentence = match found.number {
-            13 => format!(
-                "({x}, {y}) is none of the {} points of a tone with {}.",
+            OFFGRID => format!(
+                "({}, {}) is none of the {} points of a tone with {}.",
+                typed(call, 1),
+                typed(call, 2),
                 1u32 << bits.min(15),
-                count(bits.into(), "bit")
+                count(bits, "bit")
             ),
             _ => label_sentence(bits),
         };
@@ -45,10 +60,13 @@ pub fn point(call: &Call) -> Result<Report, Fault> {
     }
     let label = found.label;
     let mut json = tone_fields("point", 0);
+    json.push(("bits", Json::Number(bits.into())));
+    json.push(("x", Json::Number(x.into())));
+    json.push(("y", Json::Number(y.into())));
     json.push(("label", Json::Number(label.into())));
     let summary = format!(
         "0 DONE: {}, point ({x}, {y}): label {label} ({label:0width$b})",
-        count(bits.into(), "bit"),
+        count(bits, "bit"),
         width = usize::from(bits)
     );
     Ok(Report::new(0, vec![summary], json))
@@ -64,7 +82,7 @@ fn label_sentence(bits: u8) -> String {
     match bits {
         1..=15 => format!(
             "A label of {} is 0 to {}.",
-            count(bits.into(), "bit"),
+            count(bits, "bit"),
             (1u32 << bits) - 1
         ),
         _ => "A tone on its own has 1 to 15 bits.".to_string(),
@@ -76,17 +94,20 @@ fn tone_fields(command: &'static str, number: u32) -> Fields {
     fields(command, [Some(number), Some(0), None, None])
 }
 
+/// An operand as it was typed.
+fn typed(call: &Call, operand: usize) -> String {
+    shown(&call.operands[operand].to_string_lossy())
+}
+
 fn refused(command: &'static str, number: u32, sentence: String) -> Report {
-    let answer = Answer {
-        number,
-        place: 0,
-        size: 0,
-        reg: 0,
-    };
+    debug_assert!(matches!(number, OFFGRID | LABEL));
     let refusal = Refusal {
+        number,
         place_is: None,
         place: "at place 0: the one tone asked for".to_string(),
+        spot: "at place 0: the one tone asked for".to_string(),
         sentence,
+        details: Vec::new(),
     };
-    Report::refused(&answer, &refusal, tone_fields(command, number))
+    Report::refused(&refusal, tone_fields(command, number))
 }

@@ -1,171 +1,169 @@
 //! `turn`: reads the points as they came and turned by half a turn, and tells the jointer.
 
-use super::tables::turned_shows;
-use super::{given_points, given_tables};
-use crate::arguments::Call;
-use crate::ask;
+use super::judge::Judged;
+use super::picture::{titled, Picture};
+use super::reading::Tables;
+use super::verdict::{Known, Origin};
+use super::verdict_totals::VerdictTotals;
+use crate::call::{Asked, Call, RESET};
 use crate::fault::Fault;
-use crate::files::{hex_lines, PointList, TableSet};
-use crate::json::{Fields, Json};
-use crate::refusal::{name, Asked};
-use crate::report::{size_words, symbol_fields, Report};
-use clevisroot_sys::Answer;
+use crate::files::PointList;
+use crate::json::Fields;
+use crate::output::Output;
+use crate::refusal::Refusal;
+use crate::register::{Finder, FoundRegister, Settled};
+use crate::report::{symbol_fields, Report};
+use crate::stream::{self, Reports, Task};
 
-/// What the two readings say together.
-enum Verdict {
-    Straight,
-    Turned,
-    CannotTell,
-    Neither,
+struct Turn {
+    tables: Tables,
+    /// The register is to be found.
+    find: bool,
+    /// None while the register has to be found.
+    known: Option<Known>,
+    finder: Finder,
+    totals: VerdictTotals,
 }
 
-/// One reading, either way round.
-struct Reading<'a> {
-    set: &'a TableSet,
-    points: &'a PointList,
-    register: u32,
-    answer: Answer,
-    frame: Vec<u8>,
-}
-
-pub fn turn(call: &Call) -> Result<Report, Fault> {
-    let set = given_tables(call)?;
-    let points = given_points(call)?;
-    let turned_points = points.turned();
-    let straight = Reading::of(&set, &points, call.register);
-    let json = symbol_fields("turn", &straight.answer);
-    // Whatever is refused before the points are looked at is no word on the clips.
-    if !matches!(straight.answer.number, 0 | 13..) {
-        let refusal = straight.asked().refusal(&straight.answer);
-        return Ok(Report::refused(&straight.answer, &refusal, json));
-    }
-    let turned = Reading::of(&set, &turned_points, call.register);
-    Ok(told(&straight, &turned, json))
-}
-
-fn told(straight: &Reading, turned: &Reading, mut json: Fields) -> Report {
-    let verdict = match (straight.answer.number, turned.answer.number) {
-        (0, 0) => Verdict::CannotTell,
-        (0, _) => Verdict::Straight,
-        (_, 0) => Verdict::Turned,
-        _ => Verdict::Neither,
+pub fn turn(call: &Call) -> Result<u8, Fault> {
+    let known = match call.register {
+        Asked::Find => None,
+        Asked::Reset => Some(Known::new(RESET, Origin::Reset)),
+        Asked::Given(register, _) => Some(Known::new(register, Origin::Given)),
     };
-    let sentence = verdict.sentence(straight.set);
-    json.push(("frame", straight.frame_json()));
-    json.push(("verdict", Json::text(verdict.word())));
-    json.push(("sentence", Json::text(sentence.clone())));
-    let mut other = symbol_fields("turn", &turned.answer);
-    other.push(("frame", turned.frame_json()));
-    json.push(("turned", Json::Object(other)));
-    let summary = vec![
-        sentence,
-        format!("as they came: {}", straight.words()),
-        format!("turned:       {}", turned.words()),
-    ];
-    Report::new(verdict.status(), summary, json)
+    let task = Turn {
+        tables: Tables::of(call)?,
+        find: known.is_none(),
+        known,
+        finder: Finder::new(),
+        totals: VerdictTotals::default(),
+    };
+    stream::run(call, task)
 }
 
-impl Verdict {
-    /// The exit status: none that a refusal or a fault has.
-    fn status(&self) -> u8 {
-        match self {
-            Verdict::Straight => 0,
-            Verdict::Turned => 32,
-            Verdict::CannotTell => 33,
-            Verdict::Neither => 34,
+impl Task for Turn {
+    type Input = PointList;
+
+    fn take(&mut self, number: usize, points: PointList, output: &Output) -> Reports {
+        let register = self.known.map_or(RESET, |known| known.register);
+        let reading = self.tables.read(&points, register);
+        // Whatever is refused before the points are looked at is no word on the clips.
+        if let Some(refusal) = reading.refusal.as_ref().filter(|_| !reading.is_of_points()) {
+            let mut reports = self.finish(output);
+            let json = symbol_fields("turn", &reading.answer);
+            reports.push((number, self.refused(refusal, json)));
+            return reports;
         }
+        if let Some(known) = self.known {
+            let judged = Judged::of(&self.tables, &points, Some(known));
+            // A register that was found is found anew where a symbol may be missing.
+            if !(self.find && judged.is_out_of_step(known)) {
+                return vec![(number, self.told(number, &points, &judged, output))];
+            }
+            self.known = None;
+        }
+        let Tables { set, order, .. } = &self.tables;
+        let settled = self.finder.push(set, order, (number, points));
+        self.settle(settled, output)
     }
 
-    fn word(&self) -> &'static str {
-        match self {
-            Verdict::Straight => "straight",
-            Verdict::Turned => "turned",
-            Verdict::CannotTell => "cannot tell",
-            Verdict::Neither => "neither",
-        }
+    fn finish(&mut self, output: &Output) -> Reports {
+        let settled = self.finder.finish();
+        self.settle(settled, output)
     }
 
-    /// What the jointer should be told.
-    fn sentence(&self, set: &TableSet) -> String {
-        match self {
-            Verdict::Straight => "Straight: the clips are the right way round, for the points \
-                                  are read as they came and refused when turned."
-                .to_string(),
-            Verdict::Turned => "Turned: the clips are the wrong way round, so swap them; the \
-                                points are refused as they came and read when turned."
-                .to_string(),
-            Verdict::CannotTell => format!(
-                "Cannot tell: the points are read both ways, for {}; a spare tone with 0 bits \
-                 and a gain would tell.",
-                blindness(set)
-            ),
-            Verdict::Neither => "Neither: the points are refused both ways, so look for noise, \
-                                 other tables or another register before you swap the clips."
-                .to_string(),
-        }
+    fn are_tables_refused(&self) -> bool {
+        self.tables.are_refused()
+    }
+
+    fn totals(&self) -> Report {
+        self.totals.report()
     }
 }
 
-/// Why this table set cannot tell a turned symbol.
-fn blindness(set: &TableSet) -> String {
-    let (_, order) = ask::order(set);
-    if turned_shows(set, &order) {
-        return "the library reads what it should refuse".to_string();
+impl Turn {
+    fn settle(&mut self, settled: Vec<Settled>, output: &Output) -> Reports {
+        let mut reports = Vec::new();
+        for Settled { symbol, found } in settled {
+            let (number, points) = symbol;
+            let judged = Judged::of(&self.tables, &points, found.map(known));
+            reports.push((number, self.told(number, &points, &judged, output)));
+        }
+        reports
     }
-    if set.coded {
-        format!(
-            "this table set monitors no tone and N, its count of non-zero re-ordered entries, \
-             is even ({})",
-            order.loaded()
-        )
-    } else {
-        "this table set is uncoded and monitors no tone".to_string()
-    }
-}
 
-impl<'a> Reading<'a> {
-    fn of(set: &'a TableSet, points: &'a PointList, register: u32) -> Reading<'a> {
-        let (answer, frame) = ask::read(set, &points.x, &points.y, register);
-        Reading {
-            set,
-            points,
-            register,
-            answer,
-            frame,
+    /// Tables, points or register are refused, so that there is no verdict.
+    fn refused(&mut self, refusal: &Refusal, json: Fields) -> Report {
+        let report = Report::refused(refusal, json);
+        self.totals.add_refused(report.status);
+        report
+    }
+
+    /// Reports a judgement and carries the register on.
+    fn told(
+        &mut self,
+        number: usize,
+        points: &PointList,
+        judged: &Judged,
+        output: &Output,
+    ) -> Report {
+        self.known = self.carried(judged);
+        self.totals
+            .add(judged.verdict, judged.ground.is_conditional());
+        let mut report = judged.report(&self.tables.set);
+        if output.wants_picture(report.refused) {
+            report.picture = Some(self.picture(number, points, judged));
+        }
+        report
+    }
+
+    /// The register for the next symbol: the one after the draws if this one was read, else as it
+    /// is handed back.
+    fn carried(&self, judged: &Judged) -> Option<Known> {
+        let known = judged.known?;
+        let read = judged.readings.iter().find(|reading| reading.is_done());
+        match (read, self.find) {
+            (Some(read), _) => {
+                let known = match judged.only_way() {
+                    Some(way) => known.reading(way, self.tables.monitored),
+                    None => known,
+                };
+                Some(Known {
+                    register: read.answer.reg,
+                    carried: true,
+                    ..known
+                })
+            }
+            (None, true) => None,
+            (None, false) => Some(Known::new(known.register, Origin::HandedBack)),
         }
     }
 
-    fn asked(&self) -> Asked<'_> {
-        Asked {
-            set: self.set,
-            frame: None,
-            points: Some(self.points),
-            register: self.register,
-        }
-    }
-
-    fn words(&self) -> String {
-        let answer = &self.answer;
-        if answer.number > 0 {
-            let place = self.asked().refusal(answer).place;
-            return format!("refused, {} {} {place}", answer.number, name(answer.number));
-        }
-        // A long frame is for --json.
-        let frame = match self.frame.len() {
-            1..=16 => format!("frame {} (hex), ", hex_lines(&self.frame).trim_end()),
-            _ => String::new(),
+    fn picture(&self, number: usize, points: &PointList, judged: &Judged) -> String {
+        let [straight, _] = &judged.readings;
+        let picture = Picture {
+            tables: &self.tables,
+            x: &points.x,
+            y: &points.y,
+            typed: Some(points),
+            answer: &straight.answer,
         };
-        format!(
-            "read, {frame}{}, register after {}",
-            size_words(answer.size),
-            answer.reg
-        )
+        let refused = straight.refusal.as_ref().map_or(String::new(), |refusal| {
+            let (title, spot) = (refusal.title(), &refusal.spot);
+            format!("; as they came refused, {title} {spot}")
+        });
+        let word = judged.verdict.word();
+        picture.draw(format!("{}: {word}{refused}", titled("turn", number)))
     }
+}
 
-    fn frame_json(&self) -> Json {
-        match self.answer.number {
-            0 => Json::text(hex_lines(&self.frame).replace('\n', "")),
-            _ => Json::Null,
-        }
+fn known(found: FoundRegister) -> Known {
+    let origin = match found.checked {
+        true => Origin::Found(found.tones),
+        false => Origin::FoundAcross(found.tones),
+    };
+    Known {
+        agreed: found.tones,
+        ..Known::new(found.register, origin)
     }
 }

@@ -1,18 +1,43 @@
 //! Frames as hex: two digits a byte, the first byte first.
 
-use super::{quoted, Source};
-use crate::fault::Fault;
+use super::source::quoted;
+use super::symbols::SymbolText;
 
-/// The bytes of a frame file. Whitespace may stand between bytes, and `0x` in front of a word.
-pub fn read_frame(source: &Source) -> Result<Vec<u8>, Fault> {
-    let mut frame = Vec::new();
-    for (line, text) in source.lines() {
-        for word in text.split_whitespace() {
-            let bytes = word_bytes(word).map_err(|message| source.fault(line, &message))?;
-            frame.extend(bytes);
+/// More bytes than any frame has: beyond, they are only counted.
+const KEPT: usize = 7_681;
+
+pub struct Frame {
+    pub bytes: Vec<u8>,
+    /// The bytes that the file has for this frame.
+    pub count: usize,
+}
+
+impl SymbolText for Frame {
+    fn new(_: &str) -> Frame {
+        Frame {
+            bytes: Vec::new(),
+            count: 0,
         }
     }
-    Ok(frame)
+
+    fn is_empty(&self) -> bool {
+        self.count == 0
+    }
+
+    fn is_header(_: &str) -> bool {
+        false
+    }
+
+    /// Whitespace may stand between bytes, and `0x` in front of a word.
+    fn take(&mut self, _: usize, text: &str) -> Result<(), String> {
+        for word in text.split_whitespace() {
+            let bytes = word_bytes(word)?;
+            self.count += bytes.len();
+            let room = KEPT.saturating_sub(self.bytes.len());
+            self.bytes.extend(bytes.into_iter().take(room));
+        }
+        Ok(())
+    }
 }
 
 fn word_bytes(word: &str) -> Result<Vec<u8>, String> {
@@ -29,11 +54,16 @@ fn word_bytes(word: &str) -> Result<Vec<u8>, String> {
     Ok(values.chunks_exact(2).map(byte).collect())
 }
 
-/// The frame as `read_frame` takes it, 32 bytes a line.
+/// The frame as a frame file has it, 32 bytes a line.
 pub fn hex_lines(frame: &[u8]) -> String {
-    let line = |bytes: &[u8]| {
-        let digits: String = bytes.iter().map(|byte| format!("{byte:02x}")).collect();
-        digits + "\n"
-    };
-    frame.chunks(32).map(line).collect()
+    const DIGITS: &[u8; 16] = b"0123456789abcdef";
+    let mut text = String::with_capacity(2 * frame.len() + frame.len() / 32 + 1);
+    for (count, &byte) in frame.iter().enumerate() {
+        text.push(DIGITS[usize::from(byte >> 4)].into());
+        text.push(DIGITS[usize::from(byte & 15)].into());
+        if count % 32 == 31 || count + 1 == frame.len() {
+            text.push('\n');
+        }
+    }
+    text
 }

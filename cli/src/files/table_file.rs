@@ -6,10 +6,12 @@
 //! (TONE); its bits and gain have no place and are dropped. One that is listed twice is put into t
 //! twice (TWICE); its first line counts. An `outside` line with bits or a gain is a STRAY.
 
+use super::numbers::saturating;
+use super::source::{quoted, Source};
 use super::tables::{Entry, TableSet};
-use super::{quoted, saturating, Source};
 use crate::fault::Fault;
-use crate::index::SubCarrier;
+use crate::index::Subcarrier;
+use std::ffi::OsStr;
 
 /// What the lines so far have said.
 #[derive(Default)]
@@ -20,14 +22,16 @@ struct Draft {
     outside: Vec<Entry>,
 }
 
-pub fn read_tables(source: &Source) -> Result<TableSet, Fault> {
+/// The table set of a file, or of standard input if the operand is `-`.
+pub fn read_tables(operand: &OsStr) -> Result<TableSet, Fault> {
+    let source = Source::read(operand)?;
     let mut draft = Draft::default();
     for (line, text) in source.lines() {
         draft
             .take(line, text)
             .map_err(|message| source.fault(line, &message))?;
     }
-    draft.finish(source)
+    draft.finish(&source)
 }
 
 impl Draft {
@@ -78,7 +82,7 @@ impl Draft {
     }
 }
 
-fn admit_outside(set: &TableSet, tone: SubCarrier) -> Result<(), String> {
+fn admit_outside(set: &TableSet, tone: Subcarrier) -> Result<(), String> {
     if usize::from(tone.0) >= set.carriers() {
         return Err(format!("sub-carrier {tone} is not below `carriers`"));
     }
@@ -106,7 +110,7 @@ fn coded(mode: &str) -> Result<bool, String> {
 fn entry(line: usize, [tone, bits, gain]: [&str; 3]) -> Result<Entry, String> {
     Ok(Entry {
         line,
-        tone: SubCarrier(number(tone)?),
+        tone: Subcarrier(number(tone)?),
         bits: u8::try_from(number(bits)?).unwrap_or(u8::MAX),
         gain: number(gain)?,
     })

@@ -1,6 +1,6 @@
 //! A table set: the mode, the three tables, and the file's lines they came from.
 
-use crate::index::{Place, SubCarrier};
+use crate::index::{Place, Subcarrier};
 use clevisroot_sys::Tables;
 use std::fmt;
 
@@ -38,7 +38,7 @@ pub struct TableSet {
 /// A line of three numbers.
 pub struct Entry {
     pub line: usize,
-    pub tone: SubCarrier,
+    pub tone: Subcarrier,
     pub bits: u8,
     pub gain: u16,
 }
@@ -98,23 +98,23 @@ impl TableSet {
     }
 
     /// The tones in t order.
-    pub fn tones(&self) -> impl Iterator<Item = SubCarrier> + '_ {
-        self.tones.iter().map(|&tone| SubCarrier(tone))
+    pub fn tones(&self) -> impl Iterator<Item = Subcarrier> + '_ {
+        self.tones.iter().map(|&tone| Subcarrier(tone))
     }
 
-    pub fn tone_at(&self, place: Place) -> Option<SubCarrier> {
-        self.tones.get(place.0).map(|&tone| SubCarrier(tone))
+    pub fn tone_at(&self, place: Place) -> Option<Subcarrier> {
+        self.tones.get(place.0).map(|&tone| Subcarrier(tone))
     }
 
-    pub fn bits_of(&self, tone: SubCarrier) -> u8 {
+    pub fn bits_of(&self, tone: Subcarrier) -> u8 {
         self.bits.get(usize::from(tone.0)).copied().unwrap_or(0)
     }
 
-    pub fn gain_of(&self, tone: SubCarrier) -> u16 {
+    pub fn gain_of(&self, tone: Subcarrier) -> u16 {
         self.gains.get(usize::from(tone.0)).copied().unwrap_or(0)
     }
 
-    pub fn class_of(&self, tone: SubCarrier) -> Class {
+    pub fn class_of(&self, tone: Subcarrier) -> Class {
         match (self.bits_of(tone), self.gain_of(tone)) {
             (0, 0) => Class::Silent,
             (0, _) => Class::Monitored,
@@ -134,7 +134,7 @@ impl TableSet {
     }
 
     /// The line that fills the sub-carrier's bits and gain.
-    pub fn line_of(&self, tone: SubCarrier) -> Option<usize> {
+    pub fn line_of(&self, tone: Subcarrier) -> Option<usize> {
         *self.carrier_lines.get(usize::from(tone.0))?
     }
 }

@@ -1,8 +1,8 @@
 //! The symbol's points, grouped by what their tones carry.
 
-use super::Symbol;
+use super::symbol::Symbol;
 use crate::files::Class;
-use crate::index::SubCarrier;
+use crate::index::Subcarrier;
 use clevisroot_sys as library;
 use std::collections::BTreeMap;
 
@@ -15,8 +15,11 @@ pub struct Group {
 /// A point that one or more tones of a group have.
 pub struct Spot {
     pub point: (i16, i16),
-    pub tones: Vec<SubCarrier>,
-    pub refused: bool,
+    /// The point as it was typed.
+    pub words: String,
+    pub tones: Vec<Subcarrier>,
+    /// The tones among them that a reader refused.
+    pub refused: Vec<Subcarrier>,
 }
 
 /// The groups by bit count, then the monitored tones. Silent tones are there only if one of them
@@ -30,13 +33,16 @@ pub fn groups(symbol: &Symbol) -> Vec<Group> {
             continue;
         }
         let spots = sorted.entry(class).or_default();
-        let spot = spots.entry(point).or_insert(Spot {
+        let spot = spots.entry(point).or_insert_with(|| Spot {
             point,
+            words: symbol.words_at(place),
             tones: Vec::new(),
-            refused: false,
+            refused: Vec::new(),
         });
         spot.tones.push(tone);
-        spot.refused |= symbol.refused.contains(&place);
+        if symbol.refused.contains(&place) {
+            spot.refused.push(tone);
+        }
     }
     let group = |(class, spots): (Class, BTreeMap<_, Spot>)| Group {
         class,

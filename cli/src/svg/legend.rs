@@ -1,16 +1,20 @@
 //! What the signs of the picture mean.
 
-use super::pen::{block, diamond, dot, Pair, Pen};
+use super::pen::{arrow, block, diamond, dot, triangle, Pair, Pen};
 
-#[derive(Clone, Copy)]
+#[derive(Clone, Copy, Debug, PartialEq, Eq)]
 pub enum Sign {
     DataPoint,
     MonitoredPoint,
+    SilentPoint,
     PossiblePoint,
     RefusedPoint,
+    OutsidePoint,
     Bits,
     MonitoredTone,
     SilentTone,
+    AbsentTone,
+    RefusedTone,
 }
 
 /// Draws the signs in a row with their meanings.
@@ -19,7 +23,7 @@ pub fn draw(pen: &mut Pen, signs: &[Sign], (mut x, y): Pair) {
         sign.draw(pen, (x + 8.0, y - 4.0));
         pen.text((x + 20.0, y), "plain", sign.meaning());
         // Letters are about this wide.
-        x += 20.0 + 6.3 * sign.meaning().len() as f64 + 20.0;
+        x += 20.0 + 6.3 * sign.meaning().chars().count() as f64 + 18.0;
     }
 }
 
@@ -28,24 +32,32 @@ impl Sign {
         match self {
             Sign::DataPoint => "point with data (by its sub-carriers, or \u{d7} tones)",
             Sign::MonitoredPoint => "monitored",
+            Sign::SilentPoint => "silent, not at (0, 0)",
             Sign::PossiblePoint => "possible point",
             Sign::RefusedPoint => "refused",
+            Sign::OutsidePoint => "farther out, at these numbers",
             Sign::Bits => "data",
             Sign::MonitoredTone => "monitored",
-            Sign::SilentTone => "silent, point (0, 0); blank: not in the tone table",
+            Sign::SilentTone => "silent, point (0, 0)",
+            Sign::AbsentTone => "not in the tone table",
+            Sign::RefusedTone => "refused",
         }
     }
 
     fn draw(self, pen: &mut Pen, (x, y): Pair) {
-        let corner = (x - 8.0, y - 6.0);
+        let (corner, size) = ((x - 8.0, y - 6.0), (16.0, 12.0));
         match self {
             Sign::DataPoint => pen.path("large data", &dot((x, y))),
             Sign::MonitoredPoint => pen.path("monitored", &diamond((x, y), 5.5)),
+            Sign::SilentPoint => pen.path("monitored", &triangle((x, y), 5.5)),
             Sign::PossiblePoint => pen.path("could", &dot((x, y))),
             Sign::RefusedPoint => refused(pen, (x, y)),
-            Sign::Bits => pen.path("bar", &block(corner, (16.0, 12.0))),
-            Sign::MonitoredTone => pen.path("solid", &block(corner, (16.0, 12.0))),
-            Sign::SilentTone => pen.path("hatched", &block(corner, (16.0, 12.0))),
+            Sign::OutsidePoint => pen.path("solid", &arrow((x, y), (1.0, 0.0))),
+            Sign::Bits => pen.path("bar", &block(corner, size)),
+            Sign::MonitoredTone => pen.path("solid", &block(corner, size)),
+            Sign::SilentTone => pen.path("hatched", &block(corner, size)),
+            Sign::AbsentTone => pen.path("axis", &block(corner, size)),
+            Sign::RefusedTone => pen.line((x, y - 8.0), (x, y + 8.0), "mark"),
         }
     }
 }

@@ -1,8 +1,9 @@
 //! The bit loading over the sub-carriers, and below it where tones are monitored or silent.
 
 use super::pen::{block, Pen};
-use super::{Symbol, MARGIN, WIDTH};
+use super::symbol::{Symbol, MARGIN, WIDTH};
 use crate::files::Class;
+use crate::index::Subcarrier;
 use std::ops::Range;
 
 const LEFT: f64 = MARGIN + 62.0;
@@ -10,28 +11,24 @@ const RIGHT: f64 = WIDTH - MARGIN - 8.0;
 const HEIGHT: f64 = 180.0;
 const STRIP: f64 = 12.0;
 const GAP: f64 = 6.0;
+/// A lone tone among many is still seen, beside the frame too.
+const NARROWEST: f64 = 2.0;
 /// Up to this many sub-carriers, bars stand apart.
 const FEW: usize = 64;
 
-struct Chart {
+pub struct Chart {
     /// The class of each sub-carrier, none if it is not in the tone table.
     classes: Vec<Option<Class>>,
     top: f64,
     /// The largest bit count of the scale.
     most: u8,
-}
-
-/// Draws the chart from `top` down and tells where it ends.
-pub fn draw(pen: &mut Pen, symbol: &Symbol, top: f64) -> f64 {
-    let chart = Chart::new(symbol, top);
-    chart.draw_bits(pen);
-    chart.draw_strip(pen, 0, Class::Monitored);
-    chart.draw_strip(pen, 1, Class::Silent);
-    chart.draw_scales(pen)
+    /// The tones that a reader refused.
+    refused: Vec<Subcarrier>,
 }
 
 impl Chart {
-    fn new(symbol: &Symbol, top: f64) -> Chart {
+    /// The chart from `top` down.
+    pub fn new(symbol: &Symbol, top: f64) -> Chart {
         let mut classes = vec![None; symbol.set.carriers()];
         let mut most = 0;
         for tone in symbol.set.tones() {
@@ -46,11 +43,36 @@ impl Chart {
             classes,
             top,
             most: most.unwrap_or(15),
+            refused: symbol
+                .refused
+                .iter()
+                .filter_map(|&place| symbol.order.tone_at(place))
+                .collect(),
         }
+    }
+
+    /// Draws the chart and tells where it ends.
+    pub fn draw(&self, pen: &mut Pen) -> f64 {
+        self.draw_bits(pen);
+        self.draw_strip(pen, 0, Class::Monitored);
+        self.draw_strip(pen, 1, Class::Silent);
+        let end = self.draw_scales(pen);
+        self.draw_refused(pen);
+        end
     }
 
     fn x(&self, carrier: f64) -> f64 {
         LEFT + (RIGHT - LEFT) * carrier / self.classes.len() as f64
+    }
+
+    /// Left end and width of a run of sub-carriers, widened about its middle if it is narrow.
+    fn span(&self, start: f64, end: f64) -> (f64, f64) {
+        let (left, right) = (self.x(start), self.x(end));
+        if right - left >= NARROWEST {
+            return (left, right - left);
+        }
+        let left = (left + right - NARROWEST) / 2.0;
+        (left.clamp(LEFT + 1.0, RIGHT - 1.0 - NARROWEST), NARROWEST)
     }
 
     fn y(&self, bits: u8) -> f64 {
@@ -82,17 +104,14 @@ impl Chart {
         let mut bars = String::new();
         for (class, run) in self.runs(|class| matches!(class, Class::Data(_))) {
             let Class::Data(bits) = class else { continue };
-            let (left, right) = (
-                self.x(run.start as f64 + inset),
-                self.x(run.end as f64 - inset),
-            );
+            let (left, width) = self.span(run.start as f64 + inset, run.end as f64 - inset);
             let (top, bottom) = (self.y(bits), self.y(0));
-            bars.push_str(&block((left, top), (right - left, bottom - top)));
+            bars.push_str(&block((left, top), (width, bottom - top)));
         }
         pen.path(if apart { "bar" } else { "area" }, &bars);
     }
 
-    /// A strip under the bars; a lone tone is at least one unit wide there.
+    /// A strip under the bars.
     fn draw_strip(&self, pen: &mut Pen, row: usize, class: Class) {
         let top = self.y(0) + GAP + row as f64 * (STRIP + GAP);
         let fill = match class {
@@ -101,8 +120,8 @@ impl Chart {
         };
         let runs = self.runs(|other| other == class);
         let blocks = runs.into_iter().map(|(_, run)| {
-            let (left, right) = (self.x(run.start as f64), self.x(run.end as f64));
-            block((left, top), ((right - left).max(1.0), STRIP))
+            let (left, width) = self.span(run.start as f64, run.end as f64);
+            block((left, top), (width, STRIP))
         });
         pen.path(fill, &blocks.collect::<String>());
         pen.rect((LEFT, top), (RIGHT - LEFT, STRIP), "frame");
@@ -111,6 +130,22 @@ impl Chart {
             "tick end",
             &class.to_string(),
         );
+    }
+
+    /// A line through each tone that was refused, with its number.
+    fn draw_refused(&self, pen: &mut Pen) {
+        let bottom = self.y(0) + 2.0 * (STRIP + GAP);
+        for (row, tone) in self.refused.iter().enumerate() {
+            let x = self.x(f64::from(tone.0) + 0.5);
+            pen.line((x, self.top), (x, bottom), "mark");
+            // Neighbours' numbers stand below each other.
+            let y = self.top + 12.0 + 12.0 * (row % 4) as f64;
+            let (x, class) = match x > RIGHT - 40.0 {
+                true => (x - 4.0, "label end"),
+                false => (x + 4.0, "label"),
+            };
+            pen.text((x, y), class, &tone.to_string());
+        }
     }
 
     fn draw_scales(&self, pen: &mut Pen) -> f64 {

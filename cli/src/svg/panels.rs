@@ -2,9 +2,12 @@
 
 use super::groups::{Group, Spot};
 use super::legend::refused;
-use super::pen::{diamond, dot, Pair, Pen};
-use super::{MARGIN, WIDTH};
+use super::pen::{arrow, diamond, dot, triangle, Pair, Pen};
+use super::scale::Scale;
+use super::symbol::{MARGIN, WIDTH};
 use crate::files::Class;
+use crate::index::Subcarrier;
+use crate::words::count;
 
 /// Above this, the points that a tone could have are too many to draw.
 const FEW_POINTS: usize = 256;
@@ -18,128 +21,141 @@ const BELOW: f64 = 40.0;
 const LEFT: f64 = 34.0;
 const RIGHT: f64 = 14.0;
 
-/// Draws all panels from `top` down and tells where they end.
-pub fn draw(pen: &mut Pen, groups: &[Group], top: f64) -> f64 {
-    let columns = columns(groups.len());
-    let width = (WIDTH - 2.0 * MARGIN) / columns as f64;
-    let side = (width - LEFT - RIGHT).min(230.0);
-    let height = ABOVE + side + BELOW;
-    for (count, group) in groups.iter().enumerate() {
-        let (column, row) = (count % columns, count / columns);
+/// The panels of all groups, from `top` down.
+pub fn lay(groups: &[Group], top: f64) -> Vec<Panel<'_>> {
+    let (columns, side) = columns(groups.len());
+    let panel = |(number, group)| {
+        let (column, row) = (number % columns, number / columns);
         let corner = (
-            MARGIN + column as f64 * width + LEFT,
-            top + row as f64 * height + ABOVE,
+            MARGIN + column as f64 * width(columns) + LEFT,
+            top + row as f64 * (ABOVE + side + BELOW) + ABOVE,
         );
-        Panel::new(group, corner, side).draw(pen);
-    }
-    top + groups.len().div_ceil(columns) as f64 * height
+        Panel::new(group, corner, side)
+    };
+    groups.iter().enumerate().map(panel).collect()
 }
 
-/// Three large panels in a row, or 4 or 5, whichever leaves fewer gaps.
-fn columns(groups: usize) -> usize {
+/// Draws all panels and tells where they end.
+pub fn draw(pen: &mut Pen, panels: &[Panel], top: f64) -> f64 {
+    for panel in panels {
+        panel.draw(pen);
+    }
+    let (columns, side) = columns(panels.len());
+    top + panels.len().div_ceil(columns) as f64 * (ABOVE + side + BELOW)
+}
+
+/// Three large panels in a row, or 4 or 5, whichever leaves fewer gaps; and the side of each.
+fn columns(groups: usize) -> (usize, f64) {
     let gaps = |columns: usize| groups.next_multiple_of(columns) - groups;
-    match groups {
+    let columns = match groups {
         0..=3 => 3,
         _ if gaps(4) < gaps(5) => 4,
         _ => 5,
-    }
+    };
+    (columns, (width(columns) - LEFT - RIGHT).min(230.0))
 }
 
-struct Panel<'a> {
+fn width(columns: usize) -> f64 {
+    (WIDTH - 2.0 * MARGIN) / columns as f64
+}
+
+pub struct Panel<'a> {
     group: &'a Group,
     constellation: Vec<(i16, i16)>,
-    corner: Pair,
-    side: f64,
-    /// The largest coordinate in the panel.
-    extent: i16,
+    scale: Scale,
 }
 
 impl<'a> Panel<'a> {
     fn new(group: &'a Group, corner: Pair, side: f64) -> Panel<'a> {
         let constellation = group.constellation();
-        let points = group.spots.iter().map(|spot| &spot.point);
-        let sizes = constellation
-            .iter()
-            .chain(points)
-            .map(|(x, y)| x.saturating_abs().max(y.saturating_abs()));
-        let extent = sizes.max().unwrap_or(1).max(1);
+        let points = group.spots.iter().map(|spot| spot.point);
         Panel {
             group,
+            scale: Scale::new(corner, side, &constellation, points),
             constellation,
-            corner,
-            side,
-            extent,
         }
+    }
+
+    /// Whether the points that a tone could have are drawn.
+    pub fn shows_possible(&self) -> bool {
+        self.constellation.len() <= FEW_POINTS
+    }
+
+    /// Whether some point lies outside the panel.
+    pub fn has_outside(&self) -> bool {
+        let mut spots = self.group.spots.iter();
+        spots.any(|spot| self.scale.drawn(spot.point).outside.is_some())
     }
 
     fn draw(&self, pen: &mut Pen) {
         self.draw_frame(pen);
         self.draw_scale(pen);
-        if self.constellation.len() <= FEW_POINTS {
-            let could = self.constellation.iter().map(|&point| dot(self.at(point)));
+        if self.shows_possible() {
+            let could = self.constellation.iter();
+            let could = could.map(|&point| dot(self.scale.at(point)));
             pen.path("could", &could.collect::<String>());
         }
         self.draw_spots(pen);
+        self.draw_refused(pen);
         for spot in &self.group.spots {
             self.label(pen, spot);
         }
     }
 
-    /// Where a point lies in the picture.
-    fn at(&self, (x, y): (i16, i16)) -> Pair {
-        let extent = f64::from(self.extent);
-        let reach = extent + (0.12 * extent).max(1.3);
-        let step = self.side / (2.0 * reach);
-        let (left, top) = self.corner;
-        (
-            left + (reach + f64::from(x)) * step,
-            top + (reach - f64::from(y)) * step,
-        )
-    }
-
     fn draw_frame(&self, pen: &mut Pen) {
-        let (left, top) = self.corner;
-        let (middle_x, middle_y) = self.at((0, 0));
+        let Scale { corner, side, .. } = self.scale;
+        let (left, top) = corner;
+        let (middle_x, middle_y) = self.scale.at((0, 0));
         let class = self.group.class;
-        let tones = match self.group.tone_count() {
-            1 => "1 tone".to_string(),
-            tones => format!("{tones} tones"),
-        };
+        let tones = count(self.group.tone_count(), "tone");
         pen.text((left, top - 8.0), "name", &format!("{class}, {tones}"));
-        pen.rect(self.corner, (self.side, self.side), "frame");
-        pen.line((left, middle_y), (left + self.side, middle_y), "zero");
-        pen.line((middle_x, top), (middle_x, top + self.side), "zero");
+        pen.rect(corner, (side, side), "frame");
+        pen.line((left, middle_y), (left + side, middle_y), "zero");
+        pen.line((middle_x, top), (middle_x, top + side), "zero");
     }
 
     fn draw_scale(&self, pen: &mut Pen) {
-        let (left, top) = self.corner;
-        let bottom = top + self.side;
-        for tick in ticks(self.extent) {
-            let (x, y) = self.at((tick, tick));
+        let Scale { corner, side, .. } = self.scale;
+        let (left, top) = corner;
+        let bottom = top + side;
+        for tick in ticks(self.scale.extent) {
+            let (x, y) = self.scale.at((tick, tick));
             let words = tick.to_string().replace('-', "\u{2212}");
             pen.line((x, bottom), (x, bottom + 4.0), "axis");
             pen.text((x, bottom + 15.0), "tick middle", &words);
             pen.line((left - 4.0, y), (left, y), "axis");
             pen.text((left - 6.0, y + 4.0), "tick end", &words);
         }
-        pen.text((left + self.side / 2.0, bottom + 29.0), "tick middle", "X");
+        pen.text((left + side / 2.0, bottom + 29.0), "tick middle", "X");
         pen.text((left - 8.0, top - 6.0), "tick end", "Y");
     }
 
     fn draw_spots(&self, pen: &mut Pen) {
-        let size = self.marker();
-        let spots = self.group.spots.iter();
-        let places: Vec<Pair> = spots.clone().map(|spot| self.at(spot.point)).collect();
-        if let Class::Data(_) = self.group.class {
-            let dots: String = places.into_iter().map(dot).collect();
-            pen.path(["small data", "middling data", "large data"][size], &dots);
-        } else {
-            let half = [2.0, 3.5, 5.5][size];
-            let diamonds: String = places.into_iter().map(|at| diamond(at, half)).collect();
-            pen.path("monitored", &diamonds);
+        let half = [2.0, 3.5, 5.5][self.marker()];
+        let (mut markers, mut arrows) = (String::new(), String::new());
+        for spot in &self.group.spots {
+            let drawn = self.scale.drawn(spot.point);
+            match (drawn.outside, self.group.class) {
+                (Some(direction), _) => {
+                    arrows.push_str(&arrow(tip(drawn.at, direction), direction));
+                }
+                (None, Class::Data(_)) => markers.push_str(&dot(drawn.at)),
+                (None, Class::Monitored) => markers.push_str(&diamond(drawn.at, half)),
+                (None, Class::Silent) => markers.push_str(&triangle(drawn.at, half)),
+            }
         }
-        for spot in spots.filter(|spot| spot.refused) {
-            refused(pen, self.at(spot.point));
+        let class = match self.group.class {
+            Class::Data(_) => ["small data", "middling data", "large data"][self.marker()],
+            Class::Monitored | Class::Silent => "monitored",
+        };
+        pen.path(class, &markers);
+        pen.path("solid", &arrows);
+    }
+
+    fn draw_refused(&self, pen: &mut Pen) {
+        let spots = self.group.spots.iter();
+        for spot in spots.filter(|spot| !spot.refused.is_empty()) {
+            refused(pen, self.scale.drawn(spot.point).at);
         }
     }
 
@@ -148,41 +164,78 @@ impl<'a> Panel<'a> {
         match self.group.spots.len() {
             257.. => 0,
             65.. => 1,
-            _ if self.constellation.len() > FEW_POINTS => 1,
+            _ if !self.shows_possible() => 1,
             _ => 2,
         }
     }
 
-    /// Whose point it is, or how many tones have it.
+    /// Whose point it is, or how many tones have it; what is refused, and what lies outside, with
+    /// its numbers.
     fn label(&self, pen: &mut Pen, spot: &Spot) {
-        let words = if self.group.tone_count() <= FEW_TONES {
-            names(spot)
-        } else if self.group.spots.len() <= FEW_SPOTS && spot.tones.len() > 1 {
+        let drawn = self.scale.drawn(spot.point);
+        let few = self.group.spots.len() <= FEW_SPOTS;
+        let words = if !spot.refused.is_empty() {
+            refused_names(spot)
+        } else if self.group.tone_count() <= FEW_TONES {
+            names(&spot.tones)
+        } else if few && spot.tones.len() > 1 {
             format!("\u{d7}{}", spot.tones.len())
         } else {
-            return;
+            String::new()
         };
-        // Above its marker, and moved aside where it would cross the frame.
-        let half = 3.2 * words.chars().count() as f64;
-        let (x, y) = self.at(spot.point);
-        let (left, right) = (self.corner.0 + half, self.corner.0 + self.side - half);
-        let x = if left < right {
-            x.clamp(left, right)
-        } else {
-            x
+        let mut lines = vec![words];
+        if drawn.outside.is_some() && (few || !spot.refused.is_empty()) {
+            lines.push(spot.words.clone());
+        }
+        lines.retain(|line| !line.is_empty());
+        let marker = if spot.refused.is_empty() { 7.0 } else { 11.0 };
+        self.write(pen, &lines, drawn.at, marker);
+    }
+
+    /// Lines of text above a marker of this half height, below it where the frame is too near, and
+    /// moved aside where they would cross the frame.
+    fn write(&self, pen: &mut Pen, lines: &[String], (x, y): Pair, marker: f64) {
+        const LINE: f64 = 12.0;
+        let Scale { corner, side, .. } = self.scale;
+        let height = LINE * lines.len() as f64;
+        let first = match y - marker - height < corner.1 {
+            true => y + marker + LINE - 2.0,
+            false => y - marker - height + LINE,
         };
-        let above = if spot.refused { 11.0 } else { 7.0 };
-        pen.text((x, y - above), "label middle", &words);
+        for (number, line) in lines.iter().enumerate() {
+            let half = 3.2 * line.chars().count() as f64;
+            let (left, right) = (corner.0 + half, corner.0 + side - half);
+            let x = match left < right {
+                true => x.clamp(left, right),
+                false => corner.0 + side / 2.0,
+            };
+            pen.text((x, first + LINE * number as f64), "label middle", line);
+        }
     }
 }
 
-/// The sub-carriers of a spot, the first three by name.
-fn names(spot: &Spot) -> String {
-    let shown = spot.tones.iter().take(3);
-    let shown: Vec<String> = shown.map(|tone| tone.to_string()).collect();
-    match spot.tones.len() {
+/// Where an arrow ends that begins beside the sign of a refusal.
+fn tip((x, y): Pair, (dx, dy): Pair) -> Pair {
+    const AWAY: f64 = 19.0;
+    (x + AWAY * dx, y + AWAY * dy)
+}
+
+/// Sub-carriers, the first three by name.
+fn names(tones: &[Subcarrier]) -> String {
+    let shown: Vec<String> = tones.iter().take(3).map(|tone| tone.to_string()).collect();
+    match tones.len() {
         0..=3 => shown.join(", "),
         count => format!("{} +{}", shown.join(", "), count - 3),
+    }
+}
+
+/// The tones that were refused, by name, and how many others share their point.
+fn refused_names(spot: &Spot) -> String {
+    let refused: Vec<String> = spot.refused.iter().map(|tone| tone.to_string()).collect();
+    let others = spot.tones.len() - spot.refused.len();
+    match others {
+        0 => format!("{} refused", refused.join(", ")),
+        _ => format!("{} refused, +{others} here", refused.join(", ")),
     }
 }
 

@@ -60,6 +60,30 @@ pub fn diamond((x, y): Pair, half: f64) -> String {
     format!("M{x} {y}l{h}-{h} {h} {h}-{h} {h}z")
 }
 
+/// Part of a path: a triangle of this half width.
+pub fn triangle((x, y): Pair, half: f64) -> String {
+    let (left, bottom) = (number(x - half), number(y + half));
+    let (half, whole) = (number(half), number(2.0 * half));
+    format!("M{left} {bottom}l{half}-{whole} {half} {whole}z")
+}
+
+/// Part of a path: the head of an arrow with its tip here, that points in this direction.
+pub fn arrow((x, y): Pair, (dx, dy): Pair) -> String {
+    const LENGTH: f64 = 10.0;
+    const HALF: f64 = 4.0;
+    let (back_x, back_y) = (x - LENGTH * dx, y - LENGTH * dy);
+    let corner = |side: f64| {
+        let (x, y) = (back_x - side * HALF * dy, back_y + side * HALF * dx);
+        format!("{} {}", number(x), number(y))
+    };
+    let (tip, one, other) = (
+        format!("{} {}", number(x), number(y)),
+        corner(1.0),
+        corner(-1.0),
+    );
+    format!("M{tip}L{one}L{other}z")
+}
+
 /// Part of a path: a rectangle.
 pub fn block((x, y): Pair, (width, height): Pair) -> String {
     let (x, y, width, height) = (number(x), number(y), number(width), number(height));

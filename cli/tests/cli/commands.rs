@@ -4,8 +4,17 @@ use crate::run::{equal, file, path, run, run_with, tables};
 use std::fs;
 
 const A: &str = "examples/bench-a.txt";
-const COMMANDS: [&str; 8] = [
-    "check", "order", "encode", "read", "turn", "map", "point", "figures",
+const COMMANDS: [&str; 10] = [
+    "check",
+    "order",
+    "encode",
+    "read",
+    "turn",
+    "map",
+    "point",
+    "figures",
+    "man",
+    "completions",
 ];
 
 #[test]
@@ -18,7 +27,7 @@ fn check_tells_size_and_loading() {
          L = 5 bits in 1 byte\n\
          coded, G = 8, NSC = 6: 5 with data, 1 monitored, 0 silent\n\
          tones by bits: 2 of 1 bit, 1 of 2 bits, 1 of 3 bits, 1 of 4 bits\n\
-         a turned clip shows, because a tone is monitored\n"
+         a turned clip shows if the register is known, because 1 tone is monitored\n"
     );
 }
 
@@ -120,6 +129,30 @@ fn the_register_goes_in_and_comes_out() {
 }
 
 #[test]
+fn options_may_come_before_the_command_and_registers_be_hex() {
+    let after = run(&[
+        "encode",
+        A,
+        "examples/bench-a.hex",
+        "--register",
+        "2097151",
+        "--json",
+    ]);
+    for register in ["0x1fffff", "0X1FFFFF", "0x00000000001fffff"] {
+        let words = [
+            "--register",
+            register,
+            "--json",
+            "encode",
+            A,
+            "examples/bench-a.hex",
+        ];
+        let before = run(&words);
+        assert_eq!((before.status, &before.out), (0, &after.out), "{register}");
+    }
+}
+
+#[test]
 fn one_tone_there_and_back() {
     let ran = run(&["map", "5", "24"]);
     let words = "0 DONE: 5 bits, label 24 (11000): point (-3, 5)\n";
@@ -156,7 +189,12 @@ fn a_full_set_there_and_back() {
 
 #[test]
 fn help_is_there_with_an_example() {
-    for words in [vec!["--help"], vec!["-h"]] {
+    for words in [
+        vec!["--help"],
+        vec!["-h"],
+        vec!["help"],
+        vec!["--json", "-h"],
+    ] {
         let ran = run(&words);
         assert_eq!((ran.status, ran.err.as_str()), (0, ""));
         assert!(COMMANDS
@@ -168,8 +206,12 @@ fn help_is_there_with_an_example() {
         assert_eq!((ran.status, ran.err.as_str()), (0, ""));
         assert!(ran.line(0).starts_with(&format!("clevisroot {name}: ")));
         assert!(ran.out.contains("\nexample") && ran.out.contains(&format!("  clevisroot {name}")));
+        assert_eq!(run(&["help", name]).out, ran.out);
+        assert_eq!(run(&["-h", name]).out, ran.out);
     }
-    assert_eq!(run(&["--version"]).out, "clevisroot 0.1.0\n");
+    for version in ["--version", "-V"] {
+        assert_eq!(run(&[version]).out, "clevisroot 0.1.0\n");
+    }
 }
 
 #[test]

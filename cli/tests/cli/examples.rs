@@ -88,12 +88,12 @@ fn the_examples_have_the_sizes_they_say() {
         (
             "bench-a",
             "L = 5 bits",
-            "shows, because a tone is monitored",
+            "shows if the register is known, because 1 tone is monitored",
         ),
         (
             "five-twos",
             "L = 3 bits",
-            "shows, because no tone is monitored and N = 5 is odd",
+            "shows whatever the register, because N = 5 is odd",
         ),
         (
             "cannot-tell",
@@ -103,7 +103,7 @@ fn the_examples_have_the_sizes_they_say() {
         (
             "vdsl2-4096",
             "L = 14576 bits",
-            "shows, because a tone is monitored",
+            "shows whatever the register, because N = 2579 is odd",
         ),
     ] {
         let ran = run(&["check", &format!("examples/{set}.txt")]);

@@ -17,7 +17,7 @@ fn faulty(ran: &Ran, status: i32, message: &str) {
 }
 
 /// Words, and what the message says.
-const CALLS: [(&[&str], &str); 25] = [
+const CALLS: [(&[&str], &str); 33] = [
     (&[], "usage: "),
     (&["chek", A], "no command \"chek\""),
     (&["check"], "not the operands it takes"),
@@ -28,7 +28,7 @@ const CALLS: [(&[&str], &str); 25] = [
         &["check", A, "--register", "1"],
         "no option --register here",
     ),
-    (&["turn", A, "-", "--svg=x"], "no option --svg here"),
+    (&["turn", A, "-", "--out=x"], "no option --out here"),
     (&["read", A, "-", "--jsn"], "no option --jsn here"),
     (&["read", A, "-", "--json=1"], "--json takes no value"),
     (
@@ -42,8 +42,25 @@ const CALLS: [(&[&str], &str); 25] = [
     ),
     (&["read", A, "-", "--register", ""], "takes a whole number"),
     (
-        &["read", A, "-", "--register", "0x1"],
-        "takes a whole number",
+        &["read", A, "-", "--register", "0x"],
+        "takes a whole number or `find`",
+    ),
+    (
+        &["read", A, "-", "--register=0x1g"],
+        "takes a whole number or `find`",
+    ),
+    (
+        &["encode", A, "-", "--register=find"],
+        "takes a whole number\n",
+    ),
+    (&["--register"], "usage: "),
+    (&["--json"], "usage: "),
+    (&["--out", "x", "check", A], "no option --out here"),
+    (&["help", "chek"], "no command \"chek\""),
+    (&["completions", "tcsh"], "SHELL is one of bash, fish, zsh"),
+    (
+        &["check", A, "--\u{1b}[31m"],
+        "no option --\\u{1b}[31m here",
     ),
     (&["read", A, "-", "--out"], "--out takes a value"),
     (
@@ -137,8 +154,7 @@ fn frames_and_points_that_cannot_be_parsed() {
     ];
     let points = [
         ("1", 1, "`1` is not a point"),
-        ("x,y\nx,y", 2, "`x,y` is not a point"),
-        ("1,1\n\n1;1", 3, "`1;1` is not a point"),
+        ("x,y\n\n1;1", 3, "`1;1` is not a point"),
         ("1,1,1", 1, "is not a point"),
         ("1,", 1, "is not a point"),
         ("1.0,1", 1, "is not a point"),

@@ -1,14 +1,13 @@
-//! `--json`: one object, valid for this checker and, where python3 is installed, for another one.
+//! Reads the JSON that the tool prints: one object, valid for this reader and, where python3 is
+//! installed, for another one.
 
-use crate::run::{file, run, run_with, tables, Ran};
+use crate::run::Ran;
 use std::collections::BTreeMap;
 use std::io::Write;
 use std::process::{Command, Stdio};
 
-const A: &str = "examples/bench-a.txt";
-
 #[derive(Clone, Debug, PartialEq)]
-enum Value {
+pub enum Value {
     Null,
     Flag(bool),
     Number(i64),
@@ -103,8 +102,7 @@ impl Checker<'_> {
 }
 
 /// The object that a call printed.
-fn object(ran: &Ran) -> BTreeMap<String, Value> {
-    assert_eq!(ran.err, "");
+pub fn object(ran: &Ran) -> BTreeMap<String, Value> {
     python_agrees(&ran.out);
     let mut checker = Checker { rest: &ran.out };
     let value = checker.value();
@@ -133,110 +131,20 @@ fn python_agrees(text: &str) {
     assert!(child.wait().unwrap().success(), "{text}");
 }
 
-fn numbers(list: &[i64]) -> Value {
+pub fn numbers(list: &[i64]) -> Value {
     Value::List(list.iter().map(|&number| Value::Number(number)).collect())
 }
 
-fn text(text: &str) -> Value {
+pub fn text(text: &str) -> Value {
     Value::Text(text.to_string())
 }
 
 /// number, name, place, size and register
-fn head(object: &BTreeMap<String, Value>) -> [Value; 5] {
+pub fn head(object: &BTreeMap<String, Value>) -> [Value; 5] {
     ["number", "name", "place", "size", "register"].map(|key| object[key].clone())
 }
 
-fn answer(number: i64, name: &str, place: i64, size: i64, register: Value) -> [Value; 5] {
+pub fn answer(number: i64, name: &str, place: i64, size: i64, register: Value) -> [Value; 5] {
     let [number, place, size] = [number, place, size].map(Value::Number);
     [number, text(name), place, size, register]
-}
-
-#[test]
-fn what_is_done() {
-    let check = object(&run(&["check", A, "--json"]));
-    assert_eq!(head(&check), answer(0, "DONE", 0, 5, Value::Null));
-    assert_eq!(check["turned_shows"], Value::Flag(true));
-    let order = object(&run(&["order", A, "--json"]));
-    assert_eq!(head(&order), answer(0, "DONE", 0, 5, Value::Null));
-    assert_eq!(order["tones"], numbers(&[7, 5, 2, 4, 3, 6]));
-    assert_eq!(order["bits"], numbers(&[0, 0, 4, 2, 3, 2]));
-    let after = Value::Number(2_097_151);
-    let encode = object(&run(&["encode", A, "examples/bench-a.hex", "--json"]));
-    assert_eq!(head(&encode), answer(0, "DONE", 0, 5, after.clone()));
-    assert_eq!(encode["tones"], numbers(&[7, 5, 2, 4, 3, 6]));
-    assert_eq!(encode["x"], numbers(&[-1, -1, -3, -1, 1, 1]));
-    assert_eq!(encode["y"], numbers(&[3, -1, 1, -1, 1, 1]));
-    let read = object(&run(&["read", A, "examples/bench-a.csv", "--json"]));
-    assert_eq!(head(&read), answer(0, "DONE", 0, 5, after));
-    assert_eq!(read["frame"], text("15"));
-}
-
-#[test]
-fn one_tone_and_figures() {
-    let map = object(&run(&["map", "4", "9", "--json"]));
-    assert_eq!(
-        [&map["number"], &map["x"]],
-        [&Value::Number(0), &Value::Number(-3)]
-    );
-    assert_eq!([&map["size"], &map["register"]], [&Value::Null; 2]);
-    let point = object(&run(&["point", "4", "-3", "3", "--json"]));
-    assert_eq!(point["label"], Value::Number(9));
-    let label = object(&run(&["map", "4", "16", "--json"]));
-    assert_eq!(
-        [&label["number"], &label["name"]],
-        [&Value::Number(16), &text("LABEL")]
-    );
-    let figures = object(&run(&["figures", "--json"]));
-    assert_eq!(figures["agree"], Value::Flag(true));
-    assert!(matches!(&figures["figures"], Value::List(list) if list.len() == 24));
-}
-
-#[test]
-fn what_is_refused() {
-    let points = b"1,1\n1,1\n1,1\n1,1\n1,1\n1,1";
-    let read = object(&run_with(points, &["read", A, "-", "--json"]));
-    assert_eq!(
-        head(&read),
-        answer(14, "MONITOR", 3, 0, Value::Number(8_388_607))
-    );
-    assert_eq!(read["place_is"], text("place in t'"));
-    assert!(!read.contains_key("frame"));
-    let set = tables("json-few.txt", "coded", 9, &[(8, 2, 1)]);
-    let check = object(&run(&["check", &set, "--json"]));
-    assert_eq!(head(&check), answer(8, "FEW", 0, 0, Value::Null));
-    assert_eq!(check["place_is"], Value::Null);
-}
-
-#[test]
-fn both_readings_of_turn() {
-    let turn = object(&run(&["turn", A, "examples/bench-a-turned.csv", "--json"]));
-    assert_eq!(
-        head(&turn),
-        answer(14, "MONITOR", 3, 0, Value::Number(8_388_607))
-    );
-    assert_eq!(
-        [&turn["verdict"], &turn["frame"]],
-        [&text("turned"), &Value::Null]
-    );
-    let Value::Object(turned) = &turn["turned"] else {
-        panic!("no object")
-    };
-    assert_eq!(
-        head(turned),
-        answer(0, "DONE", 0, 5, Value::Number(2_097_151))
-    );
-    assert_eq!(turned["frame"], text("15"));
-}
-
-#[test]
-fn strange_file_names_are_escaped() {
-    let name = "a \"quoted\" \\ \u{1} n\u{e4}me.txt";
-    let set = file(name, "mode coded\ncarriers 8\n1 2 512\n1 2 512\n");
-    let check = object(&run(&["check", &set, "--json"]));
-    assert_eq!(head(&check), answer(3, "TWICE", 1, 0, Value::Null));
-    let points = file("b \"q\".csv", "1,1\n1,1\n1,1\n1,1\n1,1\n1,1");
-    assert_eq!(
-        object(&run(&["turn", A, &points, "--json"]))["verdict"],
-        text("turned")
-    );
 }

@@ -3,9 +3,16 @@
 mod commands;
 mod examples;
 mod faults;
+mod find;
 mod json;
+mod json_output;
+mod output;
+mod pages;
 mod refusals;
 mod robust;
 mod run;
+mod stream;
+mod stream_turn;
+mod structure;
 mod svg;
 mod turn;

@@ -10,7 +10,12 @@ fn refused(ran: &Ran, number: i32, name: &str, place: &str, sentence: &str) {
     assert_eq!(ran.line(0), format!("refused: {number} {name}"));
     assert!(ran.line(1).starts_with(place), "{}", ran.out);
     assert!(ran.line(2).contains(sentence), "{}", ran.out);
-    assert_eq!(ran.err, "");
+    // What was to give a result tells the reason to the person too: these tests read a pipe.
+    if !ran.err.is_empty() {
+        let reason = format!("clevisroot: refused: {number} {name} {place}");
+        assert!(ran.err.starts_with(&reason), "{}", ran.err);
+        assert!(ran.err.contains(sentence), "{}", ran.err);
+    }
 }
 
 /// The same refusal for each command that takes tables, whatever else it is given.
@@ -40,7 +45,7 @@ fn size() {
         1,
         "SIZE",
         whole,
-        "2 tones are listed, more than the 1",
+        "2 tones are listed, more than 1 sub-carrier.",
     );
 }
 
@@ -106,14 +111,14 @@ fn odd_and_few() {
     let mut tones = equal(5, 2);
     tones[2].1 = 1;
     let set = tables("odd.txt", "coded", 8, &tones);
-    tables_refused(&set, 7, "ODD", whole, "and here are 1:");
+    tables_refused(&set, 7, "ODD", whole, "number here is 1:");
     let set = tables(
         "few.txt",
         "coded",
         8,
         &[equal(2, 2), vec![(4, 1, 1), (5, 1, 1)]].concat(),
     );
-    tables_refused(&set, 8, "FEW", whole, "and here are 3:");
+    tables_refused(&set, 8, "FEW", whole, "number here is 3:");
 }
 
 #[test]
@@ -128,7 +133,8 @@ fn room() {
         for command in ["read", "turn"] {
             // SEED applies too, but ROOM is smaller.
             let ran = run_with(points.as_bytes(), &[command, A, "-", "--register=0"]);
-            let sentence = format!("The points are {count} and the tones 6");
+            let plural = if count == 1 { "" } else { "s" };
+            let sentence = format!("There are {count} point{plural} for 6 tones");
             refused(
                 &ran,
                 10,
@@ -145,8 +151,8 @@ fn frame() {
     let whole = "at place 0: the frame as a whole";
     for (frame, sentence) in [
         ("20", "the upper 3 bits of the last byte"),
-        ("", "this frame has 0"),
-        ("0000", "this frame has 2"),
+        ("", "this frame has 0 bytes."),
+        ("0000", "this frame has 2 bytes."),
     ] {
         let ran = run_with(frame.as_bytes(), &["encode", A, "-", "--register", "0"]);
         refused(&ran, 11, "FRAME", whole, sentence);
@@ -187,11 +193,29 @@ fn offgrid() {
         13,
         "OFFGRID",
         place,
-        "(1, -1) is none of the 2 points",
+        "(1, -1) is none of the 2 points of a tone with 1 bit:",
     );
-    let ran = run_with(b"99999,1\n1,1\n1,1\n1,1\n1,1\n1,1", &["read", A, "-"]);
-    let place = "at place 0 in t', sub-carrier 7";
-    refused(&ran, 13, "OFFGRID", place, "a tone with 4 bits");
+    // Values as they were typed, whatever the library's type holds.
+    for point in [
+        ("99999", "1"),
+        ("40000", "-32768"),
+        ("-40000", "-32769"),
+        ("32768", "+7"),
+    ] {
+        let (x, y) = point;
+        let points = format!("{x},{y}\n1,1\n1,1\n1,1\n1,1\n1,1");
+        let ran = run_with(points.as_bytes(), &["read", A, "-"]);
+        let place = "at place 0 in t', sub-carrier 7";
+        refused(&ran, 13, "OFFGRID", place, "a tone with 4 bits");
+        assert!(
+            ran.line(2).contains(&format!("({x}, {y}) is none")),
+            "{}",
+            ran.out
+        );
+        let ran = run(&["point", "4", x, y]);
+        let sentence = format!("({x}, {y}) is none of the 16 points of a tone with 4 bits.");
+        refused(&ran, 13, "OFFGRID", "at place 0: the one tone", &sentence);
+    }
     let ran = run(&["point", "5", "5", "5"]);
     let place = "at place 0: the one tone";
     refused(&ran, 13, "OFFGRID", place, "none of the 32 points");
@@ -219,7 +243,7 @@ fn monitor() {
         14,
         "MONITOR",
         place,
-        "is --register what the writer had?",
+        "see whether the register is the writer's",
     );
 }
 
@@ -247,7 +271,7 @@ fn trellis() {
         &ran,
         15,
         "TRELLIS",
-        "at pair 0: sub-carriers 0",
+        "at pair 0: sub-carrier 0",
         "trellis code",
     );
 }
@@ -256,20 +280,9 @@ fn trellis() {
 fn label() {
     let place = "at place 0: the one tone";
     for bits in ["0", "16", "256", "99999999999999999999"] {
-        refused(
-            &run(&["map", bits, "0"]),
-            16,
-            "LABEL",
-            place,
-            "1 to 15 bits",
-        );
-        refused(
-            &run(&["point", bits, "1", "1"]),
-            16,
-            "LABEL",
-            place,
-            "1 to 15 bits",
-        );
+        for words in [vec!["map", bits, "0"], vec!["point", bits, "1", "1"]] {
+            refused(&run(&words), 16, "LABEL", place, "1 to 15 bits");
+        }
     }
     for label in ["16", "4294967296", "99999999999999999999"] {
         refused(&run(&["map", "4", label]), 16, "LABEL", place, "0 to 15");

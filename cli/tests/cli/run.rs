@@ -84,3 +84,45 @@ pub fn tables(name: &str, mode: &str, carriers: usize, tones: &[(usize, usize, u
 pub fn equal(count: usize, bits: usize) -> Vec<(usize, usize, usize)> {
     (0..count).map(|tone| (tone, bits, 512)).collect()
 }
+
+/// The same points turned by half a turn.
+pub fn turned(points: &str) -> String {
+    let negative = |number: &str| (-number.trim().parse::<i16>().unwrap()).to_string();
+    let turn = |line: &str| {
+        let point = line.split('#').next().unwrap();
+        match point.split_once(',') {
+            Some((x, y)) if x != "x" => format!("{},{}\n", negative(x), negative(y)),
+            _ => "\n".to_string(),
+        }
+    };
+    points.lines().map(turn).collect()
+}
+
+/// Frames of bench table A.
+pub fn frames(count: usize) -> Vec<String> {
+    (0..count)
+        .map(|number| format!("{:02x}", number * 7 % 32))
+        .collect()
+}
+
+/// The symbols of a stream of bench table A, from the register on, without remarks.
+pub fn symbols(count: usize, register: &str) -> Vec<String> {
+    let text = frames(count).join("\n\n");
+    let ran = run_with(
+        text.as_bytes(),
+        &[
+            "encode",
+            "examples/bench-a.txt",
+            "-",
+            "--register",
+            register,
+        ],
+    );
+    assert_eq!(ran.status, 0, "{}", ran.out);
+    let symbols = ran.out.split("x,y\n").skip(1);
+    let points = |line: &&str| line.contains(',') && !line.starts_with('#');
+    let bare = |line: &str| line.split('#').next().unwrap().trim().to_string() + "\n";
+    symbols
+        .map(|symbol| symbol.lines().filter(points).map(bare).collect())
+        .collect()
+}

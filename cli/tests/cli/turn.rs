@@ -1,7 +1,7 @@
 //! `turn` on the kinds of table sets there are: a monitored tone, none and N odd, none and N even,
 //! and uncoded.
 
-use crate::run::{equal, run, run_with, tables, Ran};
+use crate::run::{equal, run, run_with, tables, turned, Ran};
 
 const A: &str = "examples/bench-a.txt";
 const ODD: &str = "examples/five-twos.txt";
@@ -14,20 +14,16 @@ fn symbol(set: &str, frame: &str) -> String {
     ran.out
 }
 
-/// The same points turned by half a turn.
-fn turned(points: &str) -> String {
-    let negative = |number: &str| (-number.trim().parse::<i16>().unwrap()).to_string();
-    let turn = |line: &str| {
-        let point = line.split('#').next().unwrap();
-        match point.split_once(',') {
-            Some((x, y)) if x != "x" => format!("{},{}\n", negative(x), negative(y)),
-            _ => "\n".to_string(),
-        }
-    };
-    points.lines().map(turn).collect()
+/// With the register at reset given.
+fn turn(set: &str, points: &str) -> Ran {
+    run_with(
+        points.as_bytes(),
+        &["turn", set, "-", "--register", "8388607"],
+    )
 }
 
-fn turn(set: &str, points: &str) -> Ran {
+/// Without a register.
+fn turn_assumed(set: &str, points: &str) -> Ran {
     run_with(points.as_bytes(), &["turn", set, "-"])
 }
 
@@ -115,12 +111,114 @@ fn neither_way_is_read() {
 #[test]
 fn the_examples_are_the_three_kinds() {
     let calls = [
-        ([A, "examples/bench-a.csv"], 0),
-        ([A, "examples/bench-a-turned.csv"], 32),
+        ([A, "examples/bench-a.csv"], 36),
+        ([A, "examples/bench-a-turned.csv"], 36),
         ([ODD, "examples/five-twos-turned.csv"], 32),
         ([EVEN, "examples/cannot-tell.csv"], 33),
     ];
     for ([set, points], status) in calls {
         assert_eq!(run(&["turn", set, points]).status, status);
+    }
+}
+
+/// Consecutive symbols of bench table A from reset on: register before, points.
+fn symbols_of_a(count: usize) -> Vec<(String, String)> {
+    let mut register = "8388607".to_string();
+    let mut symbols = Vec::new();
+    for number in 0..count {
+        let frame = format!("{:02x}", number * 7 % 32);
+        let ran = run_with(
+            frame.as_bytes(),
+            &["encode", A, "-", "--register", &register],
+        );
+        let after = ran.line(0).rsplit(' ').next().unwrap().to_string();
+        symbols.push((std::mem::replace(&mut register, after), ran.out));
+    }
+    symbols
+}
+
+#[test]
+fn no_verdict_is_wrong_and_sure() {
+    let mut perhaps = 0;
+    for (register, points) in symbols_of_a(40) {
+        for (points, sure) in [(turned(&points), 32), (points, 0)] {
+            let ran = turn_assumed(A, &points);
+            assert!(matches!(ran.status, 34 | 36), "{}", ran.out);
+            perhaps += usize::from(ran.status == 36);
+            let words = ["turn", A, "-", "--register", &register];
+            assert_eq!(run_with(points.as_bytes(), &words).status, sure);
+        }
+    }
+    // Of the wrong registers' symbols, many look like one of the two.
+    assert_eq!(perhaps, 70);
+}
+
+#[test]
+fn a_perhaps_says_what_it_rests_on() {
+    let points = symbol(A, "00");
+    for (points, word) in [
+        (turned(&points), "Perhaps turned"),
+        (points, "Perhaps straight"),
+    ] {
+        let ran = turn_assumed(A, &points);
+        told(&ran, 36, word);
+        for words in [
+            "register 8388607, which is the value at reset, assumed because none was given",
+            "1 monitored tone agrees, as it would with a wrong register one time in 4",
+            "--register N",
+            "--register find",
+        ] {
+            assert!(ran.line(0).contains(words), "{}", ran.out);
+        }
+    }
+    let given = turn(A, &symbol(A, "00"));
+    told(&given, 0, "Straight");
+    let words = "round, if register 8388607, which was given, is the writer's";
+    assert!(given.line(0).contains(words), "{}", given.out);
+    assert!(given
+        .line(0)
+        .contains("1 monitored tone agrees, as it would with a wrong register"));
+}
+
+#[test]
+fn twelve_monitored_tones_agree_with_no_other_register() {
+    for (monitored, sure) in [(11, false), (12, true), (40, true)] {
+        let spare = (4..4 + monitored).map(|tone| (tone, 0, 512)).collect();
+        let name = format!("turn-{monitored}.txt");
+        let set = tables(&name, "coded", 64, &[equal(4, 2), spare].concat());
+        let points = symbol(&set, "02");
+        let straight = turn_assumed(&set, &points);
+        let wrong = turn_assumed(&set, &turned(&points));
+        if sure {
+            told(&straight, 0, "Straight");
+            told(&wrong, 32, "Turned");
+            assert!(straight
+                .line(0)
+                .contains("monitored tones agree, as with no other register"));
+        } else {
+            told(&straight, 36, "Perhaps straight");
+            told(&wrong, 36, "Perhaps turned");
+            assert!(straight.line(0).contains("one time in 4194304"));
+        }
+    }
+}
+
+#[test]
+fn an_odd_count_tells_whatever_the_register() {
+    // Five entries and a monitored tone, written with another register than any that is assumed.
+    let tones = [equal(5, 2), vec![(7, 0, 512)]].concat();
+    let set = tables("turn-odd-monitored.txt", "coded", 8, &tones);
+    for register in ["8388607", "1", "2", "3", "4711"] {
+        let ran = run_with(b"05", &["encode", &set, "-", "--register", register]);
+        let points = ran.out;
+        for words in [vec![], vec!["--register", "find"], vec!["--register=77"]] {
+            let words = [vec!["turn", &set, "-"], words].concat();
+            told(&run_with(points.as_bytes(), &words), 0, "Straight");
+            let ran = run_with(turned(&points).as_bytes(), &words);
+            told(&ran, 32, "Turned");
+            assert!(ran
+                .line(0)
+                .contains("whatever the register: the trellis code tells"));
+        }
     }
 }

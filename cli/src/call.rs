@@ -1,0 +1,133 @@
+//! A command of the tool, and a call of it.
+
+use crate::fault::Fault;
+use crate::options::{self, Opt};
+use std::ffi::{OsStr, OsString};
+use std::path::Path;
+
+/// The register at reset.
+pub const RESET: u32 = 8_388_607;
+
+/// What an operand is, with the name that the help has for it.
+#[derive(Clone, Copy)]
+pub enum Operand {
+    /// A file that is read; `-` is standard input.
+    Input(&'static str),
+    Number(&'static str),
+    /// One of a few words.
+    Word(&'static str, &'static [&'static str]),
+}
+
+impl Operand {
+    pub fn name(&self) -> &'static str {
+        match self {
+            Operand::Input(name) | Operand::Number(name) | Operand::Word(name, _) => name,
+        }
+    }
+}
+
+pub struct Command {
+    pub name: &'static str,
+    pub operands: &'static [Operand],
+    /// The options it takes besides --help.
+    pub options: &'static [&'static Opt],
+    /// What it does, in a line.
+    pub about: &'static str,
+    /// What its help says besides.
+    pub details: &'static str,
+    /// Answers a call and tells the exit status.
+    pub run: fn(&Call) -> Result<u8, Fault>,
+}
+
+impl Command {
+    /// How it is called.
+    pub fn form(&self) -> String {
+        let mut form = format!("clevisroot {}", self.short_form());
+        for option in self.options {
+            form.push_str(&format!(" [{}]", option.form()));
+        }
+        form
+    }
+
+    /// Its name and its operands.
+    pub fn short_form(&self) -> String {
+        let names = self.operands.iter().map(Operand::name);
+        let words: Vec<&str> = [self.name].into_iter().chain(names).collect();
+        words.join(" ")
+    }
+
+    /// The fault of a wrong call: what is wrong, and how it is called.
+    pub fn wrong(&self, message: &str) -> Fault {
+        let (name, form) = (self.name, self.form());
+        Fault::usage(format!(
+            "{name}: {message}\nusage: {form}; see clevisroot {name} --help"
+        ))
+    }
+}
+
+/// The register that a call names.
+#[derive(Clone, Debug, PartialEq, Eq)]
+pub enum Asked {
+    /// None: the value at reset is assumed.
+    Reset,
+    /// The number as the library takes it, and the word as it was typed.
+    Given(u32, String),
+    Find,
+}
+
+/// A command with all that belongs to it.
+pub struct Call {
+    pub command: &'static Command,
+    /// The table of commands it was looked up in.
+    pub commands: &'static [Command],
+    pub operands: Vec<OsString>,
+    pub register: Asked,
+    /// The other options by name, with their values.
+    pub options: Vec<(&'static str, OsString)>,
+}
+
+impl Call {
+    pub fn has(&self, option: &Opt) -> bool {
+        self.value(option).is_some()
+    }
+
+    fn value(&self, option: &Opt) -> Option<&OsStr> {
+        let mut options = self.options.iter();
+        let found = options.find(|(name, _)| *name == option.name);
+        found.map(|(_, value)| value.as_os_str())
+    }
+
+    /// The file that an option names.
+    pub fn file(&self, option: &Opt) -> Option<&Path> {
+        self.value(option).map(Path::new)
+    }
+
+    pub fn json(&self) -> bool {
+        self.has(&options::JSON)
+    }
+
+    /// A number among the operands, as `read` reads it.
+    pub fn number<T>(&self, operand: usize, read: impl Fn(&str) -> Option<T>) -> Result<T, Fault> {
+        let word = self.operands[operand].to_str().and_then(read);
+        word.ok_or_else(|| {
+            let name = self.command.operands[operand].name();
+            self.command.wrong(&format!("{name} is not a whole number"))
+        })
+    }
+
+    /// The register as it was typed.
+    pub fn typed_register(&self) -> Option<&str> {
+        match &self.register {
+            Asked::Given(_, typed) => Some(typed),
+            Asked::Reset | Asked::Find => None,
+        }
+    }
+
+    /// The register that the library is given where none has to be found.
+    pub fn register_value(&self) -> u32 {
+        match self.register {
+            Asked::Given(register, _) => register,
+            Asked::Reset | Asked::Find => RESET,
+        }
+    }
+}

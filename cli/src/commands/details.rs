@@ -1,0 +1,106 @@
+//! What the help of each command says besides its form.
+
+pub const CHECK: &str = "\
+Checks the table set and tells L, the bits of a frame; also how the tones are loaded, and
+whether a clip that is the wrong way round would show. Refusals are 1 to 9.
+
+example
+  clevisroot check examples/bench-a.txt
+";
+
+pub const ORDER: &str = "\
+Writes the re-ordered tone table t' and the re-ordered bit table b', 16 numbers a line. Points
+are in the order of t'. In coded mode b' does not run beside t': its zeros come first, and two
+1-bit tones share an entry of 2. Refusals are 1 to 10.
+
+example
+  clevisroot order examples/bench-a.txt --out order.txt
+";
+
+pub const ENCODE: &str = "\
+Writes the points of a frame, x,y, a line a place in t' order, and tells the register for the
+next symbol. What it prints is a POINTS file. The frame has L bits: bit k is in byte k / 8, at
+weight 2 to the (k mod 8); unused high bits are 0. Refusals are 1 to 12.
+
+The file may hold many frames, with an empty line between them. The register goes from one to
+the next; a refused frame hands it back as it was. Totals come last. The exit status is that of
+the first frame that is refused.
+
+examples
+  clevisroot encode examples/bench-a.txt examples/bench-a.hex --svg symbol.svg
+  echo 15 | clevisroot encode examples/bench-a.txt - --register 0x1fffff
+";
+
+pub const READ: &str = "\
+Reads exact points back to the frame, hex, 32 bytes a line. What it prints is a FRAME file. The
+register must be the one the points were written with; --register find works it out from the
+monitored tones, 12 or more, of one symbol or of several that follow each other, and ends with
+status 33 where it cannot. Refusals are 1 to 10 and 12 to 15; with 13, 14 and 15 the picture of
+--svg is drawn too and shows what was refused.
+
+The file may hold many symbols, with an empty line or a header x,y between them. The register
+goes from one to the next; a refused symbol hands it back as it was, so that the symbols after it
+may be refused too: --register find then finds it anew. Totals come last. The exit status is that
+of the first symbol that is not read.
+
+example
+  clevisroot read examples/bench-a.txt examples/bench-a.csv --out frame.hex
+";
+
+pub const TURN: &str = "\
+Reads the points as they came and turned by half a turn (every x,y as -x,-y), and says in one
+sentence what to tell the jointer, and what that rests on.
+
+Without --register the value at reset is assumed; then the verdict is only perhaps so, unless 12
+monitored tones agree. With --register N it holds if N is the writer's register. With --register
+find the register is worked out from the monitored tones, and the verdict holds whatever the
+register was: 12 tones of one symbol are enough, or 32 of several that follow each other. Coded,
+and with an odd count of non-zero re-ordered entries, the trellis code tells without any register.
+docs/FIND-THE-REGISTER.md has the reasons.
+
+Exit status: 0 straight, 32 turned, 36 perhaps (straight or turned), 33 cannot tell, 34 neither
+way is read; 1 to 10 and 12 if the tables, the count of points or the register are refused. A
+file may hold many symbols, as for read; the status is then that of all of them together.
+
+examples
+  clevisroot turn examples/bench-a.txt examples/bench-a-turned.csv --register 8388607
+  clevisroot turn examples/vdsl2-4096.txt points.csv --register find
+";
+
+pub const MAP: &str = "\
+Tells the point of one label on a tone of 1 to 15 bits. The refusal is 16.
+
+example
+  clevisroot map 5 24
+";
+
+pub const POINT: &str = "\
+Tells the label of one point on a tone of 1 to 15 bits. Refusals are 16 for the bits, then 13.
+
+example
+  clevisroot point 5 -3 5
+";
+
+pub const FIGURES: &str = "\
+Works out the bench figures of document 01 and prints each beside the page's value. The ones
+with a * are the page's small set. Exit status: 0 if all agree, else 35.
+
+example
+  clevisroot figures
+";
+
+pub const MAN: &str = "\
+Prints the manual page in the form that man reads.
+
+example
+  clevisroot man > ~/.local/share/man/man1/clevisroot.1
+";
+
+pub const COMPLETIONS: &str = "\
+Prints a script that completes commands, options and files. It is for bash, fish or zsh.
+
+examples
+  clevisroot completions bash > ~/.local/share/bash-completion/completions/clevisroot
+  clevisroot completions fish > ~/.config/fish/completions/clevisroot.fish
+  clevisroot completions zsh > ~/.zfunc/_clevisroot
+";

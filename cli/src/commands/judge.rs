@@ -1,0 +1,176 @@
+//! The judgement of one symbol: both readings, and what they say together.
+
+use super::reading::{Reading, Tables};
+use super::verdict::{Ground, Known, Origin, Verdict, Way};
+use super::verdict_words::{ground_fields, sentence};
+use crate::ask::trellis_tells;
+use crate::call::RESET;
+use crate::files::{hex_lines, PointList, TableSet};
+use crate::json::{Fields, Json};
+use crate::refusal::numbers::{MONITOR, OFFGRID};
+use crate::register::{Search, ENOUGH_TONES};
+use crate::report::{fields, refusal_fields, Report};
+use crate::words::size_words;
+
+pub struct Judged {
+    /// The points as they came, and turned.
+    pub readings: [Reading; 2],
+    /// The register that they were read with; none if it had to be found and was not.
+    pub known: Option<Known>,
+    pub verdict: Verdict,
+    pub ground: Ground,
+}
+
+impl Judged {
+    pub fn of(tables: &Tables, points: &PointList, known: Option<Known>) -> Judged {
+        let turned = points.turned();
+        let (fitted, tones) = fitted(tables, points, &turned);
+        let by_trellis = only_way(&fitted).filter(|_| trellis_tells(&tables.set, &tables.order));
+        let readings = match known {
+            Some(Known { register, .. }) => {
+                [points, &turned].map(|points| tables.read(points, register))
+            }
+            None => fitted,
+        };
+        let found = known.is_some_and(Known::is_found) && only_way(&readings).is_some();
+        let (verdict, ground) = match (by_trellis, known) {
+            // Where the register was found and read with, both speak; the register is the news.
+            (Some(way), _) if !found => {
+                (Verdict::sure(way), Ground::Trellis(tables.order.loaded()))
+            }
+            (_, Some(known)) => by_register(&readings, known, tables.monitored),
+            (_, None) => without_register(&readings, tones),
+        };
+        Judged {
+            readings,
+            known,
+            verdict,
+            ground,
+        }
+    }
+
+    /// The only way round that is read.
+    pub fn only_way(&self) -> Option<Way> {
+        only_way(&self.readings)
+    }
+
+    /// Whether the register is not that of this symbol: one may be missing before it.
+    pub fn is_out_of_step(&self, known: Known) -> bool {
+        let mut readings = self.readings.iter();
+        match self.only_way() {
+            Some(way) => known.way.is_some_and(|before| before != way),
+            None => readings.all(|reading| reading.answer.number == MONITOR),
+        }
+    }
+
+    pub fn report(&self, set: &TableSet) -> Report {
+        let sentence = sentence(self.verdict, set, &self.ground);
+        let [straight, turned] = &self.readings;
+        let mut json = self.fields(straight);
+        json.retain(|(key, _)| *key != "sentence");
+        json.push(("verdict", Json::text(self.verdict.word())));
+        json.push(("sure", Json::Flag(self.verdict.is_sure())));
+        json.push((
+            "rests_on",
+            Json::Object(ground_fields(self.verdict, &self.ground)),
+        ));
+        json.push(("sentence", Json::text(sentence.clone())));
+        json.push(("turned", Json::Object(self.fields(turned))));
+        let summary = vec![
+            sentence,
+            format!("as they came: {}", self.words(straight)),
+            format!("turned:       {}", self.words(turned)),
+        ];
+        let mut report = Report::new(self.verdict.status(), summary, json);
+        report.refused = self.verdict == Verdict::Neither;
+        report
+    }
+
+    /// One of the readings in fields.
+    fn fields(&self, reading: &Reading) -> Fields {
+        let answer = &reading.answer;
+        let register = self.known.map(|_| answer.reg);
+        let numbers = [answer.number, answer.place, answer.size].map(Some);
+        let mut json = fields("turn", [numbers[0], numbers[1], numbers[2], register]);
+        if let Some(refusal) = &reading.refusal {
+            json.extend(refusal_fields(refusal));
+        }
+        let frame = match reading.is_done() {
+            true => Json::text(hex_lines(&reading.frame).replace('\n', "")),
+            false => Json::Null,
+        };
+        json.push(("frame", frame));
+        json
+    }
+
+    /// One of the readings in words.
+    fn words(&self, reading: &Reading) -> String {
+        if let Some(refusal) = &reading.refusal {
+            return format!("refused, {} {}", refusal.title(), refusal.place);
+        }
+        // A long frame is for --json.
+        let frame = match reading.frame.len() {
+            1..=16 => format!("frame {} (hex), ", hex_lines(&reading.frame).trim_end()),
+            _ => String::new(),
+        };
+        let size = size_words(reading.answer.size);
+        match self.known {
+            Some(_) => format!("read, {frame}{size}, register after {}", reading.answer.reg),
+            None => format!("read, {frame}{size}, register not known"),
+        }
+    }
+}
+
+/// Reads both ways with registers that fit the monitored points as far as any does, so that only
+/// the trellis code decides where many fit. Tells the count of monitored tones too.
+fn fitted(tables: &Tables, points: &PointList, turned: &PointList) -> ([Reading; 2], usize) {
+    let mut search = Search::new();
+    search.add(&tables.set, &tables.order, points);
+    let [straight, other] = search.examples().map(|register| register.unwrap_or(RESET));
+    let readings = [tables.read(points, straight), tables.read(turned, other)];
+    (readings, search.tones)
+}
+
+fn by_register(readings: &[Reading; 2], known: Known, monitored: usize) -> (Verdict, Ground) {
+    if both_read(readings) {
+        return (Verdict::CannotTell, Ground::Nothing);
+    }
+    let Some(way) = only_way(readings) else {
+        let mut numbers = readings.iter().map(|reading| reading.answer.number);
+        return match numbers.all(|number| number == OFFGRID) {
+            true => (Verdict::Neither, Ground::NoRegister),
+            false => (Verdict::Neither, Ground::Tones(known)),
+        };
+    };
+    let known = known.reading(way, monitored);
+    let sure = match known.origin {
+        Origin::Given | Origin::Found(_) => true,
+        Origin::FoundAcross(_) => false,
+        Origin::Reset | Origin::HandedBack | Origin::Contradicted => known.agreed >= ENOUGH_TONES,
+    };
+    match sure {
+        true => (Verdict::sure(way), Ground::Tones(known)),
+        false => (Verdict::perhaps(way), Ground::Tones(known)),
+    }
+}
+
+/// The register is to be found, and was not.
+fn without_register(readings: &[Reading; 2], tones: usize) -> (Verdict, Ground) {
+    match (both_read(readings), only_way(readings), tones) {
+        (true, _, 0) => (Verdict::CannotTell, Ground::Nothing),
+        (true, ..) | (false, Some(_), _) => (Verdict::CannotTell, Ground::TooFew(tones)),
+        (false, None, _) => (Verdict::Neither, Ground::NoRegister),
+    }
+}
+
+fn both_read(readings: &[Reading; 2]) -> bool {
+    readings.iter().all(Reading::is_done)
+}
+
+fn only_way(readings: &[Reading; 2]) -> Option<Way> {
+    match [readings[0].is_done(), readings[1].is_done()] {
+        [true, false] => Some(Way::Straight),
+        [false, true] => Some(Way::Turned),
+        _ => None,
+    }
+}

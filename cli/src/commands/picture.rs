@@ -1,0 +1,64 @@
+//! The picture of a symbol, as `--svg` wants it.
+
+use super::reading::Tables;
+use crate::files::PointList;
+use crate::refusal::{refused_places, Refusal};
+use crate::svg::{self, Symbol};
+use crate::words::size_words;
+use clevisroot_sys::Answer;
+
+/// What a picture is made of.
+pub struct Picture<'a> {
+    pub tables: &'a Tables,
+    pub x: &'a [i16],
+    pub y: &'a [i16],
+    /// The points as they were typed, if they were.
+    pub typed: Option<&'a PointList>,
+    pub answer: &'a Answer,
+}
+
+impl Picture<'_> {
+    /// The picture of the points, with the places that were refused.
+    pub fn draw(&self, caption: String) -> String {
+        let Tables { set, order, .. } = self.tables;
+        svg::draw(&Symbol {
+            set,
+            order,
+            x: self.x,
+            y: self.y,
+            typed: self.typed,
+            refused: &refused_places(set, order, self.answer),
+            caption,
+        })
+    }
+}
+
+/// The line under a picture's title.
+pub fn caption(
+    (command, number): (&str, usize),
+    register: u32,
+    answer: &Answer,
+    refusal: Option<&Refusal>,
+) -> String {
+    let start = titled(command, number);
+    match refusal {
+        Some(refusal) => format!(
+            "{start}: refused {} {}, register {register}",
+            refusal.title(),
+            refusal.spot
+        ),
+        None => format!(
+            "{start}: {}, register {register} before, {} after",
+            size_words(answer.size),
+            answer.reg
+        ),
+    }
+}
+
+/// The command, and which symbol of a stream it is.
+pub fn titled(command: &str, number: usize) -> String {
+    match number {
+        0 => command.to_string(),
+        number => format!("{command}, symbol {number}"),
+    }
+}

@@ -1,0 +1,166 @@
+//! `read`: points to frames.
+
+use super::picture::{caption, Picture};
+use super::reading::{Reading, Tables};
+use super::totals::Totals;
+use super::verdict::CANNOT_TELL;
+use super::verdict_words::not_found_sentence;
+use crate::call::{Asked, Call, RESET};
+use crate::fault::Fault;
+use crate::files::{hex_lines, PointList};
+use crate::json::Json;
+use crate::output::Output;
+use crate::refusal::numbers::MONITOR;
+use crate::register::{Finder, FoundRegister, Settled};
+use crate::report::{done_words, fields, symbol_fields, Report, Written};
+use crate::stream::{self, Reports, Task};
+
+struct Read {
+    tables: Tables,
+    /// The register is to be found.
+    find: bool,
+    /// None while it has to be found.
+    register: Option<u32>,
+    finder: Finder,
+    totals: Totals,
+}
+
+pub fn read(call: &Call) -> Result<u8, Fault> {
+    let find = call.register == Asked::Find;
+    let task = Read {
+        tables: Tables::of(call)?,
+        find,
+        register: (!find).then(|| call.register_value()),
+        finder: Finder::new(),
+        totals: Totals::default(),
+    };
+    stream::run(call, task)
+}
+
+impl Task for Read {
+    type Input = PointList;
+
+    fn take(&mut self, number: usize, points: PointList, output: &Output) -> Reports {
+        let symbol = (number, points);
+        let register = self.register.unwrap_or(RESET);
+        let reading = self.tables.read(&symbol.1, register);
+        // What is refused before the register is looked at needs none.
+        if !reading.is_of_points() {
+            let mut reports = self.finish(output);
+            reports.push(self.told(&symbol, register, &reading, None, output));
+            return reports;
+        }
+        // A register that was found is found anew where a symbol may be missing.
+        let out_of_step = self.find && reading.answer.number == MONITOR;
+        if self.register.is_some() && !out_of_step {
+            return vec![self.told(&symbol, register, &reading, None, output)];
+        }
+        let Tables { set, order, .. } = &self.tables;
+        let settled = self.finder.push(set, order, symbol);
+        self.settle(settled, output)
+    }
+
+    fn finish(&mut self, output: &Output) -> Reports {
+        let settled = self.finder.finish();
+        self.settle(settled, output)
+    }
+
+    fn are_tables_refused(&self) -> bool {
+        self.tables.are_refused()
+    }
+
+    fn totals(&self) -> Report {
+        self.totals.report()
+    }
+}
+
+impl Read {
+    fn settle(&mut self, settled: Vec<Settled>, output: &Output) -> Reports {
+        let mut reports = Vec::new();
+        for Settled { symbol, found } in settled {
+            reports.push(match found {
+                Some(found) => {
+                    let reading = self.tables.read(&symbol.1, found.register);
+                    self.told(&symbol, found.register, &reading, Some(found), output)
+                }
+                None => self.not_found(symbol.0, &symbol.1),
+            });
+        }
+        reports
+    }
+
+    /// Reports a reading and carries the register on.
+    fn told(
+        &mut self,
+        (number, points): &(usize, PointList),
+        register: u32,
+        reading: &Reading,
+        found: Option<FoundRegister>,
+        output: &Output,
+    ) -> (usize, Report) {
+        let mut report = self.report(register, reading);
+        if let Some(FoundRegister { tones, .. }) = found {
+            report.summary.push(format!(
+                "register before {register}, found from {tones} monitored tones"
+            ));
+        }
+        // Points that are refused for what they are can be drawn too.
+        if reading.is_of_points() && output.wants_picture(report.refused) {
+            report.picture = Some(self.picture(*number, points, register, reading));
+        }
+        let lost = self.find && report.refused;
+        self.register = (!lost).then_some(reading.answer.reg);
+        let answered = Some(reading.answer.number);
+        self.totals
+            .add(*number, answered, report.status, self.register);
+        (*number, report)
+    }
+
+    fn report(&self, register: u32, reading: &Reading) -> Report {
+        let mut json = symbol_fields("read", &reading.answer);
+        if self.find {
+            json.push(("register_before", Json::Number(register.into())));
+        }
+        if let Some(refusal) = &reading.refusal {
+            return Report::refused_result(refusal, json);
+        }
+        let hex = hex_lines(&reading.frame);
+        json.push(("frame", Json::text(hex.replace('\n', ""))));
+        let mut report = Report::new(0, vec![done_words(&reading.answer)], json);
+        report.result = Some(Written {
+            screen: hex.clone(),
+            file: hex,
+        });
+        report
+    }
+
+    fn picture(
+        &self,
+        number: usize,
+        points: &PointList,
+        register: u32,
+        reading: &Reading,
+    ) -> String {
+        let picture = Picture {
+            tables: &self.tables,
+            x: &points.x,
+            y: &points.y,
+            typed: Some(points),
+            answer: &reading.answer,
+        };
+        let (answer, refusal) = (&reading.answer, reading.refusal.as_ref());
+        picture.draw(caption(("read", number), register, answer, refusal))
+    }
+
+    /// No register can be told, so that nothing can be read.
+    fn not_found(&mut self, number: usize, points: &PointList) -> (usize, Report) {
+        let sentence = not_found_sentence(&self.tables, points);
+        let mut json = fields("read", [None; 4]);
+        json.push(("sentence", Json::text(sentence.clone())));
+        let mut report = Report::new(CANNOT_TELL, vec![sentence.clone()], json);
+        report.reason = Some(sentence);
+        self.register = None;
+        self.totals.add(number, None, report.status, None);
+        (number, report)
+    }
+}

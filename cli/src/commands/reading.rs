@@ -1,0 +1,79 @@
+//! A table set with its order, and readings with it.
+
+use crate::ask::{self, Order};
+use crate::call::Call;
+use crate::fault::Fault;
+use crate::files::{read_tables, PointList, TableSet};
+use crate::refusal::numbers::{is_of_points, DONE};
+use crate::refusal::{Question, Refusal};
+use clevisroot_sys::{self as library, Answer};
+
+pub struct Tables {
+    pub set: TableSet,
+    pub order: Order,
+    /// The count of monitored tones.
+    pub monitored: usize,
+    /// The register as it was typed.
+    typed: Option<String>,
+}
+
+/// What the library answers for points and a register.
+pub struct Reading {
+    pub answer: Answer,
+    pub frame: Vec<u8>,
+    pub refusal: Option<Refusal>,
+}
+
+impl Tables {
+    /// The table set that the first operand names.
+    pub fn of(call: &Call) -> Result<Tables, Fault> {
+        let set = read_tables(&call.operands[0])?;
+        let (_, order) = ask::order(&set);
+        let monitored = order.monitored(&set).count();
+        Ok(Tables {
+            set,
+            order,
+            monitored,
+            typed: call.typed_register().map(str::to_string),
+        })
+    }
+
+    /// Whether the tables themselves are refused.
+    pub fn are_refused(&self) -> bool {
+        library::check(self.set.lent()).number != DONE
+    }
+
+    /// A question about these tables and a register.
+    pub fn question(&self, register: u32) -> Question<'_> {
+        Question {
+            register,
+            typed: self.typed.as_deref(),
+            ..Question::of_tables(&self.set)
+        }
+    }
+
+    pub fn read(&self, points: &PointList, register: u32) -> Reading {
+        let (answer, frame) = ask::read(&self.set, &points.x, &points.y, register);
+        let question = Question {
+            points: Some(points),
+            ..self.question(register)
+        };
+        let refusal = (answer.number != DONE).then(|| question.refusal(&answer));
+        Reading {
+            answer,
+            frame,
+            refusal,
+        }
+    }
+}
+
+impl Reading {
+    pub fn is_done(&self) -> bool {
+        self.answer.number == DONE
+    }
+
+    /// Whether the points were looked at: nothing else was refused.
+    pub fn is_of_points(&self) -> bool {
+        self.is_done() || is_of_points(self.answer.number)
+    }
+}

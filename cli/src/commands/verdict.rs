@@ -1,0 +1,155 @@
+//! Verdicts on the clips: how sure they are, and what they rest on.
+
+use crate::register::ENOUGH_TONES;
+
+/// The exit status where nothing can be told.
+pub const CANNOT_TELL: u8 = 33;
+
+#[derive(Clone, Copy, Debug, PartialEq, Eq)]
+pub enum Way {
+    Straight,
+    Turned,
+}
+
+#[derive(Clone, Copy, Debug, PartialEq, Eq, PartialOrd, Ord)]
+pub enum Verdict {
+    Straight,
+    Turned,
+    PerhapsStraight,
+    PerhapsTurned,
+    CannotTell,
+    Neither,
+}
+
+/// Where the register came from that the points were read with.
+#[derive(Clone, Copy, Debug, PartialEq, Eq)]
+pub enum Origin {
+    /// It was not given, so the value at reset was assumed before the first symbol.
+    Reset,
+    Given,
+    /// The monitored tones gave it; so many of them.
+    Found(usize),
+    /// So many monitored tones of several symbols gave it, too few to say that none is missing.
+    FoundAcross(usize),
+    /// A symbol before was refused and handed it back, so that it may be out of step.
+    HandedBack,
+    /// Symbols before were read the other way round with it, so that one may be missing.
+    Contradicted,
+}
+
+/// A register, and what speaks for it.
+#[derive(Clone, Copy, Debug)]
+pub struct Known {
+    pub register: u32,
+    pub origin: Origin,
+    /// The monitored tones of the symbols so far that agree with it, all the same way round.
+    pub agreed: usize,
+    pub way: Option<Way>,
+    /// It is the one after a symbol that was read.
+    pub carried: bool,
+}
+
+impl Known {
+    pub fn new(register: u32, origin: Origin) -> Known {
+        Known {
+            register,
+            origin,
+            agreed: 0,
+            way: None,
+            carried: false,
+        }
+    }
+
+    pub fn is_found(self) -> bool {
+        matches!(self.origin, Origin::Found(_) | Origin::FoundAcross(_))
+    }
+
+    /// What it is to a symbol that is read this way with it: clips are not swapped within a stream,
+    /// so that a change of the way speaks against the register.
+    pub fn reading(self, way: Way, monitored: usize) -> Known {
+        match (self.origin, self.way) {
+            (_, Some(before)) if before != way => Known {
+                origin: Origin::Contradicted,
+                agreed: monitored,
+                way: Some(way),
+                ..self
+            },
+            (Origin::Found(_) | Origin::FoundAcross(_), _) => Known {
+                way: Some(way),
+                ..self
+            },
+            _ => Known {
+                agreed: self.agreed + monitored,
+                way: Some(way),
+                ..self
+            },
+        }
+    }
+}
+
+/// What a verdict rests on.
+#[derive(Clone, Copy, Debug)]
+pub enum Ground {
+    /// N is odd: the trellis code tells, whatever the register.
+    Trellis(usize),
+    /// Monitored tones that agree with this register, or do not.
+    Tones(Known),
+    /// No tone is monitored and the trellis code does not tell.
+    Nothing,
+    /// The register is to be found, and so many monitored tones do not give it.
+    TooFew(usize),
+    /// No register gives these points, either way.
+    NoRegister,
+}
+
+impl Verdict {
+    pub fn sure(way: Way) -> Verdict {
+        match way {
+            Way::Straight => Verdict::Straight,
+            Way::Turned => Verdict::Turned,
+        }
+    }
+
+    pub fn perhaps(way: Way) -> Verdict {
+        match way {
+            Way::Straight => Verdict::PerhapsStraight,
+            Way::Turned => Verdict::PerhapsTurned,
+        }
+    }
+
+    /// The exit status: none that a refusal or a fault has.
+    pub fn status(self) -> u8 {
+        match self {
+            Verdict::Straight => 0,
+            Verdict::Turned => 32,
+            Verdict::CannotTell => CANNOT_TELL,
+            Verdict::Neither => 34,
+            Verdict::PerhapsStraight | Verdict::PerhapsTurned => 36,
+        }
+    }
+
+    pub fn word(self) -> &'static str {
+        match self {
+            Verdict::Straight => "straight",
+            Verdict::Turned => "turned",
+            Verdict::PerhapsStraight => "perhaps straight",
+            Verdict::PerhapsTurned => "perhaps turned",
+            Verdict::CannotTell => "cannot tell",
+            Verdict::Neither => "neither",
+        }
+    }
+
+    pub fn is_sure(self) -> bool {
+        matches!(self, Verdict::Straight | Verdict::Turned)
+    }
+}
+
+impl Ground {
+    /// Whether a sure verdict holds only if the register that was given is the writer's.
+    pub fn is_conditional(&self) -> bool {
+        match self {
+            Ground::Tones(known) => known.origin == Origin::Given && known.agreed < ENOUGH_TONES,
+            _ => false,
+        }
+    }
+}

@@ -1,0 +1,249 @@
+//! Verdicts in words: one sentence for the jointer, and what it rests on.
+
+use super::reading::Tables;
+use super::verdict::{Ground, Known, Origin, Verdict};
+use crate::ask;
+use crate::files::{PointList, TableSet};
+use crate::json::{Fields, Json};
+use crate::register::{Found, Search, ENOUGH_TONES, TONES_OF_STREAM};
+use crate::words::count;
+
+/// What the jointer should be told, in one sentence.
+pub fn sentence(verdict: Verdict, set: &TableSet, ground: &Ground) -> String {
+    let (clips, readings) = match verdict {
+        Verdict::Straight | Verdict::PerhapsStraight => (
+            "Straight: the clips are the right way round",
+            "the points are read as they came and refused when turned",
+        ),
+        _ => (
+            "Turned: the clips are the wrong way round, so swap them",
+            "the points are refused as they came and read when turned",
+        ),
+    };
+    match verdict {
+        Verdict::Straight | Verdict::Turned => sure_sentence(clips, readings, ground),
+        Verdict::PerhapsStraight => perhaps_sentence("straight", readings, ground),
+        Verdict::PerhapsTurned => perhaps_sentence("turned", readings, ground),
+        Verdict::CannotTell => format!("Cannot tell: {}.", why_not_told(set, ground)),
+        Verdict::Neither => neither_sentence(ground),
+    }
+}
+
+fn sure_sentence(clips: &str, readings: &str, ground: &Ground) -> String {
+    match ground {
+        Ground::Tones(known) => sure_by_register(clips, readings, known),
+        Ground::Trellis(loaded) => format!(
+            "{clips}, whatever the register: the trellis code tells, because N, the count of \
+             non-zero re-ordered entries, is odd ({loaded})."
+        ),
+        _ => format!("{clips}: {readings}."),
+    }
+}
+
+fn sure_by_register(clips: &str, readings: &str, known: &Known) -> String {
+    let Known {
+        register, agreed, ..
+    } = known;
+    let origin = origin_words(known);
+    match known.origin {
+        Origin::Found(tones) if known.carried => format!(
+            "{clips}: {readings} with register {register}, which goes on from the one that {tones} \
+             monitored tones of the symbols before gave."
+        ),
+        Origin::Found(tones) => format!(
+            "{clips}, whatever the register was: {readings} with register {register}, which \
+             {tones} monitored tones give ({} filler bits, where 23 fix it and {}), and \
+             the other way no register fits.",
+            2 * tones,
+            match 2 * tones - 23 {
+                1 => "1 checks it".to_string(),
+                spare => format!("{spare} check it"),
+            }
+        ),
+        _ if *agreed >= ENOUGH_TONES => format!(
+            "{clips}: {readings} with register {register}, which {origin}, and {agreed} monitored \
+             tones agree, as with no other register."
+        ),
+        _ => format!(
+            "{clips}, if register {register}, which {origin}, is the writer's: {readings}, and {}.",
+            agreement(*agreed)
+        ),
+    }
+}
+
+fn perhaps_sentence(word: &str, readings: &str, ground: &Ground) -> String {
+    let rest = match ground {
+        Ground::Tones(known) => match known.origin {
+            Origin::FoundAcross(found) => format!(
+                "but only with register {}, which {found} monitored tones of several symbols give \
+                 if none is missing between them",
+                known.register
+            ),
+            _ => format!(
+                "but only with register {}, which {}, and {}",
+                known.register,
+                origin_words(known),
+                agreement(known.agreed)
+            ),
+        },
+        _ => "but that rests on nothing".to_string(),
+    };
+    format!(
+        "Perhaps {word}: {readings}, {rest}; the writer's register (--register N) would settle it, \
+         and so would --register find from {}.",
+        enough_words()
+    )
+}
+
+/// "12 monitored tones in one symbol, or 32 in several that follow each other"
+fn enough_words() -> String {
+    format!(
+        "{ENOUGH_TONES} monitored tones in one symbol, or {TONES_OF_STREAM} in several that follow \
+         each other"
+    )
+}
+
+fn neither_sentence(ground: &Ground) -> String {
+    match ground {
+        Ground::Tones(known) => format!(
+            "Neither: the points are refused both ways with register {}, which {}, so look for \
+             noise, other tables or another register (--register N, or --register find from \
+             {ENOUGH_TONES} monitored tones on) before you swap the clips.",
+            known.register,
+            origin_words(known)
+        ),
+        _ => "Neither: the points are refused both ways whatever the register, so look for noise \
+              or other tables before you swap the clips."
+            .to_string(),
+    }
+}
+
+/// Why nothing can be told, and what would tell.
+fn why_not_told(set: &TableSet, ground: &Ground) -> String {
+    if let Ground::TooFew(tones) = ground {
+        return format!(
+            "the points are read both ways, for {} for the 23 bits of the register; the writer's \
+             register (--register N) would settle it, and so would {}",
+            equations(*tones),
+            enough_words()
+        );
+    }
+    let (_, order) = ask::order(set);
+    let reason = if set.coded {
+        format!(
+            "this table set monitors no tone and N, its count of non-zero re-ordered entries, is \
+             even ({})",
+            order.loaded()
+        )
+    } else {
+        "this table set is uncoded and monitors no tone".to_string()
+    };
+    format!("the points are read both ways, for {reason}; a spare tone with 0 bits and a gain would tell")
+}
+
+/// "1 monitored tone gives 2 equations"
+fn equations(tones: usize) -> String {
+    let give = if tones == 1 { "gives" } else { "give" };
+    format!(
+        "{} {give} only {} equations",
+        count(tones, "monitored tone"),
+        2 * tones
+    )
+}
+
+/// "1 monitored tone agrees, as it would with a wrong register one time in 4"
+fn agreement(tones: usize) -> String {
+    let (agree, it) = if tones == 1 {
+        ("agrees", "it")
+    } else {
+        ("agree", "they")
+    };
+    format!(
+        "{} {agree}, as {it} would with a wrong register one time in {}",
+        count(tones, "monitored tone"),
+        alike_one_in(tones)
+    )
+}
+
+/// One register in so many looks the same to this many monitored tones.
+fn alike_one_in(tones: usize) -> u64 {
+    4_u64.saturating_pow(u32::try_from(tones).unwrap_or(u32::MAX))
+}
+
+fn origin_words(known: &Known) -> &'static str {
+    match (known.origin, known.carried) {
+        (Origin::Reset, false) => "is the value at reset, assumed because none was given",
+        (Origin::Reset, true) => "goes back to the value at reset, assumed because none was given",
+        (Origin::Given, false) => "was given",
+        (Origin::Given, true) => "goes back to the one that was given",
+        (Origin::Found(_) | Origin::FoundAcross(_), _) => "the monitored tones give",
+        (Origin::HandedBack, _) => "a refused symbol handed back and which may be out of step",
+        (Origin::Contradicted, _) => {
+            "read a symbol before the other way round and so may be out of step"
+        }
+    }
+}
+
+/// What a verdict rests on, in fields.
+pub fn ground_fields(verdict: Verdict, ground: &Ground) -> Fields {
+    let (register, tones) = match ground {
+        Ground::Tones(known) => (Json::Number(known.register.into()), Some(known.agreed)),
+        Ground::TooFew(tones) => (Json::Null, Some(*tones)),
+        Ground::NoRegister | Ground::Trellis(_) | Ground::Nothing => (Json::Null, None),
+    };
+    let number = |number: u64| Json::Number(i64::try_from(number).unwrap_or(i64::MAX));
+    let few = tones.filter(|tones| (1..ENOUGH_TONES).contains(tones));
+    let holds_if = match verdict.is_sure() && ground.is_conditional() {
+        true => Json::text("the register that was given is the writer's"),
+        false => Json::Null,
+    };
+    vec![
+        ("holds_if", holds_if),
+        ("trellis", Json::Flag(matches!(ground, Ground::Trellis(_)))),
+        ("register", register),
+        ("register_is", Json::text(register_word(ground))),
+        (
+            "monitored_tones",
+            tones.map_or(Json::Null, |tones| number(tones as u64)),
+        ),
+        (
+            "wrong_register_alike_one_in",
+            few.map_or(Json::Null, |tones| number(alike_one_in(tones))),
+        ),
+    ]
+}
+
+fn register_word(ground: &Ground) -> &'static str {
+    match ground {
+        Ground::Tones(known) => match known.origin {
+            Origin::Reset => "reset value, assumed",
+            Origin::Given => "given",
+            Origin::Found(_) => "found",
+            Origin::FoundAcross(_) => "found, if no symbol is missing",
+            Origin::HandedBack => "handed back by a refused symbol",
+            Origin::Contradicted => "contradicted by a symbol before",
+        },
+        Ground::TooFew(_) => "not found",
+        Ground::NoRegister => "none fits",
+        Ground::Trellis(_) | Ground::Nothing => "not needed",
+    }
+}
+
+/// Why the register of a symbol cannot be found.
+pub fn not_found_sentence(tables: &Tables, points: &PointList) -> String {
+    let mut search = Search::new();
+    search.add(&tables.set, &tables.order, points);
+    match (search.tones, search.found()) {
+        (0, _) => "Cannot tell the register: no tone is monitored, so that points are read the \
+                   same with every register; leave --register find out."
+            .to_string(),
+        (tones, Found::Open) => format!(
+            "Cannot tell the register: {} for its 23 bits, where it takes {}.",
+            equations(tones),
+            enough_words()
+        ),
+        _ => "Cannot tell the register: none gives the points of the monitored tones, so look for \
+              noise or other tables."
+            .to_string(),
+    }
+}

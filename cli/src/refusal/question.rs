@@ -1,0 +1,25 @@
+//! What was asked when a refusal came.
+
+use crate::files::{Frame, PointList, TableSet};
+
+pub struct Question<'a> {
+    pub set: &'a TableSet,
+    pub frame: Option<&'a Frame>,
+    pub points: Option<&'a PointList>,
+    pub register: u32,
+    /// The register as it was typed.
+    pub typed: Option<&'a str>,
+}
+
+impl<'a> Question<'a> {
+    /// A question about tables alone.
+    pub fn of_tables(set: &'a TableSet) -> Question<'a> {
+        Question {
+            set,
+            frame: None,
+            points: None,
+            register: 0,
+            typed: None,
+        }
+    }
+}

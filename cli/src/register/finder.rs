@@ -1,0 +1,138 @@
+//! The register of a stream: symbols with few monitored tones wait until those of several together
+//! give it.
+
+use super::search::{Found, Search, ENOUGH_TONES};
+use crate::ask::Order;
+use crate::files::{PointList, TableSet};
+use clevisroot_sys as library;
+use std::collections::VecDeque;
+
+/// Symbols may be missing between two of a stream. 23 of the 64 filler bits of so many tones fix
+/// the register, and the other 41 check that none is: by chance they fit once in 2 to the 40.
+pub const TONES_OF_STREAM: usize = 32;
+
+/// A symbol with its number.
+pub type Numbered = (usize, PointList);
+
+/// A register that was found.
+#[derive(Clone, Copy, Debug)]
+pub struct FoundRegister {
+    /// Before the symbol.
+    pub register: u32,
+    /// The monitored tones that gave it.
+    pub tones: usize,
+    /// They are enough to say that no symbol is missing between them.
+    pub checked: bool,
+}
+
+/// A symbol that waits no longer, with its register unless it gives none, neither alone nor
+/// together with its neighbours.
+pub struct Settled {
+    pub symbol: Numbered,
+    pub found: Option<FoundRegister>,
+}
+
+pub struct Finder {
+    search: Search,
+    waiting: VecDeque<Numbered>,
+    /// Some symbols since the start did not fit together.
+    contradicted: bool,
+}
+
+impl Finder {
+    pub fn new() -> Finder {
+        Finder {
+            search: Search::new(),
+            waiting: VecDeque::new(),
+            contradicted: false,
+        }
+    }
+
+    /// Takes the next symbol; tells what is settled.
+    pub fn push(&mut self, set: &TableSet, order: &Order, symbol: Numbered) -> Vec<Settled> {
+        let mut own = Search::new();
+        own.add(set, order, &symbol.1);
+        // With enough tones of its own it needs no other, and without any none helps it.
+        if own.tones == 0 || own.tones >= ENOUGH_TONES {
+            self.search = own;
+            self.waiting.push_back(symbol);
+            return self.settle(true);
+        }
+        self.search.add(set, order, &symbol.1);
+        self.waiting.push_back(symbol);
+        let mut settled = self.drop_contradicted(set, order);
+        if self.search.tones >= TONES_OF_STREAM {
+            settled.extend(self.settle(true));
+        }
+        settled
+    }
+
+    /// No symbol comes any more.
+    pub fn finish(&mut self) -> Vec<Settled> {
+        let settled = match self.contradicted {
+            true => self.waiting.drain(..).map(alone).collect(),
+            false => self.settle(false),
+        };
+        *self = Finder::new();
+        settled
+    }
+
+    /// Hands those that wait back with their registers, or each alone if they give none.
+    fn settle(&mut self, checked: bool) -> Vec<Settled> {
+        let (tones, found) = (self.search.tones, self.search.found());
+        self.search = Search::new();
+        let draws = 2 * tones / self.waiting.len().max(1);
+        let symbols = self.waiting.drain(..);
+        match found {
+            Found::Straight(register) | Found::Turned(register) => symbols
+                .scan(register, |next, symbol| {
+                    let register = *next;
+                    *next = after_draws(register, draws);
+                    let found = FoundRegister {
+                        register,
+                        tones,
+                        checked,
+                    };
+                    Some(Settled {
+                        symbol,
+                        found: Some(found),
+                    })
+                })
+                .collect(),
+            Found::Open | Found::Neither => symbols.map(alone).collect(),
+        }
+    }
+
+    /// While no register fits all that wait, the oldest waits no longer.
+    fn drop_contradicted(&mut self, set: &TableSet, order: &Order) -> Vec<Settled> {
+        let mut dropped = Vec::new();
+        while self.search.found() == Found::Neither {
+            let Some(oldest) = self.waiting.pop_front() else {
+                break;
+            };
+            dropped.push(alone(oldest));
+            self.contradicted = true;
+            self.search = search_of(set, order, &self.waiting);
+        }
+        dropped
+    }
+}
+
+fn alone(symbol: Numbered) -> Settled {
+    Settled {
+        symbol,
+        found: None,
+    }
+}
+
+fn search_of(set: &TableSet, order: &Order, symbols: &VecDeque<Numbered>) -> Search {
+    let mut search = Search::new();
+    for (_, points) in symbols {
+        search.add(set, order, points);
+    }
+    search
+}
+
+fn after_draws(register: u32, draws: usize) -> u32 {
+    (0..draws).fold(register, |register, _| library::draw(register).reg)
+}

@@ -1,0 +1,34 @@
+//! Words that many answers share.
+
+/// "1 byte", "2 bytes"
+pub fn count(number: impl TryInto<u64>, thing: &str) -> String {
+    let number = number.try_into().unwrap_or(u64::MAX);
+    let plural = if number == 1 { "" } else { "s" };
+    format!("{number} {thing}{plural}")
+}
+
+/// "L = 5 bits in 1 byte"
+pub fn size_words(size: u32) -> String {
+    let bytes = size.div_ceil(8);
+    format!("L = {} in {}", count(size, "bit"), count(bytes, "byte"))
+}
+
+pub fn mode_word(coded: bool) -> &'static str {
+    if coded {
+        "coded"
+    } else {
+        "uncoded"
+    }
+}
+
+/// A name as a terminal may show it: what could steer the terminal is spelled out.
+pub fn shown(name: &str) -> String {
+    let spelled = |letter: char| {
+        if letter.is_control() {
+            letter.escape_default().to_string()
+        } else {
+            letter.to_string()
+        }
+    };
+    name.chars().map(spelled).collect()
+}

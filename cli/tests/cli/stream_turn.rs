@@ -1,0 +1,185 @@
+//! The register along a stream: carried, found, lost after a refusal or a gap; and no verdict that is
+//! wrong and sure.
+
+use crate::run::{frames, run_with, symbols, turned, Ran};
+
+const A: &str = "examples/bench-a.txt";
+
+fn verdicts(ran: &Ran) -> Vec<String> {
+    let lines = ran.out.lines().filter(|line| line.starts_with("symbol "));
+    let word = |line: &str| line.split(": ").nth(1).unwrap().to_string();
+    lines.map(word).collect()
+}
+
+#[test]
+fn no_verdict_on_a_stream_is_wrong_and_sure() {
+    // From the middle of a stream, with and without the register.
+    let straight = symbols(40, "4711");
+    for (symbols, word, status) in [
+        (straight.clone(), "Straight", 0),
+        (
+            straight.iter().map(|symbol| turned(symbol)).collect(),
+            "Turned",
+            32,
+        ),
+    ] {
+        let text = symbols.join("\n");
+        let ran = run_with(text.as_bytes(), &["turn", A, "-"]);
+        let sure = ["Straight", "Turned"];
+        assert_eq!(verdicts(&ran).len(), 40);
+        assert!(verdicts(&ran)
+            .iter()
+            .all(|verdict| !sure.contains(&verdict.as_str())));
+        for register in ["4711", "0x1267", "find"] {
+            let ran = run_with(text.as_bytes(), &["turn", A, "-", "--register", register]);
+            assert_eq!(verdicts(&ran), vec![word; 40], "{register}");
+            assert_eq!(ran.status, status);
+            let lower = word.to_lowercase();
+            let totals = format!("40 symbols: 40 {lower}; in all: {lower}");
+            assert_eq!(ran.out.lines().last(), Some(totals.as_str()));
+        }
+    }
+}
+
+#[test]
+fn agreement_adds_up_along_a_stream() {
+    let text = symbols(14, "8388607").join("\n");
+    let ran = run_with(text.as_bytes(), &["turn", A, "-"]);
+    let expected = [vec!["Perhaps straight"; 11], vec!["Straight"; 3]].concat();
+    assert_eq!(verdicts(&ran), expected);
+    assert!(ran
+        .out
+        .contains("2 monitored tones agree, as they would with a wrong register one time in 16"));
+    assert!(ran
+        .out
+        .contains("14 monitored tones agree, as with no other register"));
+}
+
+#[test]
+fn after_a_refused_symbol_nothing_is_sure() {
+    // Symbol 20 is damaged; the writer's register has gone on, the one handed back has not.
+    let mut symbols = symbols(40, "4711");
+    symbols[20] = symbols[20].replacen("1", "2", 1);
+    let text = symbols.join("\n");
+    let ran = run_with(text.as_bytes(), &["turn", A, "-", "--register", "4711"]);
+    let told = verdicts(&ran);
+    assert!(told[..20].iter().all(|verdict| verdict == "Straight"));
+    assert_eq!(told[20], "Neither");
+    assert!(told[21..]
+        .iter()
+        .all(|verdict| verdict != "Straight" && verdict != "Turned"));
+    // The register is found anew from those after it.
+    let ran = run_with(text.as_bytes(), &["turn", A, "-", "--register", "find"]);
+    let told = verdicts(&ran);
+    assert!(told.iter().all(|verdict| verdict != "Turned"), "{told:?}");
+    assert_eq!(told[20], "Neither");
+    assert!(
+        told[21..].iter().all(|verdict| verdict == "Straight"),
+        "{told:?}"
+    );
+    assert!(
+        told[..20].iter().all(|verdict| verdict == "Straight"),
+        "{told:?}"
+    );
+}
+
+#[test]
+fn read_finds_the_register_of_a_stream() {
+    let text = symbols(15, "4711").join("\n");
+    let ran = run_with(text.as_bytes(), &["read", A, "-", "--register=find"]);
+    assert_eq!(ran.status, 0, "{}", ran.out);
+    let read = ran
+        .out
+        .lines()
+        .filter(|line| !line.starts_with('#') && !line.is_empty());
+    assert_eq!(read.collect::<Vec<_>>(), frames(15));
+    assert!(ran
+        .out
+        .contains("# register before 4711, found from 15 monitored tones"));
+    let text = symbols(11, "4711").join("\n");
+    let ran = run_with(text.as_bytes(), &["read", A, "-", "--register=find"]);
+    assert_eq!(ran.status, 33);
+    let totals = "# 11 symbols: 0 done, 0 refused (first symbol 0), 11 without a register, register after not known";
+    assert_eq!(ran.out.lines().last(), Some(totals));
+}
+
+/// Symbols with gaps between: whatever their number, none is sure.
+#[test]
+fn symbols_that_do_not_follow_each_other_give_no_register() {
+    let all = symbols(150, "4711");
+    for (start, step) in [(0, 3), (1, 3), (0, 2), (5, 7)] {
+        let gaps: Vec<String> = all[start..].iter().step_by(step).cloned().collect();
+        for count in [12, 13, 20, gaps.len()] {
+            let text = gaps[..count.min(gaps.len())].join("\n");
+            let ran = run_with(text.as_bytes(), &["turn", A, "-", "--register=find"]);
+            let told = verdicts(&ran);
+            let unsure = |verdict: &String| verdict != "Straight" && verdict != "Turned";
+            assert!(told.iter().all(unsure), "{start} {step} {count}: {told:?}");
+        }
+    }
+}
+
+/// A gap in a long stream: what comes before it and after it is told, and nothing wrong.
+#[test]
+fn a_missing_symbol_is_noticed() {
+    let mut symbols = symbols(100, "4711");
+    symbols.remove(40);
+    let ran = run_with(
+        symbols.join("\n").as_bytes(),
+        &["turn", A, "-", "--register=find"],
+    );
+    let told = verdicts(&ran);
+    assert!(told.iter().all(|verdict| verdict != "Turned"), "{told:?}");
+    assert!(
+        told[..40].iter().all(|verdict| verdict == "Straight"),
+        "{told:?}"
+    );
+    assert!(
+        told[60..].iter().all(|verdict| verdict == "Straight"),
+        "{told:?}"
+    );
+}
+
+#[test]
+fn some_tones_of_several_symbols_are_a_perhaps() {
+    let straight = symbols(31, "4711");
+    for count in [11, 12, 31] {
+        let wrong: Vec<String> = straight[..count]
+            .iter()
+            .map(|symbol| turned(symbol))
+            .collect();
+        for (symbols, word) in [
+            (&straight[..count], "Perhaps straight"),
+            (&wrong, "Perhaps turned"),
+        ] {
+            let ran = run_with(
+                symbols.join("\n").as_bytes(),
+                &["turn", A, "-", "--register=find"],
+            );
+            let word = if count < 12 { "Cannot tell" } else { word };
+            assert_eq!(verdicts(&ran), vec![word; count]);
+            assert_eq!(ran.status, if count < 12 { 33 } else { 36 });
+            assert!(
+                count < 12
+                    || ran
+                        .out
+                        .contains("monitored tones of several symbols give if none")
+            );
+        }
+    }
+}
+
+/// The register that is given is the one before a symbol that is missing: some first symbols look
+/// turned by chance, but those after them contradict it.
+#[test]
+fn a_wrong_register_does_not_decide_on_a_stream() {
+    let mut deceived = 0;
+    for register in (1..=40).map(|number| (number * 209_701).to_string()) {
+        let text = symbols(12, &register)[1..].join("\n");
+        let words = ["turn", A, "-", "--register", &register];
+        let ran = run_with(text.as_bytes(), &words);
+        deceived += usize::from(verdicts(&ran)[0] == "Turned");
+        assert!(ran.status != 0 && ran.status != 32, "{}", ran.out);
+    }
+    assert!(deceived > 3, "{deceived}");
+}
