@@ -17,7 +17,7 @@ use Rattle.g9932.specs.Sizes.{unpack, bytesFor}
 use Rattle.g9932.proofs.Words.{length-bits, bits-add, take-bits, bits-mod}
 use Rattle.g9932.proofs.Packed.{length-unpack, unpack-append, take-unpack}
 use Rattle.frame.specs.declared.BitWriter.{BitWriter}
-use Rattle.frame.specs.Written.{written, Waits, count, Put, Framed}
+use Rattle.frame.specs.Written.{emptyWriter, written, Waits, count, Put, Framed}
 
 -- one byte of w more
 push : (l : List ℕ) (p : List Bool) (i j m w b : ℕ) → i < length l → j ≡ i + 1 → b ≡ w / 2 ^ m % 256 → unpack (take i l) ≡ p ++ bits m w
@@ -184,3 +184,11 @@ module _ (w : BitWriter) (l l' : List ℕ) (h : w .next ≤ length l) (h' : w .n
         starts = put-bits;
         clean = rw (eq-eqb _ _ b, unused) (someOne-take (8 * bytesFor (length (written w l)) - length (written w l)) (bits (8 - w .fill) 0) (someOne-zeros (8 - w .fill)));
       }
+
+-- nothing put yet
+pub written-empty : (l : List ℕ) → written emptyWriter l ≡ []
+unfolding written unpack bits
+written-empty l = refl
+
+pub empty-waits : Waits emptyWriter
+empty-waits = record { few = omega arith; small = omega arith }

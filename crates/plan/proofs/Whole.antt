@@ -1,27 +1,26 @@
 -- The lists as filed are those of the plan: t' has the tones that do not share, in t order, then those that do.
-use Prim.Native.Nat.{ℕ, zero, suc, _+_, _-_, _*_, _/_, _%_, _≤_, _<_}
+use Prim.Native.Nat.{ℕ, zero, suc, _+_, _-_, _*_, _/_, _%_, _≤_}
 use mathlib.Core.Bool.{Bool, true, false, not, cond}
 use mathlib.Core.List.{List, [], _∷_, _++_, map, map-append, append-nil}
 use mathlib.Core.Path.{_≡_, refl, sym, ap, ap₂, _∙_}
 use native.Mathlib.Omega.{arith}
-use borrow.Author.Tests.{eqb-true, eqb-false, ltb-true, ltb-false, le-leb, lt-leb}
+use borrow.Author.Tests.{eqb-true, ltb-true, ltb-false, le-leb}
 use lib.Dec.{ltb, leb}
 use lib.ListN.{length, take, replicate, length-append, length-replicate, length-map}
 use Rattle.constellation.specs.Layouts.{layoutOf, classLayout}
 use Rattle.g9932.proofs.Counts.{filter-append, filter-small, two-big, two-loaded, two-not-one}
 use Rattle.g9932.proofs.Reordering.{length-order}
 use Rattle.g9932.specs.Bits.{weight}
-use Rattle.g9932.specs.Order.{consIf, filter, count, isOne, bitsOf, oneBit, others, singles, ones, reorderedTones, entries}
-use Rattle.g9932.specs.Sizes.{Tables, tables, entry, toneOf, classBy}
-use Rattle.g9932.specs.Symbol.{load, isMonitored, classesOf}
+use Rattle.g9932.specs.Order.{consIf, filter, isOne, bitsOf, oneBit, others, singles, ones, reorderedTones, entries}
+use Rattle.g9932.specs.Sizes.{tables, entry, toneOf, classBy}
+use Rattle.g9932.specs.Symbol.{load, isMonitored}
 use Rattle.g9932.specs.declared.Class.{Class}
 use Rattle.g9932.specs.declared.Class.the-variants.{Data, Monitored, Silent}
 use Rattle.g9932.specs.declared.Mode.{Mode}
 use Rattle.g9932.specs.declared.Mode.the-variants.{Uncoded, Coded}
-use Rattle.plan.specs.Plan.{leastOwn, sharing, placesWhere, everySecond, layoutsIn, sharedFrom, entriesIn, placesIn, monitoredIn, PlanIs, classesBy, isPlaced, only, Filing, Shares}
-use Rattle.plan.specs.declared.Sizes.{Sizes}
+use Rattle.plan.specs.Plan.{leastOwn, sharing, placesWhere, everySecond, sharedFrom, entriesIn, PlanIs, classesBy, isPlaced, only, Filing, Shares}
 use Rattle.plan.specs.declared.filing.Cursors.{Cursors}
-use Rattle.plan.proofs.Steps.{places-append, only-append}
+use Rattle.plan.proofs.Steps.{places-append}
 
 -- the class of a tone, by its bits
 load-class : (b g : ℕ) → load (toneOf b g .class) ≡ b

@@ -1,6 +1,12 @@
-pub mod Fitting
+pub mod LabelPlaces
+pub mod PlanLabels
+pub mod OneTone
+pub mod FillerPlaces
+pub mod SymbolPoints
+pub mod WritePoints
+pub mod ReadPlaces
 pub mod Answers
-pub mod Writing
+pub mod TablePlan
 pub mod Points
-pub mod Undoing
+pub mod WholeSymbol
 pub mod RoundTrip

@@ -12,7 +12,7 @@ use Rattle.g9932.specs.Sizes.{Tables, bytesFor}
 use Rattle.g9932.specs.Refusals.{refused, tableVerdict}
 use Rattle.g9932.specs.Filler.{registerAfter}
 use Rattle.g9932.specs.Symbol.{classesOf, pairsIn, sizeOf, writtenPoints, firstMonitored}
-use Rattle.g9932.specs.Answers.{onDone, Report, reportOf, reportBy, encodeVerdict, Encoded, encodeOf, Encodes, Read, readOf, Reads}
+use Rattle.g9932.specs.Answers.{onDone, Report, reportOf, reportBy, encodeVerdict, Encoded, encodeOf, Encodes, Read, readOf, Reads, encodeInputs}
 use Rattle.g9932.specs.declared.Answer.{Answer}
 use Rattle.g9932.specs.declared.Answer.the-variants.{Done, Refused as NotDone}
 use Rattle.g9932.specs.declared.Found.the-variants.{At, Nothing}
@@ -24,7 +24,6 @@ use Rattle.guarantees.specs.Words.{AcceptedFrame, RightLength, Ready, nonZero, 
 use Rattle.guarantees.proofs.Guarantees as Guarantees
 use Rattle.guarantees.proofs.HalfTurn as HalfTurn
 use Rattle.symbol.proofs.Answers.{no-room}
-use Rattle.symbol.specs.Encoding.{encodeLate}
 
 -- an answer that reports as Done does is that one
 same-done : (a : Answer) (l s : ℕ) → reportOf a ≡ reportOf (Done l s) → a ≡ Done l s
@@ -79,16 +78,16 @@ module _ (T : Tables) (f : List ℕ) (r : ℕ) (xs ys : List ℤ) (l s : ℕ) (X
     (bytes : (k : ℕ) → k < length f → getD f k 0 < 256) (e : Encodes T f r xs ys (Done l s) X Y) where
   -- nothing was refused, so tables, register, lists and frame are as the guarantees suppose, L is that of the tables, and s is the
   -- register after the draws
-  none : (tableVerdict T .number ≡ 0) × (encodeLate (sizeOf T) (length (T .tones)) (length xs) (length ys) f r .number ≡ 0)
-  unfolding encodeVerdict encodeLate reportBy
+  none : (tableVerdict T .number ≡ 0) × (encodeInputs (sizeOf T) (length (T .tones)) (length xs) (length ys) f r .number ≡ 0)
+  unfolding encodeVerdict encodeInputs reportBy
   none = and-none (tableVerdict T) _ (ap (λ (p : Report). p .verdict .number) (sym (e .answer)))
 
   ok : AcceptedFrame T f
-  unfolding encodeLate
+  unfolding encodeInputs
   ok = record { bytes = bytes; passes = test-none 10 _ _ (test-none 9 _ _ (none .1) .1) .0 }
 
   sized : (f₀ : List ℕ) → length f₀ ≡ bytesFor (sizeOf T) → Ready T r xs ys f₀
-  unfolding encodeLate
+  unfolding encodeInputs
   sized f₀ n =
       let a = test-none 9 _ _ (none .1) in
       let p = no-room (length xs) (length ys) (length (T .tones)) (a .0) in

@@ -1,2 +1,3 @@
-pub mod Encoding
+-- What the parts of a symbol ask and do, between the tables' plan and the answers.
+pub mod Writing
 pub mod Reading

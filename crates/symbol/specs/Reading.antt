@@ -1,26 +1,31 @@
--- What reading does after the tables are checked and re-ordered.
-use Prim.Native.Nat.{ℕ}
-use mathlib.Core.Bool.{_||_}
-use mathlib.Core.List.{List}
+-- Points to labels by place, and these to a frame.
+use Prim.Native.Nat.{ℕ, _+_, _*_, _^_, _≤_, _<_}
+use mathlib.Core.Bool.{Bool}
+use mathlib.Core.List.{List, map}
 use mathlib.Core.Path.{_≡_}
 use lib.IntN.{ℤ}
 use lib.ListN.{length}
-use Rattle.g9932.specs.Sizes.{Tables, bytesFor, pack, Point}
-use Rattle.g9932.specs.Refusals.{Verdict, accepted, refused, refuseIf, roomTest, seedTest, tableVerdict}
-use Rattle.g9932.specs.Order.{entries}
+use Rattle.frame.specs.Labels.{bitsOfLabels}
+use Rattle.frame.specs.Written.{Framed}
+use Rattle.g9932.specs.Answers.{onDone, reportOf, reportBy, breakIn, frameIn, pointsVerdict}
+use Rattle.g9932.specs.Bits.{first}
 use Rattle.g9932.specs.Filler.{registerAfter}
-use Rattle.g9932.specs.Symbol.{orderOf, bitsIn, classesOf, sizeOf, readingIn}
-use Rattle.g9932.specs.Answers.{onDone, reportOf, reportBy, frameIn, pointsVerdict}
+use Rattle.g9932.specs.Order.{pairsOf, sum}
+use Rattle.g9932.specs.Refusals.{Verdict, refused, accepted}
+use Rattle.g9932.specs.Sizes.{Tables, entry, Point, points, bytesFor, pack}
+use Rattle.g9932.specs.Symbol.{load, classesOf, sizeOf, offgridTest, monitorTest, gatherBits, readingIn}
+use Rattle.g9932.specs.Trellis.{Reading, frame, zeroState, readPairs, takenTotal}
 use Rattle.g9932.specs.declared.Answer.{Answer}
+use Rattle.g9932.specs.declared.Class.{Class}
 use Rattle.g9932.specs.declared.Found.{Found}
 use Rattle.g9932.specs.declared.Found.the-variants.{At, Nothing}
+use Rattle.g9932.specs.declared.Mode.{Mode}
+use Rattle.g9932.specs.declared.Mode.the-variants.{Uncoded, Coded}
+use Rattle.plan.specs.Classes.{PlanOf}
+use Rattle.symbol.specs.declared.reading.PlacesRead.{PlacesRead}
+use Rattle.trellis.specs.Coding.{Wide}
 
--- refusals 10 and 12, for a frame of `size` bits and NSC tones
-unfoldable pub readLate : ℕ → ℕ → ℕ → ℕ → ℕ → ℕ → Verdict
-readLate size nsc lentX lentY lentFrame r =
-    refuseIf 10 (roomTest lentX nsc || roomTest lentY nsc || roomTest lentFrame (bytesFor size))
-    (refuseIf 12 (seedTest r)
-    (accepted size))
+-- ---- the places
 
 -- 13 by the first place off its constellation, then 14 by the first whose filler bits it hasn't
 abbrev pub placesVerdict : Found → Found → Verdict
@@ -28,29 +33,85 @@ placesVerdict (At k) m = refused 13 k
 placesVerdict Nothing (At k) = refused 14 k
 placesVerdict Nothing Nothing = accepted 0
 
--- ---- everything in order but the points
+pub record PlacesOf (cs : List Class) (from : ℕ) (es ps ms layouts labels : List ℕ) (xs ys : List ℤ) : Type 0 where
+  pub plan : PlanOf cs from es ps ms layouts
+  pub labelsLength : length labels ≡ length cs
+  pub xsLength : length xs ≡ length cs
+  pub ysLength : length ys ≡ length cs
 
--- uncoded
-pub record PlainReady (T : Tables) (size : ℕ) (xs ys : List ℤ) (frame order held : List ℕ) : Type 0 where
-  pub tables : tableVerdict T .number ≡ 0
-  pub sizeIs : size ≡ sizeOf T
-  pub orderIs : order ≡ orderOf T
-  pub xsLength : length xs ≡ length (T .tones)
-  pub ysLength : length ys ≡ length (T .tones)
-  pub frameLength : length frame ≡ bytesFor (sizeOf T)
+abbrev pub PlaceNeeds : List ℕ → List ℕ → List ℕ → List ℤ → List ℤ → Type 0
+PlaceNeeds ms layouts labels xs ys = (cs : List Class) × (from : ℕ) × (es : List ℕ) × (ps : List ℕ) × PlacesOf cs from es ps ms layouts labels xs ys
+
+-- labels by place: those of the tones' bits, none larger than its tone allows
+pub record ToneLabels (cs : List Class) (d : List Bool) (labels : List ℕ) : Type 0 where
+  pub bitsAre : bitsOfLabels (map load cs) labels ≡ d
+  pub small : (k : ℕ) → k < length cs → 1 ≤ entry (map load cs) k → entry labels k < 2 ^ entry (map load cs) k
+  pub labelsLength : length labels ≡ length cs
+
+pub record ReadsPlaces (cs : List Class) (r : ℕ) (q : List Point) (t : PlacesRead) (labels : List ℕ) : Type 0 where
+  pub offgridIs : t .offgrid ≡ first (offgridTest cs q) (length cs)
+  pub monitorIs : t .offgrid ≡ Nothing → t .monitor ≡ first (monitorTest r cs q) (length cs)
+  pub registerIs : t .offgrid ≡ Nothing → t .register ≡ registerAfter r cs
+  pub labelsAre : t .offgrid ≡ Nothing → ToneLabels cs (gatherBits cs q) labels
+
+abbrev pub ReadsAll : List ℕ → List ℕ → List ℕ → List ℤ → List ℤ → ℕ → PlacesRead → List ℕ → Type 0
+ReadsAll ms layouts labels xs ys r t after =
+    (cs : List Class) (from : ℕ) (es ps : List ℕ) → PlacesOf cs from es ps ms layouts labels xs ys → ReadsPlaces cs r (points xs ys) t after
+
+-- ---- the frame
+
+-- the reading of the sent bits d, uncoded and coded
+abbrev pub readingBy : Mode → List ℕ → List Bool → Reading
+readingBy Uncoded es d = frame d
+readingBy Coded es d = readPairs zeroState (pairsOf es) d
+
+-- what each mode asks of the entries and of a buffer of n bytes
+abbrev pub FrameRoom : Mode → List ℕ → ℕ → Type 0
+FrameRoom Uncoded es n = ((k : ℕ) → entry es k ≤ 15) × (sum es + 64 ≤ 8 * n)
+FrameRoom Coded es n = Wide es × (4 ≤ length es) × (length es ≤ 4096) × (takenTotal (pairsOf es) + 64 ≤ 8 * n)
+
+pub record FrameOf (m : Mode) (cs : List Class) (d : List Bool) (from : ℕ) (es ps ms layouts labels held : List ℕ) : Type 0 where
+  pub plan : PlanOf cs from es ps ms layouts
+  pub labelled : ToneLabels cs d labels
+  pub room : FrameRoom m es (length held)
+
+abbrev pub FrameNeeds : Mode → ℕ → List ℕ → List ℕ → List ℕ → List ℕ → Type 0
+FrameNeeds m from es ps labels held = (cs : List Class) × (d : List Bool) × (ms : List ℕ) × (layouts : List ℕ) × FrameOf m cs d from es ps ms layouts labels held
+
+pub record ReadsFrame (m : Mode) (es : List ℕ) (d : List Bool) (broken : Found) (after : List ℕ) : Type 0 where
+  pub brokenIs : broken ≡ breakIn (readingBy m es d)
+  pub framed : broken ≡ Nothing → Framed (frameIn (readingBy m es d)) after
+
+abbrev pub ReadsFrames : Mode → ℕ → List ℕ → List ℕ → List ℕ → List ℕ → Found → List ℕ → Type 0
+ReadsFrames m from es ps labels held broken after =
+    (cs : List Class) (d : List Bool) (ms layouts : List ℕ) → FrameOf m cs d from es ps ms layouts labels held → ReadsFrame m es d broken after
+
+-- ---- a whole symbol
+
+pub record ReadOf (T : Tables) (m : Mode) (from size : ℕ) (es ps ms layouts : List ℕ) (xs ys : List ℤ) (labels held f : List ℕ) : Type 0 where
+  pub plan : PlanOf (classesOf T) from es ps ms layouts
+  pub tonesAre : length (classesOf T) ≡ length (T .tones)
+  pub labelsLength : length labels ≡ length (classesOf T)
+  pub xsLength : length xs ≡ length (classesOf T)
+  pub ysLength : length ys ≡ length (classesOf T)
+  pub room : FrameRoom m es (length held)
   pub heldLength : length held ≡ 7688
+  pub sizeIs : size ≡ sizeOf T
+  pub frameLength : length f ≡ bytesFor (sizeOf T)
+  pub sizeMost : sizeOf T ≤ 61_440
+  pub readings : (q : List Point) → readingBy m es (gatherBits (classesOf T) q) ≡ readingIn T q
+  pub whole : (q : List Point) → first (offgridTest (classesOf T) q) (length (T .tones)) ≡ Nothing → length q ≡ length (classesOf T)
+      → breakIn (readingIn T q) ≡ Nothing → length (frameIn (readingIn T q)) ≡ sizeOf T
 
--- coded: es is b' past its zeros
-pub record CodedReady (T : Tables) (size : ℕ) (xs ys : List ℤ) (frame order es labels held : List ℕ) : Type 0 where
-  pub plain : PlainReady T size xs ys frame order held
-  pub entriesAre : es ≡ entries (T .bits) (T .tones)
-  pub labelsLength : length labels ≡ 4096
-
-pub record PointsReady (T : Tables) (size : ℕ) (xs ys : List ℤ) (frame order entries labels held : List ℕ) : Type 0 where
-  pub plain : PlainReady T size xs ys frame order held
-  pub entriesAre : entries ≡ bitsIn T
-  pub labelsLength : length labels ≡ 4096
+-- they are the lists of some tables' plan
+abbrev pub ReadNeeds : Mode → ℕ → ℕ → List ℕ → List ℕ → List ℕ → List ℕ → List ℤ → List ℤ → List ℕ → List ℕ → List ℕ → Type 0
+ReadNeeds m from size es ps ms layouts xs ys labels held f = (T : Tables) × ReadOf T m from size es ps ms layouts xs ys labels held f
 
 pub record ReadsPoints (T : Tables) (q : List Point) (r : ℕ) (before : List ℕ) (a : Answer) (after : List ℕ) : Type 0 where
   pub answer : reportOf a ≡ reportBy (pointsVerdict T q r) r (registerAfter r (classesOf T))
   pub frameHolds : after ≡ onDone (pointsVerdict T q r) (pack (frameIn (readingIn T q))) before
+
+-- whatever tables they are
+abbrev pub ReadsSymbol : Mode → ℕ → ℕ → List ℕ → List ℕ → List ℕ → List ℕ → List ℤ → List ℤ → List ℕ → List ℕ → List ℕ → ℕ → Answer → List ℕ → Type 0
+ReadsSymbol m from size es ps ms layouts xs ys labels held f r a after =
+    (T : Tables) → ReadOf T m from size es ps ms layouts xs ys labels held f → ReadsPoints T (points xs ys) r f a after

@@ -21,8 +21,10 @@ pub fn encode(
 ) -> Answer
     ensures { λ r. ⌜ Encodes (tables mode (now (bits .entry)) (now (gains .entry)) (now (tones .entry))) (now (frame .entry)) register (now (xs .entry)) (now (ys .entry)) r (now (xs .exit)) (now (ys .exit)) ⌝ }
 {
-    let mut order = [0u16; 4096];
+    let mut layouts = [0u16; 4096];
     let mut entries = [0u8; 4096];
+    let mut places = [0u16; 4096];
+    let mut monitored = [0u16; 4096];
     let mut labels = [0u16; 4096];
     encoding::encode_through(
         mode,
@@ -33,8 +35,10 @@ pub fn encode(
         register,
         xs,
         ys,
-        &mut order,
+        &mut layouts,
         &mut entries,
+        &mut places,
+        &mut monitored,
         &mut labels,
     )
 }
@@ -54,8 +58,10 @@ pub fn read(
 ) -> Answer
     ensures { λ r. ⌜ Reads (tables mode (now (bits .entry)) (now (gains .entry)) (now (tones .entry))) (now (xs .entry)) (now (ys .entry)) register (now (frame .entry)) r (now (frame .exit)) ⌝ }
 {
-    let mut order = [0u16; 4096];
+    let mut layouts = [0u16; 4096];
     let mut entries = [0u8; 4096];
+    let mut places = [0u16; 4096];
+    let mut monitored = [0u16; 4096];
     let mut labels = [0u16; 4096];
     let mut held = [0u8; 7688];
     reading::read_through(
@@ -67,8 +73,10 @@ pub fn read(
         ys,
         register,
         frame,
-        &mut order,
+        &mut layouts,
         &mut entries,
+        &mut places,
+        &mut monitored,
         &mut labels,
         &mut held,
     )

@@ -1,21 +1,21 @@
-// Reading, after the tables are checked and re-ordered.
+// Reading, after the tables are checked and planned.
 ghost use mathlib.Core.Path.{_≡_};
 ghost use lib.ListN.{length};
-ghost use Rattle.g9932.specs.Sizes.{tables, points};
-ghost use Rattle.g9932.specs.Answers.{verdictOf, Reads};
-ghost use Rattle.g9932.specs.declared.Mode.the-variants.{Uncoded, Coded};
-ghost use Rattle.tables.specs.Ordered.{Arrays};
-ghost use Rattle.symbol.specs.Reading.{readLate, placesVerdict, PlainReady, CodedReady, PointsReady, ReadsPoints};
-use super::encoding::first_entry;
+ghost use Rattle.g9932.specs.Sizes.{tables};
+ghost use Rattle.g9932.specs.Answers.{verdictOf, readInputs, Reads};
+ghost use Rattle.plan.specs.Plan.{Arrays};
+ghost use Rattle.symbol.specs.Reading.{placesVerdict, PlaceNeeds, ReadsAll, FrameNeeds, ReadsFrames, ReadNeeds, ReadsSymbol};
+use frame::BitWriter;
 use g9932::Answer;
 use g9932::Checked;
 use g9932::Found;
 use g9932::Mode;
 use g9932::Place;
 use g9932::Refusal;
+use plan::Planned;
 
 // Refusals 10 and 12 of reading.
-fn read_checks(
+fn check_inputs(
     size: usize,
     nsc: usize,
     x_len: usize,
@@ -23,7 +23,7 @@ fn read_checks(
     frame_len: usize,
     register: u32,
 ) -> Checked
-    ensures { λ r. ⌜ verdictOf r ≡ readLate size nsc «x_len» «y_len» «frame_len» register ⌝ }
+    ensures { λ r. ⌜ verdictOf r ≡ readInputs size nsc «x_len» «y_len» «frame_len» register ⌝ }
 {
     if x_len != nsc {
         return Checked::Refused(Refusal::Room);
@@ -40,6 +40,44 @@ fn read_checks(
     Checked::Accepted(size)
 }
 
+// The places read: the first ones that 13 and 14 refuse, and the register after the draws.
+pub struct PlacesRead {
+    pub offgrid: Found,
+    pub monitor: Found,
+    pub register: u32,
+}
+
+// The labels of the points by place, where 13 refuses none, and the filler bits held against the register.
+fn read_places(
+    monitored: &[u16],
+    layouts: &[u16],
+    xs: &[i16],
+    ys: &[i16],
+    register: u32,
+    labels: &mut [u16],
+) -> PlacesRead
+    requires { ⌜ PlaceNeeds (now monitored) (now layouts) (now labels) (now xs) (now ys) ⌝ }
+    ensures { λ r. ⌜ ReadsAll (now (monitored .entry)) (now (layouts .entry)) (now (labels .entry)) (now (xs .entry)) (now (ys .entry)) register r (now (labels .exit)) ⌝ }
+{
+    let offgrid = mapper::read::demap_points(layouts, xs, ys, labels);
+    match offgrid {
+        Found::At(k) => PlacesRead {
+            offgrid: Found::At(k),
+            monitor: Found::Nothing,
+            register,
+        },
+        Found::Nothing => {
+            let f = mapper::read::check_filler(monitored, register, labels);
+            let monitor = f.monitor;
+            PlacesRead {
+                offgrid: Found::Nothing,
+                monitor,
+                register: f.register,
+            }
+        }
+    }
+}
+
 // 13 at the first place off its constellation, or else 14 at the first whose filler bits it hasn't.
 fn refused_place(offgrid: Found, monitor: Found) -> Checked
     ensures { λ r. ⌜ verdictOf r ≡ placesVerdict offgrid monitor ⌝ }
@@ -53,68 +91,68 @@ fn refused_place(offgrid: Found, monitor: Found) -> Checked
     Checked::Accepted(0)
 }
 
-// Uncoded: 13 at every place, 14 at every place; or else writes the frame, whose bits are the sent bits.
-fn read_plain(
-    bits: &[u8],
-    gains: &[u16],
-    tones: &[u16],
-    xs: &[i16],
-    ys: &[i16],
-    register: u32,
-    size: usize,
-    frame: &mut [u8],
-    order: &[u16],
+// The frame of labels by place, at the start of a buffer, or else the first pair that breaks the code. From place `shared` on two
+// tones share a label.
+fn read_frame(
+    mode: Mode,
+    shared: usize,
+    entries: &[u8],
+    places: &[u16],
+    labels: &mut [u16],
     held: &mut [u8],
-) -> Answer
-    requires { ⌜ PlainReady (tables Uncoded (now bits) (now gains) (now tones)) size (now xs) (now ys) (now frame) (now order) (now held) ⌝ }
-    ensures { λ r. ⌜ ReadsPoints (tables Uncoded (now (bits .entry)) (now (gains .entry)) (now (tones .entry))) (points (now (xs .entry)) (now (ys .entry))) register (now (frame .entry)) r (now (frame .exit)) ⌝ }
+) -> Found
+    requires { ⌜ FrameNeeds mode shared (now entries) (now places) (now labels) (now held) ⌝ }
+    ensures { λ r. ⌜ ReadsFrames mode shared (now (entries .entry)) (now (places .entry)) (now (labels .entry)) (now (held .entry)) r (now (held .exit)) ⌝ }
 {
-    let t = mapper::read::read_tones(bits, gains, order, xs, ys, register, held);
-    let after = t.register;
-    let writer = t.writer;
-    let offgrid = t.offgrid;
-    let monitor = t.monitor;
-    let places = refused_place(offgrid, monitor);
-    match places {
-        Checked::Refused(refusal) => Answer::Refused { refusal, register },
-        Checked::Accepted(_) => {
-            writer.finish(held);
-            frame::copy(held, frame);
-            Answer::Done {
-                size,
-                register: after,
+    mapper::read::join_shared(labels, shared);
+    match mode {
+        Mode::Uncoded => {
+            let w = mapper::read::collect_labels(BitWriter::new(), entries, places, labels, held);
+            w.finish(held);
+            Found::Nothing
+        }
+        Mode::Coded => {
+            let p = trellis::read::read_labels(BitWriter::new(), labels, entries, places, held);
+            let broken = p.broken;
+            let w = p.writer;
+            if let Found::At(k) = broken {
+                return Found::At(k);
             }
+            w.finish(held);
+            Found::Nothing
         }
     }
 }
 
-// Coded: 13 at every place, 14 at every place, then 15; or else writes the frame. `entries` is b' past its zeros.
-fn read_coded(
-    bits: &[u8],
-    gains: &[u16],
-    tones: &[u16],
+// Refusals 13 to 15 of a symbol's points, by the plan of its tables; or else writes the frame. The frame is held in a buffer until it
+// is known to be whole.
+fn read_symbol(
+    mode: Mode,
+    shared: usize,
+    size: usize,
+    entries: &[u8],
+    places: &[u16],
+    monitored: &[u16],
+    layouts: &[u16],
     xs: &[i16],
     ys: &[i16],
     register: u32,
-    size: usize,
-    frame: &mut [u8],
-    order: &[u16],
-    entries: &[u8],
     labels: &mut [u16],
     held: &mut [u8],
+    frame: &mut [u8],
 ) -> Answer
-    requires { ⌜ CodedReady (tables Coded (now bits) (now gains) (now tones)) size (now xs) (now ys) (now frame) (now order) (now entries) (now labels) (now held) ⌝ }
-    ensures { λ r. ⌜ ReadsPoints (tables Coded (now (bits .entry)) (now (gains .entry)) (now (tones .entry))) (points (now (xs .entry)) (now (ys .entry))) register (now (frame .entry)) r (now (frame .exit)) ⌝ }
+    requires { ⌜ ReadNeeds mode shared size (now entries) (now places) (now monitored) (now layouts) (now xs) (now ys) (now labels) (now held) (now frame) ⌝ }
+    ensures { λ r. ⌜ ReadsSymbol mode shared size (now (entries .entry)) (now (places .entry)) (now (monitored .entry)) (now (layouts .entry)) (now (xs .entry)) (now (ys .entry)) (now (labels .entry)) (now (held .entry)) (now (frame .entry)) register r (now (frame .exit)) ⌝ }
 {
-    let decoded = mapper::collect::read_labels(bits, gains, order, entries, xs, ys, register, labels);
-    let drawn = decoded.register;
-    let offgrid = decoded.offgrid;
-    let monitor = decoded.monitor;
-    let places = refused_place(offgrid, monitor);
-    match places {
+    let t = read_places(monitored, layouts, xs, ys, register, labels);
+    let offgrid = t.offgrid;
+    let monitor = t.monitor;
+    let after = t.register;
+    let refused = refused_place(offgrid, monitor);
+    match refused {
         Checked::Refused(refusal) => Answer::Refused { refusal, register },
         Checked::Accepted(_) => {
-            let broken = trellis::read::read_labels(labels, entries, held);
+            let broken = read_frame(mode, shared, entries, places, labels, held);
             match broken {
                 Found::At(k) => Answer::Refused {
                     refusal: Refusal::Trellis(k),
@@ -124,7 +162,7 @@ fn read_coded(
                     frame::copy(held, frame);
                     Answer::Done {
                         size,
-                        register: drawn,
+                        register: after,
                     }
                 }
             }
@@ -132,62 +170,8 @@ fn read_coded(
     }
 }
 
-// Reads the points of tables in order.
-fn read_symbol(
-    mode: Mode,
-    bits: &[u8],
-    gains: &[u16],
-    tones: &[u16],
-    xs: &[i16],
-    ys: &[i16],
-    register: u32,
-    size: usize,
-    frame: &mut [u8],
-    order: &[u16],
-    entries: &[u8],
-    labels: &mut [u16],
-    held: &mut [u8],
-) -> Answer
-    requires { ⌜ PointsReady (tables mode (now bits) (now gains) (now tones)) size (now xs) (now ys) (now frame) (now order) (now entries) (now labels) (now held) ⌝ }
-    ensures { λ r. ⌜ ReadsPoints (tables mode (now (bits .entry)) (now (gains .entry)) (now (tones .entry))) (points (now (xs .entry)) (now (ys .entry))) register (now (frame .entry)) r (now (frame .exit)) ⌝ }
-{
-    match mode {
-        Mode::Uncoded => {
-            read_plain(
-                bits,
-                gains,
-                tones,
-                xs,
-                ys,
-                register,
-                size,
-                frame,
-                order,
-                held,
-            )
-        }
-        Mode::Coded => {
-            let start = first_entry(entries);
-            read_coded(
-                bits,
-                gains,
-                tones,
-                xs,
-                ys,
-                register,
-                size,
-                frame,
-                order,
-                &entries[start..],
-                labels,
-                held,
-            )
-        }
-    }
-}
-
-// Reads through four lent arrays: t', b', the labels of its entries, and the frame before it is known to be whole. Called by proved
-// code only.
+// Reads through the lists of a plan, the labels by place, and the frame before it is known to be whole, in six lent arrays. Called by
+// proved code only.
 pub fn read_through(
     mode: Mode,
     bits: &[u8],
@@ -197,37 +181,50 @@ pub fn read_through(
     ys: &[i16],
     register: u32,
     frame: &mut [u8],
-    order: &mut [u16],
+    layouts: &mut [u16],
     entries: &mut [u8],
+    places: &mut [u16],
+    monitored: &mut [u16],
     labels: &mut [u16],
     held: &mut [u8],
 ) -> Answer
-    requires { ⌜ Arrays (now order) (now entries) × ((length (now labels) ≡ 4096) × (length (now held) ≡ 7688)) ⌝ }
+    requires { ⌜ Arrays (now layouts) (now entries) (now places) (now monitored) × ((length (now labels) ≡ 4096) × (length (now held) ≡ 7688)) ⌝ }
     ensures { λ r. ⌜ Reads (tables mode (now (bits .entry)) (now (gains .entry)) (now (tones .entry))) (now (xs .entry)) (now (ys .entry)) register (now (frame .entry)) r (now (frame .exit)) ⌝ }
 {
     let n = tones.len();
-    let checked = tables::order_tables(mode, bits, gains, tones, order, entries);
-    match checked {
-        Checked::Refused(refusal) => Answer::Refused { refusal, register },
-        Checked::Accepted(size) => {
-            let late = read_checks(size, n, xs.len(), ys.len(), frame.len(), register);
-            match late {
+    let planned = plan::plan_tables(
+        mode,
+        bits,
+        gains,
+        tones,
+        layouts,
+        entries,
+        places,
+        monitored,
+    );
+    match planned {
+        Planned::Refused(refusal) => Answer::Refused { refusal, register },
+        Planned::Ready(p) => {
+            let inputs = check_inputs(p.size, n, xs.len(), ys.len(), frame.len(), register);
+            match inputs {
                 Checked::Refused(refusal) => Answer::Refused { refusal, register },
-                Checked::Accepted(l) => {
+                Checked::Accepted(size) => {
+                    let e = p.entries;
+                    let m = p.monitored;
                     read_symbol(
                         mode,
-                        bits,
-                        gains,
-                        tones,
+                        p.shared,
+                        size,
+                        &entries[..e],
+                        &places[..e],
+                        &monitored[..m],
+                        &layouts[..n],
                         xs,
                         ys,
                         register,
-                        l,
-                        frame,
-                        &order[..n],
-                        &entries[..n],
-                        labels,
+                        &mut labels[..n],
                         held,
+                        frame,
                     )
                 }
             }

@@ -1,4 +1,4 @@
--- `refused_place` meets its contract.
+-- `symbol::reading::refused_place` meets its contract, by what was found.
 use borrow.Author.Needs.{needs}
 use Rattle.symbol.proofs.reading.refused_place.Statement.{statement}
 use Rattle.symbol.proofs.reading.refused_place.Tie as tie

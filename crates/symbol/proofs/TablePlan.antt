@@ -1,0 +1,176 @@
+-- Accepted tables and their plan: what writing and reading a symbol ask, in either mode, and that the sent bits are document 01's.
+use Prim.Native.Nat.{ℕ, zero, suc, _+_, _/_, _%_, _≤_}
+use mathlib.Core.Bool.{Bool, true, false}
+use mathlib.Core.List.{List, [], _∷_, _++_, append-nil}
+use mathlib.Core.Path.{_≡_, refl, sym, ap, _∙_}
+use native.Mathlib.Omega.{arith}
+use borrow.Author.Tests.{leb-false}
+use lib.Dec.{leb}
+use lib.ListN.{length, take, replicate}
+use Rattle.frame.specs.Labels.{Placed}
+use Rattle.g9932.proofs.Accepted.{Accepted, accepted-tables}
+use Rattle.g9932.proofs.Packed.{frame-length}
+use Rattle.g9932.proofs.Prefixes.{encode-take}
+use Rattle.g9932.specs.Order.{Pair, consIf, filter, sum, bitsOf, entries as codedEntries, pairsOf, reorderedTones}
+use Rattle.g9932.specs.Refusals.{tableVerdict, frameTest}
+use Rattle.g9932.specs.Sizes.{Tables, entry, Point, frameBits, unpack, bytesFor}
+use Rattle.g9932.specs.Symbol.{classesOf, pairsIn, sizeOf, sentIn, gatherBits, readingIn}
+use Rattle.g9932.specs.Trellis.{zeroState, encodePairs, readPairs, sentOf, readingOf, takenTotal}
+use Rattle.g9932.specs.declared.Mode.{Mode}
+use Rattle.g9932.specs.declared.Mode.the-variants.{Uncoded, Coded}
+use Rattle.guarantees.proofs.Sent.{load-classes, size-uncoded}
+use Rattle.plan.proofs.Classes.{plan-of}
+use Rattle.plan.specs.Classes.{PlanOf}
+use Rattle.plan.specs.Plan.{leastOwn, sharing, PlanIs}
+use Rattle.plan.specs.declared.Sizes.{Sizes}
+use Rattle.symbol.specs.Reading.{FrameRoom, readingBy}
+use Rattle.symbol.specs.Writing.{LabelNeeds, sentFor}
+use Rattle.trellis.specs.Coding.{FrameNeeds}
+use Rattle.symbol.proofs.PlanLabels.{plan-placed}
+
+-- ---- uncoded: the entries are the counts that are not 0
+
+sum-loaded : (l : List ℕ) → sum (filter (leb 1) l) ≡ sum l
+sum-loaded [] = refl
+sum-loaded (n ∷ l) = go (leb 1 n) refl (sum-loaded l)
+  where
+    go : (c : Bool) → leb 1 n ≡ c → sum (filter (leb 1) l) ≡ sum l → sum (consIf c n (filter (leb 1) l)) ≡ n + sum l
+    go true e h = ap (λ (s : ℕ). n + s) h
+    go false e h = omega (arith, h, leb-false 1 n e)
+
+filter-most : (p : ℕ → Bool) (l : List ℕ) → ((k : ℕ) → entry l k ≤ 15) → (k : ℕ) → entry (filter p l) k ≤ 15
+filter-most p [] h k = omega arith
+filter-most p (n ∷ l) h k = go (p n) k (filter-most p l (λ j. h (suc j)))
+  where
+    go : (c : Bool) (k : ℕ) → ((k : ℕ) → entry (filter p l) k ≤ 15) → entry (consIf c n (filter p l)) k ≤ 15
+    go true zero rest = h 0
+    go true (suc k) rest = rest k
+    go false k rest = rest k
+
+length-take-most : {A : Type 0} (n : ℕ) (l : List A) → length (take n l) ≤ n
+length-take-most zero l = omega arith
+length-take-most (suc n) [] = omega arith
+length-take-most (suc n) (a ∷ l) = let e = length-take-most n l in omega arith
+
+module _ (T : Tables) (ok : tableVerdict T .number ≡ 0) where
+  known : Accepted T
+  known = accepted-tables T ok
+
+  pub tones-most : length (T .tones) ≤ 4096
+  tones-most = omega (arith, known .tonesMost, known .tableMost)
+
+  sharing-even : sharing (T .mode) (T .bits) (T .tones) % 2 ≡ 0
+  sharing-even = go (T .mode) refl
+    where
+      go : (m : Mode) → T .mode ≡ m → sharing m (T .bits) (T .tones) % 2 ≡ 0
+      go Uncoded e = refl
+      go Coded e = known .coded e .onesEven
+
+  module _ (p : Sizes) {layouts entries places monitored : List ℕ} (is : PlanIs T p layouts entries places monitored) where
+    abbrev es : List ℕ
+    es = take (p .entries) entries
+
+    abbrev ps : List ℕ
+    ps = take (p .entries) places
+
+    pub the-plan : PlanOf (classesOf T) (p .shared) es ps (take (p .monitored) monitored) (take (length (T .tones)) layouts)
+    the-plan = plan-of T p (known .bitsMost) sharing-even is
+
+    -- the entries, by the mode
+    entries-by : (m : Mode) → T .mode ≡ m → es ≡ filter (leb (leastOwn m)) (bitsOf (T .bits) (reorderedTones m (T .bits) (T .tones))) ++ replicate (sharing m (T .bits) (T .tones) / 2) 2
+    entries-by m e =
+        is .entriesAre
+        ∙ ap (λ (l : List ℕ). filter (leb (leastOwn (T .mode))) l ++ replicate (sharing (T .mode) (T .bits) (T .tones) / 2) 2) (load-classes T (reorderedTones (T .mode) (T .bits) (T .tones)))
+        ∙ ap (λ (m : Mode). filter (leb (leastOwn m)) (bitsOf (T .bits) (reorderedTones m (T .bits) (T .tones))) ++ replicate (sharing m (T .bits) (T .tones) / 2) 2) e
+
+    plain-entries : T .mode ≡ Uncoded → es ≡ filter (leb 1) (bitsOf (T .bits) (T .tones))
+    unfolding reorderedTones
+    plain-entries e = entries-by Uncoded e ∙ append-nil (filter (leb 1) (bitsOf (T .bits) (T .tones)))
+
+    plain-sum : T .mode ≡ Uncoded → sum es ≡ sizeOf T
+    plain-sum e = ap sum (plain-entries e) ∙ sum-loaded (bitsOf (T .bits) (T .tones)) ∙ sym (size-uncoded T e)
+
+    plain-most : T .mode ≡ Uncoded → (k : ℕ) → entry es k ≤ 15
+    plain-most e k = rw (plain-entries e) (filter-most (leb 1) (bitsOf (T .bits) (T .tones)) (bits-at (T .tones)) k)
+      where
+        bits-at : (t : List ℕ) (k : ℕ) → entry (bitsOf (T .bits) t) k ≤ 15
+        bits-at [] k = omega arith
+        bits-at (a ∷ t) zero = known .bitsMost a
+        bits-at (a ∷ t) (suc k) = bits-at t k
+
+    coded-is : T .mode ≡ Coded → es ≡ codedEntries (T .bits) (T .tones)
+    coded-is e = entries-by Coded e
+
+    coded-many : T .mode ≡ Coded → length es ≤ 4096
+    coded-many e = omega (arith, is .entriesMost, tones-most, length-take-most (p .entries) entries)
+
+    -- ---- writing
+
+    module _ (f : List ℕ) (accepted : frameTest (sizeOf T) f ≡ false) where
+      bytes : length f ≡ bytesFor (sizeOf T)
+      bytes = frame-length (sizeOf T) f accepted
+
+      pub label-needs : (labels : List ℕ) → length labels ≡ length (classesOf T) → LabelNeeds (T .mode) f 0 es ps labels
+      label-needs labels n = go (T .mode) refl
+        where
+          placed : Placed es ps labels
+          placed = plan-placed the-plan labels n
+
+          go : (m : Mode) → T .mode ≡ m → LabelNeeds m f 0 es ps labels
+          go Uncoded e =
+              let s = plain-sum e in
+              let b = bytes in
+              let m = known .sizeMost in
+              record { same = placed .same; counts = plain-most e; places = placed .rising; bits = omega arith; small = omega arith }
+          go Coded e =
+              let c = known .coded e in
+              let b = bytes in
+              let m = known .sizeMost in
+              let t : takenTotal (pairsOf es) ≡ sizeOf T = ap (λ (l : List ℕ). takenTotal (pairsOf l)) (coded-is e) ∙ sym (ap takenTotal (c .pairs)) ∙ c .taken in
+              let needs : FrameNeeds f 0 es =
+              record {
+                wide = rw (coded-is e) (c .entriesRange);
+                few = rw (coded-is e) (c .fewEntries);
+                many = coded-many e;
+                bits = omega arith;
+                small = omega arith;
+              } in
+              (needs, placed)
+
+      -- the bits sent are document 01's
+      pub sent-is : sentFor (T .mode) f 0 es ≡ sentIn T f
+      unfolding sentOf
+      sent-is = go (T .mode) refl
+        where
+          go : (m : Mode) → T .mode ≡ m → sentFor m f 0 es ≡ sentOf m (pairsIn T) (frameBits (sizeOf T) f)
+          go Uncoded e = ap (λ (n : ℕ). take n (unpack f)) (plain-sum e)
+          go Coded e =
+              let c = known .coded e in
+              ap (λ (l : List ℕ). encodePairs zeroState (pairsOf l) (unpack f)) (coded-is e)
+              ∙ ap (λ (q : List Pair). encodePairs zeroState q (unpack f)) (sym (c .pairs))
+              ∙ sym (encode-take (pairsIn T) zeroState (sizeOf T) (unpack f) (omega (arith, c .taken)))
+
+    -- ---- reading
+
+    -- the buffer before the frame is known to be whole has room for it
+    pub frame-room : (held : List ℕ) → length held ≡ 7688 → FrameRoom (T .mode) es (length held)
+    frame-room held n = go (T .mode) refl
+      where
+        go : (m : Mode) → T .mode ≡ m → FrameRoom m es (length held)
+        go Uncoded e = (plain-most e, omega (arith, plain-sum e, known .sizeMost))
+        go Coded e =
+            let c = known .coded e in
+            let t : takenTotal (pairsOf es) ≡ sizeOf T = ap (λ (l : List ℕ). takenTotal (pairsOf l)) (coded-is e) ∙ sym (ap takenTotal (c .pairs)) ∙ c .taken in
+            (rw (coded-is e) (c .entriesRange), rw (coded-is e) (c .fewEntries), coded-many e, omega (arith, t, known .sizeMost))
+
+    -- the reading of the gathered bits is document 01's
+    pub reading-is : (q : List Point) → readingBy (T .mode) es (gatherBits (classesOf T) q) ≡ readingIn T q
+    unfolding readingIn readingOf
+    reading-is q = go (T .mode) refl
+      where
+        go : (m : Mode) → T .mode ≡ m → readingBy m es (gatherBits (classesOf T) q) ≡ readingOf m (pairsIn T) (gatherBits (classesOf T) q)
+        go Uncoded e = refl
+        go Coded e =
+            let c = known .coded e in
+            ap (λ (l : List ℕ). readPairs zeroState (pairsOf l) (gatherBits (classesOf T) q)) (coded-is e)
+            ∙ ap (λ (l : List Pair). readPairs zeroState l (gatherBits (classesOf T) q)) (sym (c .pairs))
