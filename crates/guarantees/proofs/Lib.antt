@@ -1,4 +1,5 @@
 -- `Guarantees` is the front page; the others are its parts.
+pub mod Coded
 pub mod Guarantees
 pub mod HalfTurn
 pub mod Mapping
