@@ -31,9 +31,9 @@ use Rattle.g9932.proofs.OnePair.{Fit, lone, both, Valid, word-valid, length-sen
 use Rattle.g9932.proofs.Packed.{length-frame}
 use Rattle.g9932.proofs.Pairs.{Ok}
 use Rattle.g9932.proofs.Reordering.{entries-law, allTwo-entries, nonzero-entries, length-order}
+use Rattle.g9932.proofs.Sent.{load-classes, length-sentOf}
 use Rattle.g9932.proofs.Symbols.{loads, length-write, write-append}
 use Rattle.guarantees.specs.Words.{AcceptedTables, AcceptedFrame, nonZero, wordsOf, stateAfter, wordsIn, labelsOf, lowestOf, lowest, lowestAt, oneBitTones, firstOfTwo, sharedEntry, table10-2}
-use Rattle.guarantees.proofs.Sent.{load-classes, length-sentOf}
 
 -- ---- the two lowest bits of each entry
 

@@ -27,18 +27,18 @@ use Rattle.g9932.specs.declared.Mode.the-variants.{Coded}
 use Rattle.g9932.proofs.Accepted.{Accepted, AcceptedCoded, accepted-tables}
 use Rattle.g9932.proofs.Constellations.{point-opposite}
 use Rattle.g9932.proofs.Formed.{Formed}
+use Rattle.g9932.proofs.HalfPairs.{halfTurned, turned-even, turned-odd}
+use Rattle.g9932.proofs.HalfWord.{half}
 use Rattle.g9932.proofs.Packed.{length-frame}
 use Rattle.g9932.proofs.Reordering.{nonzero-entries}
 use Rattle.g9932.proofs.Search.{first-no, first-all}
+use Rattle.g9932.proofs.Sent.{length-classes, loads-sum, sentOf-read}
 use Rattle.g9932.proofs.Symbols.{length-gather}
-use Rattle.g9932.proofs.HalfPairs.{halfTurned, turned-even, turned-odd}
-use Rattle.g9932.proofs.HalfWord.{half}
 use Rattle.g9932.proofs.TurnedTones.{half-ones}
 use Rattle.g9932.proofs.Verdicts.{found-here, found-past}
 use Rattle.guarantees.specs.Words.{AcceptedFrame, RightLength, Ready, nonZero, turned}
-use Rattle.guarantees.proofs.Operations.{length-classes, Passes, done, reading, reading-done}
+use Rattle.guarantees.proofs.Operations.{Passes, done, reading, reading-done}
 use Rattle.guarantees.proofs.RoundTrip.{length-written, packed-frame, packed-bits, X-of, Y-of, encoded-xs, encoded-ys, encoded-right}
-use Rattle.guarantees.proofs.Sent.{loads-sum, sentOf-read}
 use Rattle.guarantees.proofs.TurnedSymbol.{AllLoaded, loaded-classes, PointTurn, leaves, off-13, at-14, turned-reading}
 
 points-turned : (q : List Point) → points (turned (map (λ p. p .px) q)) (turned (map (λ p. p .py) q)) ≡ map negated q

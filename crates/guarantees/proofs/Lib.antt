@@ -5,6 +5,5 @@ pub mod HalfTurn
 pub mod Mapping
 pub mod Operations
 pub mod RoundTrip
-pub mod Sent
 pub mod Totals
 pub mod TurnedSymbol

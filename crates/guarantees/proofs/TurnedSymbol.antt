@@ -25,13 +25,12 @@ use Rattle.g9932.proofs.Accepted.{Accepted, AcceptedCoded}
 use Rattle.g9932.proofs.Constellations.{samePoint→eq, point-inj}
 use Rattle.g9932.proofs.Labels.{label-point}
 use Rattle.g9932.proofs.Search.{first-ext}
+use Rattle.g9932.proofs.Sent.{length-classes, load-classes, loads-sum}
 use Rattle.g9932.proofs.Symbols.{loads}
 use Rattle.g9932.proofs.TurnedTones.{turnedLabels, tones-pairs}
 use Rattle.g9932.proofs.Turns.{Turn, turned-nil, turn-moves, turnedBits}
 use Rattle.guarantees.specs.Words.{AcceptedFrame}
-use Rattle.guarantees.proofs.Operations.{length-classes}
 use Rattle.guarantees.proofs.RoundTrip.{length-sentIn}
-use Rattle.guarantees.proofs.Sent.{load-classes, loads-sum}
 
 -- A turn of points and of labels: from `least` bits on, 1 or 2, a turned point is that of the turned label; with fewer it has none.
 pub record PointTurn : Type 0 where

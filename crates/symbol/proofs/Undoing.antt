@@ -25,8 +25,9 @@ use Rattle.g9932.proofs.Packed.{Bytes}
 use Rattle.g9932.proofs.Pairs.{sentTotal, length-read}
 use Rattle.g9932.proofs.Search.{first-no}
 use Rattle.g9932.proofs.Symbols.{length-gather}
-use Rattle.guarantees.proofs.Operations.{length-points, length-classes}
-use Rattle.guarantees.proofs.Sent.{load-classes, loads-sum, size-uncoded}
+use Rattle.g9932.proofs.PointLists.{length-points}
+use Rattle.g9932.proofs.Sent.{length-classes}
+use Rattle.g9932.proofs.Sent.{load-classes, loads-sum, size-uncoded}
 use Rattle.mapper.specs.Collecting.{LabelsRoom, ReadsLabels}
 use Rattle.mapper.specs.Mapping.{classesBy}
 use Rattle.mapper.specs.Reading.{ReadRoom, ReadsAll}

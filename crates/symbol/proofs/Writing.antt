@@ -21,7 +21,7 @@ use Rattle.g9932.proofs.Accepted.{Accepted, AcceptedCoded, accepted-tables}
 use Rattle.g9932.proofs.Packed.{frame-length, length-frame}
 use Rattle.g9932.proofs.Prefixes.{encode-take, write-take}
 use Rattle.g9932.proofs.Symbols.{loads}
-use Rattle.guarantees.proofs.Sent.{load-classes, loads-sum, size-uncoded, length-sentOf}
+use Rattle.g9932.proofs.Sent.{load-classes, loads-sum, size-uncoded, length-sentOf}
 use Rattle.mapper.specs.Mapping.{classesBy, MapRoom, MapsAll, LabelRoom}
 use Rattle.trellis.specs.Coding.{Ready, CodedWhole}
 use Rattle.symbol.specs.Encoding.{leadingZeros, LabelsReady, SymbolReady, WritesSymbol}
