@@ -1,5 +1,5 @@
--- Every promise over the definitions of document 01, in full. Each proof cites the part that shows it.
--- The words are those of specs/Words.antt and of crate g9932.
+-- Every promise over the definitions of document 01: those that demands 2 and 3 ask, in full, and what else is shown of the
+-- definitions. Each proof cites the part that shows it. The words are those of specs/Words.antt and of crate g9932.
 use Prim.Native.Nat.{ℕ, _+_, _-_, _/_, _%_, _^_, _≤_, _<_}
 use mathlib.Core.Bool.{Bool, true, cond, not}
 use mathlib.Core.List.{List, [], _∷_, map}
@@ -8,23 +8,23 @@ use mathlib.Core.Path.{_≡_}
 use lib.Dec.{eqb}
 use lib.IntN.{ℤ}
 use lib.ListN.{length, take, drop, getD}
-use Rattle.g9932.specs.Bits.{_⊕_, bits, bit, odd}
-use Rattle.g9932.specs.Sizes.{Tables, unpack, Point}
-use Rattle.g9932.specs.Refusals.{accepted, refused}
-use Rattle.g9932.specs.Order.{sum, count, bitsOf, entryCount, pairCount}
-use Rattle.g9932.specs.Trellis.{Word, lowBitsOf, sentBits}
+use Rattle.g9932.specs.Bits.{_⊕_, bits, bit, num, odd}
+use Rattle.g9932.specs.Sizes.{Tables, unpack, Point, origin}
+use Rattle.g9932.specs.Refusals.{accepted, refused, tableVerdict}
+use Rattle.g9932.specs.Order.{sum, count, bitsOf, entryCount, entries, pairCount}
+use Rattle.g9932.specs.Trellis.{Word, zeroState, lowBits, lowBitsOf, sentBits}
 use Rattle.g9932.specs.Points.{pointOf, negated}
 use Rattle.g9932.specs.Filler.{nextRegister, drawn, registerAfter}
-use Rattle.g9932.specs.Symbol.{orderOf, bitsIn, classesOf, pairsIn, sizeOf, sentIn, writePoints, writtenPoints, firstMonitored}
-use Rattle.g9932.specs.Answers.{encodeOf, Read, readOf, toneDone, mapLabel, readPoint}
-use Rattle.g9932.specs.declared.Class.{Class}
-use Rattle.g9932.specs.declared.Class.the-variants.{Data}
+use Rattle.g9932.specs.Symbol.{orderOf, bitsIn, classesOf, pairsIn, sizeOf, sentIn, writtenPoints, firstMonitored}
+use Rattle.g9932.specs.Answers.{reorderOf, encodeOf, Read, readOf, toneDone, mapLabel, readPoint}
 use Rattle.g9932.specs.declared.Found.the-variants.{At, Nothing}
 use Rattle.g9932.specs.declared.Mode.the-variants.{Uncoded, Coded}
 use Rattle.g9932.proofs.Figures as Figures
 use Rattle.g9932.proofs.Packed as Packed
 use Rattle.g9932.proofs.Reordering as Reordering
-use Rattle.guarantees.specs.Words.{AcceptedTables, AcceptedFrame, ValidRegister, RightLength, Ready, nonZero, secondBit, fillerBit, turned}
+use Rattle.g9932.proofs.Verdicts as Verdicts
+use Rattle.guarantees.specs.Words.{AcceptedTables, AcceptedFrame, ValidRegister, RightLength, Ready, nonZero, wordsIn, stateAfter, labelsOf, lowest, lowestAt, oneBitTones, firstOfTwo, sharedEntry, table10-2, secondBit, fillerBit, turned}
+use Rattle.guarantees.proofs.Coded as Coded
 use Rattle.guarantees.proofs.HalfTurn as HalfTurn
 use Rattle.guarantees.proofs.Mapping as Mapping
 use Rattle.guarantees.proofs.Operations as Operations
@@ -86,10 +86,27 @@ module _ (T : Tables) (r : ℕ) (xs ys : List ℤ) (f₀ : List ℕ) (ready : Re
       → turnedRead f .report .verdict ≡ refused 15 (cond (eqb (length (pairsIn T)) 3) 1 2)
   half-turn-odd = HalfTurn.half-turn-odd T r xs ys f₀ ready
 
--- Reading that is refused, here or anywhere, returns the given register and leaves the lent buffer as it came.
+-- ---- refusals
+
+-- Whatever the inputs, what is refused returns the given register, leaves every lent buffer as it came, and reports L as 0: reading,
 pub refused-kept : (T : Tables) (X Y : List ℤ) (r : ℕ) (f₀ : List ℕ) → readOf T X Y r f₀ .report .verdict .number ≢ 0
-    → (readOf T X Y r f₀ .report .register ≡ r) × (readOf T X Y r f₀ .frame ≡ f₀)
-refused-kept = Operations.refused-kept
+    → (readOf T X Y r f₀ .report .register ≡ r) × (readOf T X Y r f₀ .frame ≡ f₀) × (readOf T X Y r f₀ .report .verdict .size ≡ 0)
+refused-kept = Operations.refused-reading
+
+-- encoding,
+pub refused-encoding : (T : Tables) (f : List ℕ) (r : ℕ) (xs ys : List ℤ) → encodeOf T f r xs ys .report .verdict .number ≢ 0
+    → (encodeOf T f r xs ys .report .register ≡ r) × (encodeOf T f r xs ys .xs ≡ xs) × (encodeOf T f r xs ys .ys ≡ ys)
+    × (encodeOf T f r xs ys .report .verdict .size ≡ 0)
+refused-encoding = Operations.refused-encoding
+
+-- re-ordering,
+pub refused-ordering : (T : Tables) (tones bits : List ℕ) → reorderOf T tones bits .verdict .number ≢ 0
+    → (reorderOf T tones bits .tones ≡ tones) × (reorderOf T tones bits .bits ≡ bits) × (reorderOf T tones bits .verdict .size ≡ 0)
+refused-ordering = Operations.refused-ordering
+
+-- and checking.
+pub refused-checking : (T : Tables) → tableVerdict T .number ≢ 0 → tableVerdict T .size ≡ 0
+refused-checking T = Verdicts.table-size T .none
 
 -- ---- how many bits
 
@@ -125,15 +142,36 @@ module _ (T : Tables) (ok : AcceptedTables T) where
 
 -- ---- which bits go where
 
--- Sent bits go v then w, lowest first:
+-- The lowest bits of a word, in all 16 rows of Table 10-2.
+pub table-10-2 : (u3 u2 u1 u0 : Bool)
+    → lowBits u0 u1 u2 u3 .w0 ∷ lowBits u0 u1 u2 u3 .w1 ∷ lowBits u0 u1 u2 u3 .v0 ∷ lowBits u0 u1 u2 u3 .v1 ∷ []
+    ≡ bits 4 (getD table10-2 (num (u3 ∷ u2 ∷ u1 ∷ u0 ∷ [])) 0)
+table-10-2 = Coded.table-10-2
+
+-- Sent bits go v then w, lowest first;
 pub sent-low : (x y : ℕ) (u : Word) → 2 ≤ x → length (u .high) ≡ x + y - 4 → 2 ≤ y
     → (take 2 (sentBits x u) ≡ lowBitsOf u .v0 ∷ lowBitsOf u .v1 ∷ []) × (take 2 (drop x (sentBits x u)) ≡ lowBitsOf u .w0 ∷ lowBitsOf u .w1 ∷ [])
-sent-low = Totals.sent-low
+sent-low = Coded.sent-low
 
--- so the first of two paired 1-bit tones gets v0, the second v1 (w0 and w1 where their entry is the second of its coded pair).
-pub two-ones : (r : ℕ) (cs : List Class) (b0 b1 : Bool) (d : List Bool)
-    → writePoints r (Data 1 ∷ Data 1 ∷ cs) (b0 ∷ b1 ∷ d) ≡ pointOf 1 (b0 ∷ []) ∷ pointOf 1 (b1 ∷ []) ∷ writePoints r cs d
-two-ones = Totals.two-ones
+-- where x = 0, v isn't sent, and w comes first.
+pub sent-low-alone : (u : Word) → take 2 (sentBits 0 u) ≡ lowBitsOf u .w0 ∷ lowBitsOf u .w1 ∷ []
+sent-low-alone = Coded.sent-low-alone
+
+-- In accepted tables, coded, with an accepted frame:
+module _ (T : Tables) (ok : AcceptedTables T) (m : T .mode ≡ Coded) (f : List ℕ) (a : AcceptedFrame T f) where
+  -- the label of each entry of b' begins with v0 v1 of its pair's word, or with w0 w1 where it is the second of its pair,
+  pub entries-low : map (take 2) (labelsOf (entries (T .bits) (T .tones)) (sentIn T f)) ≡ lowest (pairsIn T) (wordsIn T f)
+  entries-low = Coded.entries-low T ok m f a
+
+  -- and two consecutive 1-bit tones share an entry: the first gets the first of its two bits, the second the second.
+  pub two-ones : (r j : ℕ) → j < oneBitTones T / 2
+      → (getD (writtenPoints T r f) (firstOfTwo T j) origin ≡ pointOf 1 (bit (lowestAt T f (sharedEntry T j)) 0 ∷ []))
+      × (getD (writtenPoints T r f) (firstOfTwo T j + 1) origin ≡ pointOf 1 (bit (lowestAt T f (sharedEntry T j)) 1 ∷ []))
+  two-ones = Coded.two-ones T ok m f a
+
+  -- The state is zero again after the last pair.
+  pub state-ends : stateAfter zeroState (wordsIn T f) ≡ zeroState
+  state-ends = Coded.state-ends T ok m f a
 
 -- ---- one tone
 

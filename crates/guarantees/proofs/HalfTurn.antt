@@ -1,47 +1,70 @@
 -- Half a turn of a written symbol in coded mode: with a monitored tone it fails 14 at the first one; else it is read as another
 -- frame where N is even, and breaks the code where N is odd.
-use Prim.Native.Nat.{ℕ, zero, suc, _%_, _<_}
+use Prim.Native.Nat.{ℕ, zero, suc, _/_, _%_, _<_}
 use mathlib.Core.Bool.{Bool, true, false, cond}
 use mathlib.Core.List.{List, [], _∷_, map}
 use mathlib.Core.Logic.{_↔_, _≢_}
-use mathlib.Core.Path.{_≡_, refl, sym, ap, ap₂, _∙_, subst}
+use mathlib.Core.Path.{_≡_, refl, sym, ap, _∙_, subst}
 use native.Mathlib.Omega.{arith}
-use borrow.Author.Tests.{eq-eqb, ne-eqb}
+use borrow.Author.Tests.{eq-eqb, ne-eqb, le-ltb}
 use lib.Dec.{ltb, eqb}
 use lib.IntN.{ℤ, negℤ}
 use lib.ListN.{length, getD, length-map}
 use Rattle.g9932.specs.Bits.{first}
 use Rattle.g9932.specs.Sizes.{Tables, pack, frameBits, Point, points}
 use Rattle.g9932.specs.Refusals.{Verdict, refused}
-use Rattle.g9932.specs.Order.{count, isOne, bitsOf, entries, reorderedTones, reorderedBits}
-use Rattle.g9932.specs.Trellis.{zeroState, encodePairs, frame, readPairs, sentOf, readingOf, takenTotal}
-use Rattle.g9932.specs.Symbol.{classesOf, orderOf, pairsIn, sizeOf, sentIn, writtenPoints, offgridTest, monitorTest, gatherBits, readingIn, isMonitored, firstMonitored}
+use Rattle.g9932.specs.Order.{count, isOne, ones, entries, reorderedBits}
+use Rattle.g9932.specs.Trellis.{zeroState, encodePairs, frame, readPairs, takenTotal}
+use Rattle.g9932.specs.Points.{negated}
+use Rattle.g9932.specs.Symbol.{classesOf, orderOf, pairsIn, sizeOf, writtenPoints, offgridTest, monitorTest, gatherBits, readingIn, firstMonitored}
 use Rattle.g9932.specs.Answers.{reportBy, breakIn, pointsVerdict, Read, readOf}
-use Rattle.g9932.specs.declared.Class.the-variants.{Silent}
+use Rattle.g9932.specs.declared.Class.{Class}
+use Rattle.g9932.specs.declared.Class.the-variants.{Data, Monitored, Silent}
 use Rattle.g9932.specs.declared.Found.{Found}
 use Rattle.g9932.specs.declared.Found.the-variants.{At, Nothing}
 use Rattle.g9932.specs.declared.Mode.{Mode}
 use Rattle.g9932.specs.declared.Mode.the-variants.{Coded}
 use Rattle.g9932.proofs.Accepted.{Accepted, AcceptedCoded, accepted-tables}
-use Rattle.g9932.proofs.Constellations.{turnedPoint}
+use Rattle.g9932.proofs.Constellations.{point-opposite}
 use Rattle.g9932.proofs.Formed.{Formed}
+use Rattle.g9932.proofs.HalfPairs.{halfTurned, turned-even, turned-odd}
+use Rattle.g9932.proofs.HalfWord.{half}
 use Rattle.g9932.proofs.Packed.{length-frame}
 use Rattle.g9932.proofs.Reordering.{nonzero-entries}
-use Rattle.g9932.proofs.Search.{first-no, first-all, first-ext}
+use Rattle.g9932.proofs.Search.{first-no, first-all}
+use Rattle.g9932.proofs.Sent.{length-classes, loads-sum, sentOf-read}
 use Rattle.g9932.proofs.Symbols.{length-gather}
-use Rattle.g9932.proofs.TurnedPairs.{turnedBits, turned-even, turned-odd}
-use Rattle.g9932.proofs.TurnedTones.{turnedLabels, tones-pairs}
+use Rattle.g9932.proofs.TurnedTones.{half-ones}
 use Rattle.g9932.proofs.Verdicts.{found-here, found-past}
 use Rattle.guarantees.specs.Words.{AcceptedFrame, RightLength, Ready, nonZero, turned}
-use Rattle.guarantees.proofs.Operations.{length-classes, Passes, done, reading, reading-done}
-use Rattle.guarantees.proofs.RoundTrip.{length-sentIn, length-written, packed-frame, packed-bits, X-of, Y-of, encoded-xs, encoded-ys, encoded-right}
-use Rattle.guarantees.proofs.Sent.{load-classes, loads-sum, sentOf-read}
-use Rattle.guarantees.proofs.TurnedSymbol.{loaded-classes, symbol-on, symbol-monitor, symbol-bits}
+use Rattle.guarantees.proofs.Operations.{Passes, done, reading, reading-done}
+use Rattle.guarantees.proofs.RoundTrip.{length-written, packed-frame, packed-bits, X-of, Y-of, encoded-xs, encoded-ys, encoded-right}
+use Rattle.guarantees.proofs.TurnedSymbol.{AllLoaded, loaded-classes, PointTurn, leaves, off-13, at-14, turned-reading}
 
-points-turned : (q : List Point) → points (turned (map (λ p. p .px) q)) (turned (map (λ p. p .py) q)) ≡ map turnedPoint q
+points-turned : (q : List Point) → points (turned (map (λ p. p .px) q)) (turned (map (λ p. p .py) q)) ≡ map negated q
 unfolding points
 points-turned [] = refl
-points-turned (p ∷ q) = ap (λ (l : List Point). turnedPoint p ∷ l) (points-turned q)
+points-turned (p ∷ q) = ap (λ (l : List Point). negated p ∷ l) (points-turned q)
+
+-- half a turn of points: no point leaves its constellation
+abbrev halfPoint : PointTurn
+halfPoint =
+    record {
+      labels = half;
+      point = negated;
+      least = 1;
+      small = omega arith;
+      still = refl;
+      label = point-opposite;
+      off = λ b v h k l. absurd (omega arith);
+    }
+
+none-leaves : (cs : List Class) → AllLoaded cs → (k : ℕ) → k < length cs → leaves halfPoint (getD cs k Silent) ≡ false
+none-leaves [] h k l = absurd (omega arith)
+none-leaves (Data n ∷ cs) h zero l = le-ltb n 1 (h .0)
+none-leaves (Monitored ∷ cs) h zero l = refl
+none-leaves (Silent ∷ cs) h zero l = refl
+none-leaves (c ∷ cs) h (suc k) l = none-leaves cs (h .1) k (omega arith)
 
 -- ---- the turned points of accepted tables in coded mode
 
@@ -50,36 +73,25 @@ module _ (T : Tables) (a : Accepted T) (m : T .mode ≡ Coded) (r : ℕ) (f : Li
   c = a .coded m
 
   abbrev q : List Point
-  q = map turnedPoint (writtenPoints T r f)
+  q = map negated (writtenPoints T r f)
 
   abbrev g : List Bool
   g = frameBits (sizeOf T) f
 
+  none : (k : ℕ) → k < length (classesOf T) → leaves halfPoint (getD (classesOf T) k Silent) ≡ false
+  none = none-leaves (classesOf T) (loaded-classes T (orderOf T))
+
   no-13 : (k : ℕ) → k < length (classesOf T) → offgridTest (classesOf T) q k ≡ false
-  unfolding writtenPoints
-  no-13 = symbol-on r (classesOf T) (sentIn T f) (loaded-classes T (orderOf T)) (length-sentIn T a r f ok)
+  no-13 k h = off-13 halfPoint T a m r f ok k h ∙ none k h
 
-  at-14 : first (monitorTest r (classesOf T) q) (length (T .tones)) ≡ firstMonitored T
-  unfolding writtenPoints
-  at-14 =
-      first-ext (monitorTest r (classesOf T) q) (λ k. isMonitored (getD (classesOf T) k Silent)) (length (T .tones))
-      (λ k h. symbol-monitor r (classesOf T) (sentIn T f) k (rw (length-classes T) h))
+  is-14 : first (monitorTest r (classesOf T) q) (length (T .tones)) ≡ firstMonitored T
+  is-14 = at-14 halfPoint T a m r f ok
 
-  sent-coded : sentIn T f ≡ encodePairs zeroState (pairsIn T) g
-  unfolding sentOf
-  sent-coded = ap (λ (n : Mode). sentOf n (pairsIn T) g) m
-
-  decoded-turned : gatherBits (classesOf T) q ≡ turnedBits (pairsIn T) (encodePairs zeroState (pairsIn T) g)
-  unfolding writtenPoints
-  decoded-turned =
-      symbol-bits r (classesOf T) (sentIn T f) (loaded-classes T (orderOf T)) (length-sentIn T a r f ok)
-      ∙ ap (λ (ns : List ℕ). turnedLabels ns (sentIn T f)) (load-classes T (orderOf T) ∙ ap (λ (n : Mode). bitsOf (T .bits) (reorderedTones n (T .bits) (T .tones))) m)
-      ∙ tones-pairs (T .bits) (T .tones) (c .onesEven) (sentIn T f) (length-sentIn T a r f ok ∙ loads-sum T)
-      ∙ ap₂ turnedBits (sym (c .pairs)) sent-coded
-
-  turned-reading : readingIn T q ≡ readPairs zeroState (pairsIn T) (turnedBits (pairsIn T) (encodePairs zeroState (pairsIn T) g))
-  unfolding readingIn readingOf
-  turned-reading = ap (λ (n : Mode). readingOf n (pairsIn T) (gatherBits (classesOf T) q)) m ∙ ap (readPairs zeroState (pairsIn T)) decoded-turned
+  half-reading : readingIn T q ≡ readPairs zeroState (pairsIn T) (halfTurned (pairsIn T) (encodePairs zeroState (pairsIn T) g))
+  half-reading =
+      let n : ℕ = ones (T .bits) (T .tones) in
+      let even : n % 2 ≡ 0 = c .onesEven in
+      turned-reading halfPoint T a m r f ok none (λ d l. half-ones (n / 2) n d (omega arith) l)
 
   taken-bits : length g ≡ takenTotal (pairsIn T)
   taken-bits = length-frame (sizeOf T) f (ok .passes) ∙ sym (c .taken)
@@ -94,7 +106,7 @@ module _ (T : Tables) (a : Accepted T) (m : T .mode ≡ Coded) (r : ℕ) (f : Li
 
   pub points-monitored : (k : ℕ) → firstMonitored T ≡ At k → refused 14 k ≡ pointsVerdict T q r
   unfolding pointsVerdict
-  points-monitored k e = found-past 13 past-13 (found-here 14 _ (at-14 ∙ e))
+  points-monitored k e = found-past 13 past-13 (found-here 14 _ (is-14 ∙ e))
 
   formed-as : (o : Bool) → isOne (length (entries (T .bits) (T .tones)) % 2) ≡ o → Formed o (pairsIn T)
   formed-as o e = rw e at (c .formed)
@@ -103,7 +115,7 @@ module _ (T : Tables) (a : Accepted T) (m : T .mode ≡ Coded) (r : ℕ) (f : Li
   unfolding pointsVerdict
   points-odd e n =
       let o = formed-as true (eq-eqb (length (entries (T .bits) (T .tones)) % 2) 1 (rw (← parity) n)) in
-      found-past 13 past-13 (found-past 14 (at-14 ∙ e) (found-here 15 _ (ap breakIn (turned-reading ∙ turned-odd (pairsIn T) g o taken-bits))))
+      found-past 13 past-13 (found-past 14 (is-14 ∙ e) (found-here 15 _ (ap breakIn (half-reading ∙ turned-odd (pairsIn T) g o taken-bits))))
 
   pub points-even : firstMonitored T ≡ Nothing → nonZero T % 2 ≡ 0
       → Passes T q r × (h : List Bool) × (readingIn T q ≡ frame h) × (length h ≡ sizeOf T) × (h ≢ g)
@@ -111,12 +123,12 @@ module _ (T : Tables) (a : Accepted T) (m : T .mode ≡ Coded) (r : ℕ) (f : Li
   points-even e n =
       let o = formed-as false (ne-eqb (length (entries (T .bits) (T .tones)) % 2) 1 (λ h. omega (arith, parity))) in
       let t = turned-even (pairsIn T) g o taken-bits in
-      let is : readingIn T q ≡ frame (t .0) = turned-reading ∙ t .1 in
-      let lq : length q ≡ length (classesOf T) = length-map (writtenPoints T r f) turnedPoint ∙ length-written T a r f ∙ sym (length-classes T) in
+      let is : readingIn T q ≡ frame (t .0) = half-reading ∙ t .1 in
+      let lq : length q ≡ length (classesOf T) = length-map (writtenPoints T r f) negated ∙ length-written T a r f ∙ sym (length-classes T) in
       let lg = length-gather (classesOf T) q lq no-13 ∙ loads-sum T in (
         record {
           on = no-13;
-          filled = λ k h. first-no (monitorTest r (classesOf T) q) (length (T .tones)) (at-14 ∙ e) k (rw (← length-classes T) h);
+          filled = λ k h. first-no (monitorTest r (classesOf T) q) (length (T .tones)) (is-14 ∙ e) k (rw (← length-classes T) h);
         },
         t .0,
         is,
@@ -148,10 +160,10 @@ module _ (T : Tables) (r : ℕ) (xs ys : List ℤ) (f₀ : List ℕ) (ready : Re
           ysLength = length-map (Y-of T r xs ys f₀ ready f) negℤ ∙ e .ysLength;
         }
 
-    are-points : points X′ Y′ ≡ map turnedPoint (writtenPoints T r f)
+    are-points : points X′ Y′ ≡ map negated (writtenPoints T r f)
     are-points = rw (encoded-xs T r xs ys f₀ ready f ok, encoded-ys T r xs ys f₀ ready f ok) (points-turned (writtenPoints T r f))
 
-    verdict-is : turnedRead f .report .verdict ≡ pointsVerdict T (map turnedPoint (writtenPoints T r f)) r
+    verdict-is : turnedRead f .report .verdict ≡ pointsVerdict T (map negated (writtenPoints T r f)) r
     unfolding reportBy
     verdict-is = ap (λ (a : Read). a .report .verdict) (reading T r xs ys f₀ ready X′ Y′ right) ∙ ap (λ (q : List Point). pointsVerdict T q r) are-points
 

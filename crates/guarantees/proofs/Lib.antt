@@ -1,9 +1,9 @@
 -- `Guarantees` is the front page; the others are its parts.
+pub mod Coded
 pub mod Guarantees
 pub mod HalfTurn
 pub mod Mapping
 pub mod Operations
 pub mod RoundTrip
-pub mod Sent
 pub mod Totals
 pub mod TurnedSymbol

@@ -15,11 +15,11 @@ use Rattle.g9932.specs.Sizes.{Point}
 use Rattle.g9932.specs.Refusals.{bitCountTest, labelTest}
 use Rattle.g9932.specs.Points.{signBit, twosComplement, pointOf, labelOf, negated}
 use Rattle.g9932.specs.Answers.{OneTone, toneRefused, toneDone, mapLabel, labelFound, readPoint}
-use Rattle.g9932.proofs.Constellations.{axesPoint, point-coords, point-turned}
-use Rattle.g9932.proofs.Coordinates.{coords, coords-low}
+use Rattle.g9932.proofs.Constellations.{axesPoint, point-coords, point-opposite}
+use Rattle.g9932.proofs.Coordinates.{coords, oppositeLabel, length-opposite, coords-low}
+use Rattle.g9932.proofs.HalfWord.{half-lowest}
 use Rattle.g9932.proofs.Identities.{or-false}
 use Rattle.g9932.proofs.Labels.{point-label, label-point}
-use Rattle.g9932.proofs.TurnedWord.{turnedWord, length-turned}
 use Rattle.g9932.proofs.TwosComplement.{num-not}
 use Rattle.g9932.proofs.Words.{odd-weight, half-weight, num-bits, bits-num, length-bits, num-lt}
 use Rattle.guarantees.specs.Words.{secondBit}
@@ -134,31 +134,26 @@ low-bits b l p h e =
 
 -- ---- the opposite point
 
--- it is read as the turned label
-turned-read : (b l : ℕ) (p : Point) → 1 ≤ b → mapLabel b l ≡ toneDone p → readPoint b (negated p) ≡ toneDone (num (turnedWord (bits b l)))
-turned-read b l p h e =
+-- it is read as the opposite label
+read-opposite : (b l : ℕ) (p : Point) → 1 ≤ b → mapLabel b l ≡ toneDone p → readPoint b (negated p) ≡ toneDone (num (oppositeLabel (bits b l)))
+read-opposite b l p h e =
     let m = maps b l p e in
-    read-as b (turnedWord (bits b l)) (negated p) (m .counted) (length-turned (bits b l) ∙ length-bits b l)
-    (sym (point-turned b (bits b l) h (length-bits b l)) ∙ ap negated (m .is))
+    read-as b (oppositeLabel (bits b l)) (negated p) (m .counted) (length-opposite (bits b l) ∙ length-bits b l)
+    (sym (point-opposite b (bits b l) h (length-bits b l)) ∙ ap negated (m .is))
 
-one-turned : (l : ℕ) → l < 2 → num (turnedWord (bits 1 l)) ≡ 1 - l
+one-opposite : (l : ℕ) → l < 2 → num (oppositeLabel (bits 1 l)) ≡ 1 - l
 unfolding num weight bits odd
-one-turned zero h = refl
-one-turned (suc zero) h = refl
-one-turned (suc (suc l)) h = absurd (omega arith)
+one-opposite zero h = refl
+one-opposite (suc zero) h = refl
+one-opposite (suc (suc l)) h = absurd (omega arith)
 
 pub opposite-one : (l : ℕ) (p : Point) → mapLabel 1 l ≡ toneDone p → readPoint 1 (negated p) ≡ toneDone (1 - l)
-opposite-one l p e = turned-read 1 l p (omega arith) e ∙ ap toneDone (one-turned l (maps 1 l p e .below))
-
-turned-low : (v : List Bool) → 2 ≤ length v → (bit (turnedWord v) 0 ≡ not (bit v 0)) × (bit (turnedWord v) 1 ≡ not (bit v 1))
-turned-low [] h = absurd (omega arith)
-turned-low (x ∷ []) h = absurd (omega arith)
-turned-low (x ∷ y ∷ v) h = (refl, refl)
+opposite-one l p e = read-opposite 1 l p (omega arith) e ∙ ap toneDone (one-opposite l (maps 1 l p e .below))
 
 pub opposite : (b l : ℕ) (p : Point) → 2 ≤ b → mapLabel b l ≡ toneDone p
     → (m : ℕ) × (readPoint b (negated p) ≡ toneDone m) × (bit (bits b m) 0 ≡ not (bit (bits b l) 0)) × (bit (bits b m) 1 ≡ not (bit (bits b l) 1))
 opposite b l p h e =
     let v : List Bool = bits b l in
-    let w : bits b (num (turnedWord v)) ≡ turnedWord v = number-bits b (num (turnedWord v)) (turnedWord v) (length-turned v ∙ length-bits b l) refl in
-    let t = turned-low v (rw (length-bits b l) h) in
-    (num (turnedWord v), turned-read b l p (omega arith) e, ap (λ (z : List Bool). bit z 0) w ∙ t .0, ap (λ (z : List Bool). bit z 1) w ∙ t .1)
+    let w : bits b (num (oppositeLabel v)) ≡ oppositeLabel v = number-bits b (num (oppositeLabel v)) (oppositeLabel v) (length-opposite v ∙ length-bits b l) refl in
+    let t = half-lowest v (rw (length-bits b l) h) in
+    (num (oppositeLabel v), read-opposite b l p (omega arith) e, ap (λ (z : List Bool). bit z 0) w ∙ t .0, ap (λ (z : List Bool). bit z 1) w ∙ t .1)

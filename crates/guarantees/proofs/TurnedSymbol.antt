@@ -1,27 +1,46 @@
--- A written symbol turned by half a turn: every point stays in its constellation, the monitored ones and no others fail 14, and
--- the bits heard are the sent ones with every label turned.
-use Prim.Native.Nat.{ℕ, zero, suc, _+_, _≤_, _<_}
+-- A written symbol with every point turned, whatever the turn: which points leave their constellation, that the monitored ones and
+-- no others fail 14, and that the bits decoded are the sent ones with every label turned, tone by tone or pair by pair.
+use Prim.Native.Nat.{ℕ, zero, suc, _/_, _≤_, _<_}
 use mathlib.Core.Bool.{Bool, true, false, not}
 use mathlib.Core.List.{List, [], _∷_, _++_, map}
-use mathlib.Core.Option.{some}
+use mathlib.Core.Option.{none, some}
 use mathlib.Core.Path.{_≡_, refl, sym, ap, ap₂, _∙_}
 use native.Mathlib.Omega.{arith}
-use borrow.Author.Tests.{ltb-true}
+use borrow.Author.Tests.{ltb-true, ltb-false}
 use lib.Dec.{ltb}
-use lib.ListN.{length, take, drop, getD, length-drop}
+use lib.ListN.{length, take, drop, getD, replicate, length-drop}
 use lib.Seq.{length-take-le}
-use Rattle.g9932.specs.Bits.{bit}
-use Rattle.g9932.specs.Sizes.{Tables, entry, classBy, classOf}
+use Rattle.g9932.specs.Bits.{first}
+use Rattle.g9932.specs.Sizes.{Tables, entry, classBy, classOf, frameBits, Point, origin}
+use Rattle.g9932.specs.Order.{bitsOf, ones, reorderedTones}
+use Rattle.g9932.specs.Trellis.{zeroState, encodePairs, readPairs, sentOf, readingOf}
 use Rattle.g9932.specs.Points.{pointOf, samePoint, labelOf}
 use Rattle.g9932.specs.Filler.{drawn, afterDraws, draws, registerAfter}
-use Rattle.g9932.specs.Symbol.{classAt, load, tonePoint, writePoints, inConstellation, isFiller, monitorTest, toneBits, gatherBits, isMonitored}
+use Rattle.g9932.specs.Symbol.{classAt, orderOf, classesOf, isMonitored, firstMonitored, pairsIn, sizeOf, load, tonePoint, writePoints, sentIn, writtenPoints, inConstellation, isFiller, offgridTest, monitorTest, toneBits, gatherBits, readingIn}
 use Rattle.g9932.specs.declared.Class.{Class}
 use Rattle.g9932.specs.declared.Class.the-variants.{Data, Monitored, Silent}
-use Rattle.g9932.proofs.Constellations.{samePoint→eq, turnedPoint, point-turned, point-inj}
+use Rattle.g9932.specs.declared.Mode.{Mode}
+use Rattle.g9932.specs.declared.Mode.the-variants.{Coded}
+use Rattle.g9932.proofs.Accepted.{Accepted, AcceptedCoded}
+use Rattle.g9932.proofs.Constellations.{samePoint→eq, point-inj}
 use Rattle.g9932.proofs.Labels.{label-point}
-use Rattle.g9932.proofs.Symbols.{loads, OnGrid}
-use Rattle.g9932.proofs.TurnedTones.{turnedLabels}
-use Rattle.g9932.proofs.TurnedWord.{turnedWord, length-turned, not-self}
+use Rattle.g9932.proofs.Search.{first-ext}
+use Rattle.g9932.proofs.Sent.{length-classes, load-classes, loads-sum}
+use Rattle.g9932.proofs.Symbols.{loads}
+use Rattle.g9932.proofs.TurnedTones.{turnedLabels, tones-pairs}
+use Rattle.g9932.proofs.Turns.{Turn, turned-nil, turn-moves, turnedBits}
+use Rattle.guarantees.specs.Words.{AcceptedFrame}
+use Rattle.guarantees.proofs.RoundTrip.{length-sentIn}
+
+-- A turn of points and of labels: from `least` bits on, 1 or 2, a turned point is that of the turned label; with fewer it has none.
+pub record PointTurn : Type 0 where
+  pub labels : Turn
+  pub point : Point → Point
+  pub least : ℕ
+  pub small : least ≤ 2
+  pub still : point origin ≡ origin
+  pub label : (b : ℕ) (v : List Bool) → least ≤ b → length v ≡ b → point (pointOf b v) ≡ pointOf b (labels .word v)
+  pub off : (b : ℕ) (v : List Bool) → 1 ≤ b → b < least → length v ≡ b → labelOf b (point (pointOf b v)) ≡ none
 
 -- data tones carry at least one bit
 abbrev Loaded : Class → Type 0
@@ -45,57 +64,115 @@ pub loaded-classes : (T : Tables) (t : List ℕ) → AllLoaded (map (classAt T) 
 loaded-classes T [] = tt
 loaded-classes T (k ∷ t) = (loaded-class (entry (T .bits) k) (entry (T .gains) k), loaded-classes T t)
 
--- ---- one tone
+module _ (turn : PointTurn) where
+  abbrev point : Point → Point
+  point = turn .point
 
-turned-label : (n : ℕ) (v : List Bool) → 1 ≤ n → length v ≡ n → labelOf n (turnedPoint (pointOf n v)) ≡ some (turnedWord v)
-turned-label n v h l = ap (labelOf n) (point-turned n v h l) ∙ label-point n (turnedWord v) (length-turned v ∙ l)
+  abbrev word : List Bool → List Bool
+  word = turn .labels .word
 
-module _ (r : ℕ) where
-  turned-on : (c : Class) (d : List Bool) → Loaded c → load c ≤ length d → inConstellation c (turnedPoint (tonePoint r c d)) ≡ true
-  turned-on (Data n) d h l = rw (turned-label n (take n d) h (length-take-le n d l))
-  turned-on Monitored d h l = rw (turned-label 2 (drawn 2 r) (omega arith) refl)
-  turned-on Silent d h l = refl
+  -- a tone whose points leave their constellation
+  abbrev pub leaves : Class → Bool
+  leaves (Data n) = ltb n (turn .least)
+  leaves Monitored = false
+  leaves Silent = false
 
-  -- a turned filler point is never the one that its bits give
-  filler-differs : samePoint (turnedPoint (pointOf 2 (drawn 2 r))) (pointOf 2 (drawn 2 r)) ≡ false
-  filler-differs = go (samePoint (turnedPoint (pointOf 2 (drawn 2 r))) (pointOf 2 (drawn 2 r))) refl
-    where
-      go : (s : Bool) → samePoint (turnedPoint (pointOf 2 (drawn 2 r))) (pointOf 2 (drawn 2 r)) ≡ s → s ≡ false
-      go false e = refl
-      go true e =
-          let p = samePoint→eq (turnedPoint (pointOf 2 (drawn 2 r))) (pointOf 2 (drawn 2 r)) e in
-          let i = point-inj 2 (turnedWord (drawn 2 r)) (drawn 2 r) refl refl (sym (point-turned 2 (drawn 2 r) (omega arith) refl) ∙ p) in
-          absurd (not-self (bit (drawn 2 r) 0) (sym (ap (λ (l : List Bool). bit l 0) i)))
+  -- ---- one tone
 
-  turned-filler : (c : Class) (d : List Bool) → not (isFiller c r (turnedPoint (tonePoint r c d))) ≡ isMonitored c
-  turned-filler (Data n) d = refl
-  turned-filler Monitored d = rw filler-differs
-  turned-filler Silent d = refl
+  turned-label : (n : ℕ) (v : List Bool) → turn .least ≤ n → length v ≡ n → labelOf n (point (pointOf n v)) ≡ some (word v)
+  turned-label n v h l = ap (labelOf n) (turn .label n v h l) ∙ label-point n (word v) (turn .labels .kept v ∙ l)
 
-  turned-bits : (c : Class) (d : List Bool) → Loaded c → load c ≤ length d → toneBits c (turnedPoint (tonePoint r c d)) ≡ turnedWord (take (load c) d)
-  turned-bits (Data n) d h l = rw (turned-label n (take n d) h (length-take-le n d l))
-  turned-bits Monitored d h l = refl
-  turned-bits Silent d h l = refl
+  module _ (r : ℕ) where
+    tone-off : (c : Class) (d : List Bool) → Loaded c → load c ≤ length d → not (inConstellation c (point (tonePoint r c d))) ≡ leaves c
+    tone-off (Data n) d h l = go (ltb n (turn .least)) refl
+      where
+        go : (s : Bool) → ltb n (turn .least) ≡ s → not (inConstellation (Data n) (point (tonePoint r (Data n) d))) ≡ s
+        go true e = rw (turn .off n (take n d) h (ltb-true n (turn .least) e) (length-take-le n d l))
+        go false e = rw (turned-label n (take n d) (ltb-false n (turn .least) e) (length-take-le n d l))
+    tone-off Monitored d h l = rw (turned-label 2 (drawn 2 r) (turn .small) refl)
+    tone-off Silent d h l = rw (turn .still)
 
--- ---- the symbol
+    -- a turned filler point is never the one that its bits give
+    filler-differs : samePoint (point (pointOf 2 (drawn 2 r))) (pointOf 2 (drawn 2 r)) ≡ false
+    filler-differs = go (samePoint (point (pointOf 2 (drawn 2 r))) (pointOf 2 (drawn 2 r))) refl
+      where
+        go : (s : Bool) → samePoint (point (pointOf 2 (drawn 2 r))) (pointOf 2 (drawn 2 r)) ≡ s → s ≡ false
+        go false e = refl
+        go true e =
+            let p = samePoint→eq (point (pointOf 2 (drawn 2 r))) (pointOf 2 (drawn 2 r)) e in
+            let i = point-inj 2 (word (drawn 2 r)) (drawn 2 r) (turn .labels .kept (drawn 2 r)) refl (sym (turn .label 2 (drawn 2 r) (turn .small) refl) ∙ p) in
+            absurd (turn-moves (turn .labels) (drawn 2 r) (omega arith) i)
 
-pub symbol-on : (r : ℕ) (cs : List Class) (d : List Bool) → AllLoaded cs → length d ≡ loads cs → OnGrid cs (map turnedPoint (writePoints r cs d))
-unfolding writePoints
-symbol-on r [] d h l k i = absurd (omega arith)
-symbol-on r (c ∷ cs) d h l zero i = ap not (turned-on r c d (h .0) (omega arith))
-symbol-on r (c ∷ cs) d h l (suc k) i = symbol-on (afterDraws (draws c) r) cs (drop (load c) d) (h .1) (simp length-drop (omega arith)) k (omega arith)
+    tone-filler : (c : Class) (d : List Bool) → not (isFiller c r (point (tonePoint r c d))) ≡ isMonitored c
+    tone-filler (Data n) d = refl
+    tone-filler Monitored d = rw filler-differs
+    tone-filler Silent d = refl
 
-pub symbol-monitor : (r : ℕ) (cs : List Class) (d : List Bool) (k : ℕ) → k < length cs
-    → monitorTest r cs (map turnedPoint (writePoints r cs d)) k ≡ isMonitored (getD cs k Silent)
-unfolding writePoints registerAfter
-symbol-monitor r [] d k i = absurd (omega arith)
-symbol-monitor r (c ∷ cs) d zero i = turned-filler r c d
-symbol-monitor r (c ∷ cs) d (suc k) i = symbol-monitor (afterDraws (draws c) r) cs (drop (load c) d) k (omega arith)
+    tone-bits : (c : Class) (d : List Bool) → leaves c ≡ false → load c ≤ length d → toneBits c (point (tonePoint r c d)) ≡ word (take (load c) d)
+    tone-bits (Data n) d o l = rw (turned-label n (take n d) (ltb-false n (turn .least) o) (length-take-le n d l))
+    tone-bits Monitored d o l = sym (turned-nil (turn .labels))
+    tone-bits Silent d o l = sym (turned-nil (turn .labels))
 
-pub symbol-bits : (r : ℕ) (cs : List Class) (d : List Bool) → AllLoaded cs → length d ≡ loads cs
-    → gatherBits cs (map turnedPoint (writePoints r cs d)) ≡ turnedLabels (map load cs) d
-unfolding writePoints gatherBits
-symbol-bits r [] d h l = refl
-symbol-bits r (c ∷ cs) d h l =
-    ap₂ (λ (x y : List Bool). x ++ y) (turned-bits r c d (h .0) (omega arith))
-    (symbol-bits (afterDraws (draws c) r) cs (drop (load c) d) (h .1) (simp length-drop (omega arith)))
+  -- ---- the symbol
+
+  pub symbol-off : (r : ℕ) (cs : List Class) (d : List Bool) → AllLoaded cs → length d ≡ loads cs → (k : ℕ) → k < length cs
+      → offgridTest cs (map point (writePoints r cs d)) k ≡ leaves (getD cs k Silent)
+  unfolding writePoints
+  symbol-off r [] d h l k i = absurd (omega arith)
+  symbol-off r (c ∷ cs) d h l zero i = tone-off r c d (h .0) (omega arith)
+  symbol-off r (c ∷ cs) d h l (suc k) i = symbol-off (afterDraws (draws c) r) cs (drop (load c) d) (h .1) (simp length-drop (omega arith)) k (omega arith)
+
+  pub symbol-monitor : (r : ℕ) (cs : List Class) (d : List Bool) (k : ℕ) → k < length cs
+      → monitorTest r cs (map point (writePoints r cs d)) k ≡ isMonitored (getD cs k Silent)
+  unfolding writePoints registerAfter
+  symbol-monitor r [] d k i = absurd (omega arith)
+  symbol-monitor r (c ∷ cs) d zero i = tone-filler r c d
+  symbol-monitor r (c ∷ cs) d (suc k) i = symbol-monitor (afterDraws (draws c) r) cs (drop (load c) d) k (omega arith)
+
+  -- where no point leaves its constellation
+  pub symbol-bits : (r : ℕ) (cs : List Class) (d : List Bool) → ((k : ℕ) → k < length cs → leaves (getD cs k Silent) ≡ false) → length d ≡ loads cs
+      → gatherBits cs (map point (writePoints r cs d)) ≡ turnedLabels word (map load cs) d
+  unfolding writePoints gatherBits
+  symbol-bits r [] d o l = refl
+  symbol-bits r (c ∷ cs) d o l =
+      ap₂ (λ (x y : List Bool). x ++ y) (tone-bits r c d (o 0 (omega arith)) (omega arith))
+      (symbol-bits (afterDraws (draws c) r) cs (drop (load c) d) (λ k i. o (suc k) (omega arith)) (simp length-drop (omega arith)))
+
+  -- ---- of accepted tables, coded, for an accepted frame
+
+  module _ (T : Tables) (a : Accepted T) (m : T .mode ≡ Coded) (r : ℕ) (f : List ℕ) (ok : AcceptedFrame T f) where
+    c : AcceptedCoded T
+    c = a .coded m
+
+    abbrev q : List Point
+    q = map point (writtenPoints T r f)
+
+    abbrev g : List Bool
+    g = frameBits (sizeOf T) f
+
+    pub off-13 : (k : ℕ) → k < length (classesOf T) → offgridTest (classesOf T) q k ≡ leaves (getD (classesOf T) k Silent)
+    unfolding writtenPoints
+    off-13 = symbol-off r (classesOf T) (sentIn T f) (loaded-classes T (orderOf T)) (length-sentIn T a r f ok)
+
+    pub at-14 : first (monitorTest r (classesOf T) q) (length (T .tones)) ≡ firstMonitored T
+    unfolding writtenPoints
+    at-14 =
+        first-ext (monitorTest r (classesOf T) q) (λ k. isMonitored (getD (classesOf T) k Silent)) (length (T .tones))
+        (λ k h. symbol-monitor r (classesOf T) (sentIn T f) k (rw (length-classes T) h))
+
+    -- what is read where no point leaves its constellation and two 1-bit tones turn as an entry of 2 does
+    module _ (none : (k : ℕ) → k < length (classesOf T) → leaves (getD (classesOf T) k Silent) ≡ false)
+        (twos : (d : List Bool) → length d ≡ ones (T .bits) (T .tones)
+        → turnedLabels word (replicate (ones (T .bits) (T .tones)) 1) d ≡ turnedLabels word (replicate (ones (T .bits) (T .tones) / 2) 2) d) where
+      decoded-turned : gatherBits (classesOf T) q ≡ turnedBits word (pairsIn T) (encodePairs zeroState (pairsIn T) g)
+      unfolding writtenPoints sentOf
+      decoded-turned =
+          symbol-bits r (classesOf T) (sentIn T f) none (length-sentIn T a r f ok)
+          ∙ ap (λ (ns : List ℕ). turnedLabels word ns (sentIn T f))
+          (load-classes T (orderOf T) ∙ ap (λ (n : Mode). bitsOf (T .bits) (reorderedTones n (T .bits) (T .tones))) m)
+          ∙ tones-pairs (turn .labels) (T .bits) (T .tones) (c .onesEven) twos (sentIn T f) (length-sentIn T a r f ok ∙ loads-sum T)
+          ∙ ap₂ (turnedBits word) (sym (c .pairs)) (ap (λ (n : Mode). sentOf n (pairsIn T) g) m)
+
+      pub turned-reading : readingIn T q ≡ readPairs zeroState (pairsIn T) (turnedBits word (pairsIn T) (encodePairs zeroState (pairsIn T) g))
+      unfolding readingIn readingOf
+      turned-reading = ap (λ (n : Mode). readingOf n (pairsIn T) (gatherBits (classesOf T) q)) m ∙ ap (readPairs zeroState (pairsIn T)) decoded-turned

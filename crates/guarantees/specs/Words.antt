@@ -1,17 +1,19 @@
--- Document 01, "The words of demand 3".
-use Prim.Native.Nat.{ℕ, _-_, _/_, _<_}
+-- The words that the guarantees are stated with: document 01, "The words of demand 3", and those of the sent bits.
+use Prim.Native.Nat.{ℕ, zero, suc, _+_, _*_, _-_, _/_, _<_}
 use mathlib.Core.Bool.{Bool, false, not}
-use mathlib.Core.List.{List, map}
+use mathlib.Core.List.{List, [], _∷_, _++_, map}
 use mathlib.Core.Path.{_≡_}
 use lib.Dec.{ltb}
 use lib.IntN.{ℤ, pos, negsuc, negℤ}
-use lib.ListN.{length, getD}
+use lib.ListN.{length, take, drop, getD}
 use Rattle.g9932.specs.Bits.{bit, odd}
-use Rattle.g9932.specs.Sizes.{Tables, bytesFor}
+use Rattle.g9932.specs.Sizes.{Tables, bytesFor, frameBits}
 use Rattle.g9932.specs.Refusals.{tableVerdict, frameTest, seedTest}
-use Rattle.g9932.specs.Order.{count}
+use Rattle.g9932.specs.Order.{Pair, count, ones}
+use Rattle.g9932.specs.Trellis.{Word, zeroState, lastTwo, taken, lowBitsOf, nextOf, wordAt}
 use Rattle.g9932.specs.Filler.{resetRegister, drawn}
-use Rattle.g9932.specs.Symbol.{bitsIn, sizeOf}
+use Rattle.g9932.specs.Symbol.{bitsIn, pairsIn, sizeOf}
+use Rattle.g9932.specs.declared.TrellisState.{TrellisState}
 
 -- Tables are accepted in a mode when none of 1 to 9 applies, a frame of bytes when 11 doesn't. A register is valid when 12 doesn't
 -- apply.
@@ -44,6 +46,61 @@ nonZero T = count (ltb 0) (bitsIn T)
 -- Half a turn puts (−X, −Y) for (X, Y) at every place in t', whatever the tone's class: on each of the two lists.
 abbrev pub turned : List ℤ → List ℤ
 turned xs = map negℤ xs
+
+-- ---- coded: the words u of the pairs, and where their bits go
+
+-- the words of pairs, in order, and the state after them
+abbrev pub wordsOf : TrellisState → List Pair → List Bool → List Word
+wordsOf s [] f = []
+wordsOf s (p ∷ ps) f = wordAt s p ps f ∷ wordsOf (nextOf s (wordAt s p ps f)) ps (drop (taken (lastTwo ps) p) f)
+
+abbrev pub stateAfter : TrellisState → List Word → TrellisState
+stateAfter s [] = s
+stateAfter s (u ∷ us) = stateAfter (nextOf s u) us
+
+-- the words of a frame
+abbrev pub wordsIn : Tables → List ℕ → List Word
+wordsIn T f = wordsOf zeroState (pairsIn T) (frameBits (sizeOf T) f)
+
+-- the two lowest bits of each entry's label: v0 v1 for the first of a pair, w0 w1 for the second; where x = 0 there is no v
+abbrev pub lowestOf : ℕ → Word → List (List Bool)
+lowestOf zero u = (lowBitsOf u .w0 ∷ lowBitsOf u .w1 ∷ []) ∷ []
+lowestOf (suc a) u = (lowBitsOf u .v0 ∷ lowBitsOf u .v1 ∷ []) ∷ (lowBitsOf u .w0 ∷ lowBitsOf u .w1 ∷ []) ∷ []
+
+abbrev pub lowest : List Pair → List Word → List (List Bool)
+lowest [] us = []
+lowest (p ∷ ps) [] = []
+lowest (p ∷ ps) (u ∷ us) = lowestOf (p .x) u ++ lowest ps us
+
+-- the labels of entries of these lengths, cut from the sent bits in order
+abbrev pub labelsOf : List ℕ → List Bool → List (List Bool)
+labelsOf [] d = []
+labelsOf (n ∷ ns) d = take n d ∷ labelsOf ns (drop n d)
+
+-- the two lowest bits of entry n of the N, for a frame
+abbrev pub lowestAt : Tables → List ℕ → ℕ → List Bool
+lowestAt T f n = getD (lowest (pairsIn T) (wordsIn T f)) n []
+
+-- the 1-bit tones stand last in t'; the place of the first of the j-th two of them, and the entry that the two share
+abbrev pub oneBitTones : Tables → ℕ
+oneBitTones T = ones (T .bits) (T .tones)
+
+abbrev pub firstOfTwo : Tables → ℕ → ℕ
+firstOfTwo T j = length (T .tones) - oneBitTones T + 2 * j
+
+abbrev pub sharedEntry : Tables → ℕ → ℕ
+sharedEntry T j = nonZero T - oneBitTones T / 2 + j
+
+-- Table 10-2, in its order: (v1 v0 w1 w0) of the rows (u3 u2 u1 u0), where u3 changes from row to row, u2 from two rows to two,
+-- u1 from four to four, and u0 from eight to eight
+abbrev pub table10-2 : List ℕ
+table10-2 =
+    0b0000 ∷ 0b1111 ∷ 0b0011 ∷ 0b1100 ∷
+    0b1010 ∷ 0b0101 ∷ 0b1001 ∷ 0b0110 ∷
+    0b0010 ∷ 0b1101 ∷ 0b0001 ∷ 0b1110 ∷
+    0b1000 ∷ 0b0111 ∷ 0b1011 ∷ 0b0100 ∷ []
+
+-- ---- one tone, and filler bits
 
 -- bit 1 of a number in two's complement, where −1 − n has every bit of n complemented
 abbrev pub secondBit : ℤ → Bool

@@ -13,7 +13,8 @@ use Rattle.frame.proofs.Stores.{written-empty, empty-waits}
 use Rattle.frame.specs.Labels.{bitsOfLabels, labelsAt, Placed}
 use Rattle.frame.specs.Written.{emptyWriter, written, Framed}
 use Rattle.frame.specs.declared.BitWriter.{BitWriter}
-use Rattle.guarantees.proofs.Operations.{length-points}
+use Rattle.g9932.proofs.PointLists.{length-points}
+use Rattle.g9932.proofs.Search.{found-not}
 use Rattle.g9932.specs.Answers.{breakIn}
 use Rattle.g9932.specs.Bits.{num, first}
 use Rattle.g9932.specs.Filler.{drawn, afterDraws}
@@ -36,9 +37,6 @@ use Rattle.trellis.specs.declared.read.PairsRead.{PairsRead}
 use Rattle.symbol.proofs.FillerPlaces.{register-places, wrong-first}
 use Rattle.symbol.proofs.PlanLabels.{joined, joined-count, by-entry, joined-within, ones-small, plan-placed, where-inside, all-count}
 use Rattle.symbol.proofs.SymbolPoints.{class-at, load-at, tone-layout, offgrid-first, label-is, carried, label-small, tells-filler, gathered}
-
-found-not : {k : ℕ} → _≡_ {A = Found} (At k) Nothing → ⊥
-found-not z = let o : _≡_ {A = ℕ} 0 1 = cc in omega arith
 
 -- ---- the places
 

@@ -18,7 +18,7 @@ use Rattle.g9932.specs.Symbol.{classesOf, pairsIn, sizeOf, sentIn, gatherBits, 
 use Rattle.g9932.specs.Trellis.{zeroState, encodePairs, readPairs, sentOf, readingOf, takenTotal}
 use Rattle.g9932.specs.declared.Mode.{Mode}
 use Rattle.g9932.specs.declared.Mode.the-variants.{Uncoded, Coded}
-use Rattle.guarantees.proofs.Sent.{load-classes, size-uncoded}
+use Rattle.g9932.proofs.Sent.{load-classes, size-uncoded}
 use Rattle.plan.proofs.Classes.{plan-of}
 use Rattle.plan.specs.Classes.{PlanOf}
 use Rattle.plan.specs.Plan.{leastOwn, sharing, PlanIs}

@@ -11,7 +11,7 @@ use Rattle.g9932.proofs.Accepted.{accepted-tables}
 use Rattle.g9932.proofs.Formed.{formed-ok}
 use Rattle.g9932.proofs.Packed.{Bytes}
 use Rattle.g9932.proofs.Pairs.{length-read}
-use Rattle.g9932.proofs.Search.{first-no}
+use Rattle.g9932.proofs.Search.{first-no, found-not}
 use Rattle.g9932.proofs.Symbols.{length-gather}
 use Rattle.g9932.specs.Answers.{breakIn, frameIn}
 use Rattle.g9932.specs.Bits.{first}
@@ -24,8 +24,9 @@ use Rattle.g9932.specs.declared.Found.{Found}
 use Rattle.g9932.specs.declared.Found.the-variants.{At, Nothing}
 use Rattle.g9932.specs.declared.Mode.{Mode}
 use Rattle.g9932.specs.declared.Mode.the-variants.{Uncoded, Coded}
-use Rattle.guarantees.proofs.Operations.{length-points, length-classes}
-use Rattle.guarantees.proofs.Sent.{loads-sum, size-uncoded}
+use Rattle.g9932.proofs.PointLists.{length-points}
+use Rattle.g9932.proofs.Sent.{length-classes}
+use Rattle.g9932.proofs.Sent.{loads-sum, size-uncoded}
 use Rattle.plan.specs.Plan.{plannedVerdict, PlanIs, Plans}
 use Rattle.plan.specs.declared.Planned.{Planned}
 use Rattle.plan.specs.declared.Planned.the-variants.{Ready}
@@ -35,9 +36,6 @@ use Rattle.symbol.specs.Writing.{Labels, PointsOf, SymbolOf, sentFor}
 use Rattle.symbol.specs.declared.reading.PlacesRead.{PlacesRead}
 use Rattle.symbol.proofs.Points.{Decoded, framed-bytes}
 use Rattle.symbol.proofs.TablePlan.{the-plan, label-needs, sent-is, frame-room, reading-is, tones-most}
-
-found-not : {k : ℕ} → _≡_ {A = Found} (At k) Nothing → ⊥
-found-not z = let o : _≡_ {A = ℕ} 0 1 = cc in omega arith
 
 -- ---- from the tables' plan
 

@@ -1,0 +1,320 @@
+-- Coded, which bits go where: of the bits sent for each entry the two lowest are v0 v1 or w0 w1 of its pair's word, two 1-bit
+-- tones share those of one entry, and the state ends at zero.
+use Prim.Native.Nat.{ℕ, zero, suc, _+_, _*_, _-_, _/_, _%_, _≤_, _<_}
+use mathlib.Core.Bool.{Bool, true, false, not}
+use mathlib.Core.List.{List, [], _∷_, _++_, map, map-append}
+use mathlib.Core.Path.{_≡_, refl, sym, ap, ap₂, _∙_}
+use native.Mathlib.Nat.{zero-add}
+use native.Mathlib.Numerals.{one-add}
+use native.Mathlib.Omega.{arith}
+use borrow.Author.Tests.{eqb-true}
+use lib.Dec.{ltb, leb}
+use lib.ListN.{length, take, drop, getD, replicate, length-append, length-replicate, length-drop, length-map}
+use lib.Seq.{take-take, drop-drop, take-append-le, drop-append-le, drop-at, getD-take, getD-drop, getD-append-add, length-take-le}
+use Rattle.g9932.specs.Bits.{_⊕_, bit, bits, num, odd, weight}
+use Rattle.g9932.specs.Sizes.{Tables, entry, frameBits, Point, origin}
+use Rattle.g9932.specs.Order.{Pair, pair, sum, count, consIf, filter, isOne, bitsOf, oneBit, singles, others, ones, reorderedTones, reorderedBits, entries, inTwos, zeroInFront, pairsOf}
+use Rattle.g9932.specs.Trellis.{Word, zeroState, lastTwo, taken, takenTotal, lowBits, lowBitsOf, wordOf, sentBits, nextOf, wordAt, encodePairs, sentOf}
+use Rattle.g9932.specs.Points.{pointOf}
+use Rattle.g9932.specs.Filler.{registerAfter}
+use Rattle.g9932.specs.Symbol.{classAt, orderOf, classesOf, pairsIn, sizeOf, sentIn, writePoints, writtenPoints}
+use Rattle.g9932.specs.declared.Class.{Class}
+use Rattle.g9932.specs.declared.Class.the-variants.{Data}
+use Rattle.g9932.specs.declared.Mode.{Mode}
+use Rattle.g9932.specs.declared.Mode.the-variants.{Coded}
+use Rattle.g9932.specs.declared.TrellisState.{TrellisState}
+use Rattle.g9932.proofs.Accepted.{Accepted, AcceptedCoded, accepted-tables}
+use Rattle.g9932.proofs.Counts.{map-filter, filter-ones, sum-parts, sum-big, sum-replicate}
+use Rattle.g9932.proofs.Formed.{AllTwo, Formed, whole, padded, formed-ok, fit-both, fit-lone, isOne-odd, isOne-even}
+use Rattle.g9932.proofs.Identities.{bits-agree, words-agree}
+use Rattle.g9932.proofs.OnePair.{Fit, lone, both, Valid, word-valid, length-sent}
+use Rattle.g9932.proofs.Packed.{length-frame}
+use Rattle.g9932.proofs.Pairs.{Ok}
+use Rattle.g9932.proofs.Reordering.{entries-law, allTwo-entries, nonzero-entries, length-order}
+use Rattle.g9932.proofs.Sent.{load-classes, length-sentOf}
+use Rattle.g9932.proofs.Symbols.{loads, length-write, write-append}
+use Rattle.guarantees.specs.Words.{AcceptedTables, AcceptedFrame, nonZero, wordsOf, stateAfter, wordsIn, labelsOf, lowestOf, lowest, lowestAt, oneBitTones, firstOfTwo, sharedEntry, table10-2}
+
+-- ---- the two lowest bits of each entry
+
+pub sent-low : (x y : ℕ) (u : Word) → 2 ≤ x → length (u .high) ≡ x + y - 4 → 2 ≤ y
+    → (take 2 (sentBits x u) ≡ lowBitsOf u .v0 ∷ lowBitsOf u .v1 ∷ []) × (take 2 (drop x (sentBits x u)) ≡ lowBitsOf u .w0 ∷ lowBitsOf u .w1 ∷ [])
+unfolding sentBits
+sent-low zero y u h e k = absurd (omega arith)
+sent-low (suc a) y u h e k =
+    let v : List Bool = lowBitsOf u .v0 ∷ lowBitsOf u .v1 ∷ take (suc a - 2) (u .high) in
+    let w : List Bool = lowBitsOf u .w0 ∷ lowBitsOf u .w1 ∷ drop (suc a - 2) (u .high) in
+    let l : length v ≡ suc a = let n = length-take-le (suc a - 2) (u .high) (omega arith) in omega arith in
+    (refl, ap (take 2) (drop-at v w (suc a) l))
+
+pub sent-low-alone : (u : Word) → take 2 (sentBits 0 u) ≡ lowBitsOf u .w0 ∷ lowBitsOf u .w1 ∷ []
+unfolding sentBits
+sent-low-alone u = refl
+
+-- within a pair's bits, whatever follows them
+module _ (x y : ℕ) (d rest : List Bool) (l : length d ≡ x + y) where
+  in-first : 2 ≤ x → take 2 (take x (d ++ rest)) ≡ take 2 d
+  in-first h = take-take 2 x (d ++ rest) h ∙ take-append-le 2 d rest (omega arith)
+
+  in-second : 2 ≤ y → take 2 (take y (drop x (d ++ rest))) ≡ take 2 (drop x d)
+  in-second h =
+      take-take 2 y (drop x (d ++ rest)) h ∙ ap (take 2) (drop-append-le x d rest (omega arith))
+      ∙ take-append-le 2 (drop x d) rest (simp length-drop (omega arith))
+
+both-low : {l : Bool} {x y : ℕ} {s : TrellisState} {u : Word} (rest : List Bool) → Fit l x y → 2 ≤ x → Valid l s x y u
+    → map (take 2) (take x (sentBits x u ++ rest) ∷ take y (drop x (sentBits x u ++ rest)) ∷ []) ≡ lowestOf x u
+both-low rest lone h v = absurd (omega arith)
+both-low {u = u} rest (both {x = a} {y = b}) h v =
+    let x : ℕ = suc (suc a) in
+    let y : ℕ = suc (suc b) in
+    let n : length (sentBits x u) ≡ x + y = length-sent both v in
+    let w = sent-low x y u (omega arith) (v .sized) (omega arith) in
+    ap₂ (λ (k l : List Bool). k ∷ l ∷ []) (in-first x y (sentBits x u) rest n (omega arith) ∙ w .0) (in-second x y (sentBits x u) rest n (omega arith) ∙ w .1)
+
+lone-low : (y : ℕ) (u : Word) (rest : List Bool) → length (sentBits 0 u) ≡ 0 + y → 2 ≤ y → take 2 (take y (sentBits 0 u ++ rest)) ≡ lowBitsOf u .w0 ∷ lowBitsOf u .w1 ∷ []
+lone-low y u rest n h = in-second 0 y (sentBits 0 u) rest n h ∙ sent-low-alone u
+
+-- pairs of entries, each at least 2
+twos-low : (es : List ℕ) (s : TrellisState) (f : List Bool) → AllTwo es → length es % 2 ≡ 0 → length f ≡ takenTotal (inTwos es)
+    → map (take 2) (labelsOf es (encodePairs s (inTwos es) f)) ≡ lowest (inTwos es) (wordsOf s (inTwos es) f)
+unfolding encodePairs
+twos-low [] s f h o e = refl
+twos-low (a ∷ []) s f h o e = absurd (omega arith)
+twos-low (a ∷ b ∷ es) s f h o e =
+    let ps : List Pair = inTwos es in
+    let k : ℕ = taken (lastTwo ps) (pair a b) in
+    let u : Word = wordAt s (pair a b) ps f in
+    let rest : List Bool = encodePairs (nextOf s u) ps (drop k f) in
+    let fit : Fit (lastTwo ps) a b = fit-both (lastTwo ps) a b (h .0) (h .1 .0) in
+    let v : Valid (lastTwo ps) s a b u = word-valid s (take k f) fit (length-take-le k f (omega arith)) in
+    let past : drop b (drop a (sentBits a u ++ rest)) ≡ rest =
+    drop-drop b a (sentBits a u ++ rest) ∙ drop-at (sentBits a u) rest (a + b) (length-sent fit v) in
+    ap₂ (λ (k l : List (List Bool)). k ++ l) (both-low rest fit (h .0) v)
+    (ap (λ (d : List Bool). map (take 2) (labelsOf es d)) past ∙ twos-low es (nextOf s u) (drop k f) (h .1 .1) (omega arith) (simp length-drop (omega arith)))
+
+-- and with a 0 in front
+lone-lows : (y : ℕ) (es : List ℕ) (s : TrellisState) (f : List Bool) → AllTwo (y ∷ es) → length es % 2 ≡ 0 → lastTwo (inTwos es) ≡ false
+    → length f ≡ takenTotal (pair 0 y ∷ inTwos es)
+    → map (take 2) (labelsOf (y ∷ es) (encodePairs s (pair 0 y ∷ inTwos es) f)) ≡ lowest (pair 0 y ∷ inTwos es) (wordsOf s (pair 0 y ∷ inTwos es) f)
+unfolding encodePairs
+lone-lows y es s f h o z e =
+    let ps : List Pair = inTwos es in
+    let k : ℕ = taken (lastTwo ps) (pair 0 y) in
+    let u : Word = wordAt s (pair 0 y) ps f in
+    let rest : List Bool = encodePairs (nextOf s u) ps (drop k f) in
+    let fit : Fit (lastTwo ps) 0 y = rw z (fit-lone 0 y refl (h .0)) in
+    let v : Valid (lastTwo ps) s 0 y u = word-valid s (take k f) fit (length-take-le k f (omega arith)) in
+    let past : drop y (sentBits 0 u ++ rest) ≡ rest = drop-at (sentBits 0 u) rest y (length-sent fit v ∙ zero-add y) in
+    ap₂ (λ (k : List Bool) (l : List (List Bool)). k ∷ l) (lone-low y u rest (length-sent fit v) (h .0))
+    (ap (λ (d : List Bool). map (take 2) (labelsOf es d)) past ∙ twos-low es (nextOf s u) (drop k f) (h .1) o (simp length-drop (omega arith)))
+
+-- at least three pairs where there is a 0 in front
+three-pairs : (es : List ℕ) → 4 ≤ length es → lastTwo (inTwos es) ≡ false
+three-pairs [] h = absurd (omega arith)
+three-pairs (a ∷ []) h = absurd (omega arith)
+three-pairs (a ∷ b ∷ []) h = absurd (omega arith)
+three-pairs (a ∷ b ∷ c ∷ []) h = absurd (omega arith)
+three-pairs (a ∷ b ∷ c ∷ d ∷ es) h = refl
+
+pairs-low : (es : List ℕ) (s : TrellisState) (f : List Bool) → AllTwo es → 4 ≤ length es → length f ≡ takenTotal (pairsOf es)
+    → map (take 2) (labelsOf es (encodePairs s (pairsOf es) f)) ≡ lowest (pairsOf es) (wordsOf s (pairsOf es) f)
+pairs-low es s f h n = go (isOne (length es % 2)) refl es h n refl
+  where
+    go : (o : Bool) → isOne (length es % 2) ≡ o → (fs : List ℕ) → AllTwo fs → 4 ≤ length fs → fs ≡ es → length f ≡ takenTotal (inTwos (zeroInFront o fs))
+        → map (take 2) (labelsOf fs (encodePairs s (inTwos (zeroInFront o fs)) f))
+        ≡ lowest (inTwos (zeroInFront o fs)) (wordsOf s (inTwos (zeroInFront o fs)) f)
+    go false e fs g k same l = twos-low fs s f g (ap (λ (z : List ℕ). length z % 2) same ∙ isOne-even (length es) e) l
+    go true e [] g k same l = absurd (omega arith)
+    go true e (y ∷ fs) g k same l =
+        let odd : length (y ∷ fs) % 2 ≡ 1 = ap (λ (z : List ℕ). length z % 2) same ∙ isOne-odd (length es) e in
+        lone-lows y fs s f g (omega arith) (three-pairs fs (omega arith)) l
+
+-- ---- entries of 2
+
+labels-append : (ks ns : List ℕ) (d : List Bool) → labelsOf (ks ++ ns) d ≡ labelsOf ks d ++ labelsOf ns (drop (sum ks) d)
+labels-append [] ns d = refl
+labels-append (k ∷ ks) ns d =
+    ap (λ (l : List (List Bool)). take k d ∷ l)
+    (labels-append ks ns (drop k d) ∙ ap (λ (e : List Bool). labelsOf ks (drop k d) ++ labelsOf ns e) (drop-drop (sum ks) k d))
+
+length-labels : (ns : List ℕ) (d : List Bool) → length (labelsOf ns d) ≡ length ns
+length-labels [] d = refl
+length-labels (n ∷ ns) d = ap suc (length-labels ns (drop n d))
+
+-- bit 0 or 1 of the j-th of them
+twos-bit : (k j i : ℕ) (d : List Bool) → j < k → i < 2 → bit (getD (map (take 2) (labelsOf (replicate k 2) d)) j []) i ≡ bit d (2 * j + i)
+twos-bit zero j i d h l = absurd (omega arith)
+twos-bit (suc k) zero i d h l = getD-take 2 (take 2 d) i false l ∙ getD-take 2 d i false l ∙ ap (bit d) (sym (zero-add i))
+twos-bit (suc k) (suc j) i d h l =
+    let n : 2 + (2 * j + i) ≡ 2 * suc j + i = omega arith in
+    twos-bit k j i (drop 2 d) (omega arith) l ∙ getD-drop 2 d (2 * j + i) false ∙ ap (bit d) n
+
+-- ---- 1-bit tones
+
+singles-classes : (T : Tables) (t : List ℕ) → map (classAt T) (singles (T .bits) t) ≡ replicate (ones (T .bits) t) (Data 1)
+unfolding weight
+singles-classes T [] = refl
+singles-classes T (k ∷ t) = go (oneBit (T .bits) k) refl (singles-classes T t)
+  where
+    go : (c : Bool) → oneBit (T .bits) k ≡ c → map (classAt T) (singles (T .bits) t) ≡ replicate (ones (T .bits) t) (Data 1)
+        → map (classAt T) (consIf c k (singles (T .bits) t)) ≡ replicate (weight c + ones (T .bits) t) (Data 1)
+    go true e ih =
+        let is : entry (T .bits) k ≡ 1 = eqb-true (entry (T .bits) k) 1 e in
+        rw (one-add, is) (ap (λ (l : List Class). Data 1 ∷ l) ih)
+    go false e ih = rw zero-add ih
+
+ones-point : (n r i : ℕ) (d : List Bool) → i < n → n ≤ length d → getD (writePoints r (replicate n (Data 1)) d) i origin ≡ pointOf 1 (bit d i ∷ [])
+unfolding writePoints
+ones-point zero r i d h l = absurd (omega arith)
+ones-point (suc n) r i [] h l = absurd (omega arith)
+ones-point (suc n) r zero (a ∷ d) h l = refl
+ones-point (suc n) r (suc i) (a ∷ d) h l = ones-point n r i d (omega arith) (omega arith)
+
+-- ---- the state
+
+two-same : (a : Bool) → a ⊕ a ≡ false
+two-same = bits-agree 1 (λ a. a ⊕ a) (λ a. false) refl
+
+-- a forced pair makes S0 and S1 zero and moves the old ones to S2 and S3; so two make all four
+forced-next : {x y : ℕ} (s : TrellisState) (f : List Bool) → Fit true x y
+    → nextOf s (wordOf true s x f) ≡ record { s3 = s .s1; s2 = s .s0; s1 = false; s0 = false }
+unfolding wordOf
+forced-next s f both = rw (two-same (s .s2), two-same (s .s1 ⊕ s .s3))
+
+ends-zero : (p q : Pair) (ps : List Pair) (s : TrellisState) (f : List Bool) → Ok (p ∷ q ∷ ps) → stateAfter s (wordsOf s (p ∷ q ∷ ps) f) ≡ zeroState
+ends-zero p q (r ∷ ps) s f h = ends-zero q r ps (nextOf s (wordAt s p (q ∷ r ∷ ps) f)) (drop (taken false p) f) (h .1)
+ends-zero p q [] s f h =
+    let t : TrellisState = nextOf s (wordAt s p (q ∷ []) f) in
+    let e : t ≡ record { s3 = s .s1; s2 = s .s0; s1 = false; s0 = false } = forced-next s (take (taken true p) f) (h .0) in
+    forced-next t (take (taken true q) (drop (taken true p) f)) (h .1 .0)
+    ∙ ap (λ (z : TrellisState). record { s3 = z .s1; s2 = z .s0; s1 = false; s0 = false }) e
+
+formed-zero : {o : Bool} (ps : List Pair) (s : TrellisState) (f : List Bool) → Formed o ps → stateAfter s (wordsOf s ps f) ≡ zeroState
+formed-zero ps s f (whole {p = p} {q = q} {ps = qs} h) = ends-zero p q qs s f (formed-ok ps (whole h))
+formed-zero ps s f (padded {p = p} {q = q} {r = r} {ps = qs} z y h) = ends-zero p q (r ∷ qs) s f (formed-ok ps (padded z y h))
+
+-- ---- Table 10-2
+
+pub table-10-2 : (u3 u2 u1 u0 : Bool)
+    → lowBits u0 u1 u2 u3 .w0 ∷ lowBits u0 u1 u2 u3 .w1 ∷ lowBits u0 u1 u2 u3 .v0 ∷ lowBits u0 u1 u2 u3 .v1 ∷ []
+    ≡ bits 4 (getD table10-2 (num (u3 ∷ u2 ∷ u1 ∷ u0 ∷ [])) 0)
+unfolding weight num odd bits
+table-10-2 =
+    words-agree 4
+    (λ u3 u2 u1 u0. lowBits u0 u1 u2 u3 .w0 ∷ lowBits u0 u1 u2 u3 .w1 ∷ lowBits u0 u1 u2 u3 .v0 ∷ lowBits u0 u1 u2 u3 .v1 ∷ [])
+    (λ u3 u2 u1 u0. bits 4 (getD table10-2 (num (u3 ∷ u2 ∷ u1 ∷ u0 ∷ [])) 0)) refl
+
+-- ---- accepted tables and an accepted frame
+
+module _ (T : Tables) (ok : AcceptedTables T) (m : T .mode ≡ Coded) (f : List ℕ) (a : AcceptedFrame T f) where
+  facts : Accepted T
+  facts = accepted-tables T ok
+
+  c : AcceptedCoded T
+  c = facts .coded m
+
+  -- the counts of at least 2, and how many entries of 2 the 1-bit tones make
+  abbrev big : List ℕ
+  big = filter (leb 2) (bitsOf (T .bits) (T .tones))
+
+  abbrev twos : ℕ
+  twos = oneBitTones T / 2
+
+  -- the bits of a frame
+  abbrev g : List Bool
+  g = frameBits (sizeOf T) f
+
+  length-g : length g ≡ takenTotal (pairsIn T)
+  length-g = length-frame (sizeOf T) f (a .passes) ∙ sym (c .taken)
+
+  length-sent-bits : length (sentIn T f) ≡ sum (bitsOf (T .bits) (T .tones))
+  length-sent-bits = length-sentOf T facts g (length-frame (sizeOf T) f (a .passes))
+
+  pub state-ends : stateAfter zeroState (wordsIn T f) ≡ zeroState
+  state-ends = formed-zero (pairsIn T) zeroState g (c .formed)
+
+  -- each entry's label begins with the two lowest bits of its word
+  pub entries-low : map (take 2) (labelsOf (entries (T .bits) (T .tones)) (sentIn T f)) ≡ lowest (pairsIn T) (wordsIn T f)
+  unfolding sentOf
+  entries-low =
+      let es : List ℕ = entries (T .bits) (T .tones) in
+      let sent : sentIn T f ≡ encodePairs zeroState (pairsIn T) g = ap (λ (n : Mode). sentOf n (pairsIn T) g) m in
+      let low : map (take 2) (labelsOf es (encodePairs zeroState (pairsIn T) g)) ≡ lowest (pairsIn T) (wordsIn T f) =
+      rw (c .pairs) (pairs-low es zeroState g (allTwo-entries (T .bits) (T .tones)) (c .fewEntries) (length-g ∙ ap takenTotal (c .pairs))) in
+      ap (λ (d : List Bool). map (take 2) (labelsOf es d)) sent ∙ low
+
+  -- the entries before those of the 1-bit tones, and the places
+  big-length : length big + twos ≡ nonZero T
+  big-length =
+      omega (arith, length-append big (replicate twos 2), length-replicate {A = ℕ} twos 2, ap length (entries-law (T .bits) (T .tones)))
+      ∙ sym (ap (λ (n : Mode). count (ltb 0) (reorderedBits n (T .bits) (T .tones))) m ∙ nonzero-entries (T .bits) (T .tones))
+
+  low-bit : (j i : ℕ) → j < twos → i < 2 → bit (lowestAt T f (sharedEntry T j)) i ≡ bit (drop (sum big) (sentIn T f)) (2 * j + i)
+  low-bit j i h l =
+      let d : List Bool = sentIn T f in
+      let before : List (List Bool) = map (take 2) (labelsOf big d) in
+      let after : List (List Bool) = map (take 2) (labelsOf (replicate twos 2) (drop (sum big) d)) in
+      let cut : lowest (pairsIn T) (wordsIn T f) ≡ before ++ after =
+      sym entries-low ∙ ap (λ (ns : List ℕ). map (take 2) (labelsOf ns d)) (entries-law (T .bits) (T .tones))
+      ∙ ap (map (take 2)) (labels-append big (replicate twos 2) d) ∙ map-append (take 2) (labelsOf big d) (labelsOf (replicate twos 2) (drop (sum big) d)) in
+      let at : sharedEntry T j ≡ length before + j =
+      omega (arith, big-length, length-map (labelsOf big d) (take 2), length-labels big d) in
+      ap₂ (λ (k : List (List Bool)) (n : ℕ). bit (getD k n []) i) cut at ∙ ap (λ (w : List Bool). bit w i) (getD-append-add before after j [])
+      ∙ twos-bit twos j i (drop (sum big) d) h l
+
+  -- the classes in t' order: of the other tones, then of the 1-bit ones
+  abbrev before : List Class
+  before = map (classAt T) (others (T .bits) (T .tones))
+
+  classes-coded : classesOf T ≡ before ++ replicate (oneBitTones T) (Data 1)
+  unfolding reorderedTones
+  classes-coded =
+      ap (λ (n : Mode). map (classAt T) (reorderedTones n (T .bits) (T .tones))) m
+      ∙ map-append (classAt T) (others (T .bits) (T .tones)) (singles (T .bits) (T .tones))
+      ∙ ap (λ (l : List Class). before ++ l) (singles-classes T (T .tones))
+
+  loads-before : loads before ≡ sum big
+  loads-before =
+      let ns : List ℕ = bitsOf (T .bits) (T .tones) in
+      ap sum (load-classes T (others (T .bits) (T .tones)) ∙ map-filter (entry (T .bits)) (λ n. not (isOne n)) (T .tones))
+      ∙ omega (arith, sum-parts isOne ns, ap sum (filter-ones ns), sum-replicate (count isOne ns) 1, sum-big ns)
+
+  length-before : length before ≡ length (T .tones) - oneBitTones T
+  length-before =
+      omega (
+        arith,
+        length-order (T .bits) (T .tones) (T .mode),
+        length-map (orderOf T) (classAt T),
+        ap length classes-coded,
+        length-append before (replicate (oneBitTones T) (Data 1)),
+        length-replicate {A = Class} (oneBitTones T) (Data 1),
+      )
+
+  point-at : (r i : ℕ) → i < oneBitTones T
+      → getD (writtenPoints T r f) (length (T .tones) - oneBitTones T + i) origin ≡ pointOf 1 (bit (drop (sum big) (sentIn T f)) i ∷ [])
+  unfolding writtenPoints
+  point-at r i h =
+      let d : List Bool = sentIn T f in
+      let n : ℕ = oneBitTones T in
+      let front : List Point = writePoints r before d in
+      let back : List Point = writePoints (registerAfter r before) (replicate n (Data 1)) (drop (loads before) d) in
+      let cut : writePoints r (classesOf T) d ≡ front ++ back =
+      ap (λ (cs : List Class). writePoints r cs d) classes-coded ∙ write-append r before (replicate n (Data 1)) d in
+      let at : length (T .tones) - n + i ≡ length front + i = omega (arith, length-before, length-write r before d) in
+      let left : n ≤ length (drop (loads before) d) =
+      simp length-drop (omega (arith, loads-before, length-sent-bits, sum-big (bitsOf (T .bits) (T .tones)))) in
+      ap₂ (λ (q : List Point) (k : ℕ). getD q k origin) cut at ∙ getD-append-add front back i origin
+      ∙ ones-point n (registerAfter r before) i (drop (loads before) d) h left
+      ∙ ap (λ (k : ℕ). pointOf 1 (bit (drop k d) i ∷ [])) loads-before
+
+  pub two-ones : (r j : ℕ) → j < oneBitTones T / 2
+      → (getD (writtenPoints T r f) (firstOfTwo T j) origin ≡ pointOf 1 (bit (lowestAt T f (sharedEntry T j)) 0 ∷ []))
+      × (getD (writtenPoints T r f) (firstOfTwo T j + 1) origin ≡ pointOf 1 (bit (lowestAt T f (sharedEntry T j)) 1 ∷ []))
+  two-ones r j h =
+      let first : firstOfTwo T j ≡ length (T .tones) - oneBitTones T + (2 * j + 0) = omega arith in
+      let second : firstOfTwo T j + 1 ≡ length (T .tones) - oneBitTones T + (2 * j + 1) = omega arith in
+      let point : (i : ℕ) → i < 2 → getD (writtenPoints T r f) (length (T .tones) - oneBitTones T + (2 * j + i)) origin ≡ pointOf 1 (bit (lowestAt T f (sharedEntry T j)) i ∷ []) =
+      λ i l. point-at r (2 * j + i) (omega arith) ∙ ap (λ (b : Bool). pointOf 1 (b ∷ [])) (sym (low-bit j i h l)) in (
+        ap (λ (k : ℕ). getD (writtenPoints T r f) k origin) first ∙ point 0 (omega arith),
+        ap (λ (k : ℕ). getD (writtenPoints T r f) k origin) second ∙ point 1 (omega arith),
+      )
