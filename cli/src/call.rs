@@ -2,11 +2,9 @@
 
 use crate::fault::Fault;
 use crate::options::{self, Opt};
+use clevisroot_sys::RESET;
 use std::ffi::{OsStr, OsString};
 use std::path::Path;
-
-/// The register at reset.
-pub const RESET: u32 = 8_388_607;
 
 /// What an operand is, with the name that the help has for it.
 #[derive(Clone, Copy)]

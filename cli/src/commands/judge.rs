@@ -4,13 +4,13 @@ use super::reading::{Reading, Tables};
 use super::verdict::{Ground, Known, Origin, Verdict, Way};
 use super::verdict_words::{ground_fields, sentence};
 use crate::ask::trellis_tells;
-use crate::call::RESET;
 use crate::files::{hex_lines, PointList, TableSet};
 use crate::json::{Fields, Json};
-use crate::refusal::numbers::{MONITOR, OFFGRID};
 use crate::register::{Search, ENOUGH_TONES};
 use crate::report::{fields, refusal_fields, Report};
 use crate::words::size_words;
+use clevisroot_sys::refusals::{MONITOR, OFFGRID};
+use clevisroot_sys::RESET;
 
 pub struct Judged {
     /// The points as they came, and turned.

@@ -5,15 +5,16 @@ use super::reading::{Reading, Tables};
 use super::totals::Totals;
 use super::verdict::CANNOT_TELL;
 use super::verdict_words::not_found_sentence;
-use crate::call::{Asked, Call, RESET};
+use crate::call::{Asked, Call};
 use crate::fault::Fault;
 use crate::files::{hex_lines, PointList};
 use crate::json::Json;
 use crate::output::Output;
-use crate::refusal::numbers::MONITOR;
 use crate::register::{Finder, FoundRegister, Settled};
 use crate::report::{done_words, fields, symbol_fields, Report, Written};
 use crate::stream::{self, Reports, Task};
+use clevisroot_sys::refusals::MONITOR;
+use clevisroot_sys::RESET;
 
 struct Read {
     tables: Tables,

@@ -5,11 +5,11 @@ use crate::fault::Fault;
 use crate::files::{saturating, signed};
 use crate::json::{Fields, Json};
 use crate::output::Output;
-use crate::refusal::numbers::{DONE, LABEL, OFFGRID};
 use crate::refusal::Refusal;
 use crate::report::{fields, Report};
 use crate::words::{count, shown};
 use clevisroot_sys as library;
+use clevisroot_sys::refusals::{DONE, LABEL, OFFGRID};
 
 pub fn map(call: &Call) -> Result<u8, Fault> {
     Output::open(call)?.single(map_report(call)?)

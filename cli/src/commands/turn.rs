@@ -5,7 +5,7 @@ use super::picture::{titled, Picture};
 use super::reading::Tables;
 use super::verdict::{Known, Origin};
 use super::verdict_totals::VerdictTotals;
-use crate::call::{Asked, Call, RESET};
+use crate::call::{Asked, Call};
 use crate::fault::Fault;
 use crate::files::PointList;
 use crate::json::Fields;
@@ -14,6 +14,7 @@ use crate::refusal::Refusal;
 use crate::register::{Finder, FoundRegister, Settled};
 use crate::report::{symbol_fields, Report};
 use crate::stream::{self, Reports, Task};
+use clevisroot_sys::RESET;
 
 struct Turn {
     tables: Tables,

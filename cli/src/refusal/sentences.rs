@@ -1,15 +1,15 @@
 //! One sentence a refusal: what is wrong with these very tables, and what to do about it.
 
-use super::numbers::{
-    BITS, FEW, FRAME, GAIN, MONITOR, ODD, OFFGRID, PAIR, ROOM, SEED, SIZE, STRAY, TONE, TRELLIS,
-    TWICE,
-};
 use super::place::{place_of, subcarrier_of};
 use super::question::Question;
 use crate::ask;
 use crate::files::{Class, TableSet};
 use crate::index::Place;
 use crate::words::{count, shown, size_words};
+use clevisroot_sys::refusals::{
+    BITS, FEW, FRAME, GAIN, MONITOR, ODD, OFFGRID, PAIR, ROOM, SEED, SIZE, STRAY, TONE, TRELLIS,
+    TWICE,
+};
 use clevisroot_sys::{self as library, Answer};
 
 pub fn sentence(question: &Question, answer: &Answer) -> String {

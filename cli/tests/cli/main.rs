@@ -8,6 +8,7 @@ mod json;
 mod json_output;
 mod output;
 mod pages;
+mod readme;
 mod refusals;
 mod robust;
 mod run;
