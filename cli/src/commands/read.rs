@@ -100,9 +100,14 @@ impl Read {
         output: &Output,
     ) -> (usize, Report) {
         let mut report = self.report(register, reading);
-        if let Some(FoundRegister { tones, .. }) = found {
+        if let Some(FoundRegister { tones, checked, .. }) = found {
+            let unless = if checked {
+                ""
+            } else {
+                ", if no symbol is missing between them"
+            };
             report.summary.push(format!(
-                "register before {register}, found from {tones} monitored tones"
+                "register before {register}, found from {tones} monitored tones{unless}"
             ));
         }
         // Points that are refused for what they are can be drawn too.

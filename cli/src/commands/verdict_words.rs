@@ -60,7 +60,7 @@ fn sure_by_register(clips: &str, readings: &str, known: &Known) -> String {
                 spare => format!("{spare} check it"),
             }
         ),
-        _ if *agreed >= ENOUGH_TONES => format!(
+        _ if known.enough => format!(
             "{clips}: {readings} with register {register}, which {origin}, and {agreed} monitored \
              tones agree, as with no other register."
         ),
@@ -153,6 +153,12 @@ fn equations(tones: usize) -> String {
 
 /// "1 monitored tone agrees, as it would with a wrong register one time in 4"
 fn agreement(tones: usize) -> String {
+    if tones >= ENOUGH_TONES {
+        return format!(
+            "{tones} monitored tones of several symbols agree, which settles it only if no symbol \
+             is missing between them"
+        );
+    }
     let (agree, it) = if tones == 1 {
         ("agrees", "it")
     } else {
@@ -193,12 +199,9 @@ pub fn ground_fields(verdict: Verdict, ground: &Ground) -> Fields {
     };
     let number = |number: u64| Json::Number(i64::try_from(number).unwrap_or(i64::MAX));
     let few = tones.filter(|tones| (1..ENOUGH_TONES).contains(tones));
-    let holds_if = match verdict.is_sure() && ground.is_conditional() {
-        true => Json::text("the register that was given is the writer's"),
-        false => Json::Null,
-    };
+    let condition = verdict.is_sure().then(|| condition(ground)).flatten();
     vec![
-        ("holds_if", holds_if),
+        ("holds_if", condition.map_or(Json::Null, Json::text)),
         ("trellis", Json::Flag(matches!(ground, Ground::Trellis(_)))),
         ("register", register),
         ("register_is", Json::text(register_word(ground))),
@@ -211,6 +214,17 @@ pub fn ground_fields(verdict: Verdict, ground: &Ground) -> Fields {
             few.map_or(Json::Null, |tones| number(alike_one_in(tones))),
         ),
     ]
+}
+
+/// What has to be so for a sure verdict to hold, if anything has to.
+fn condition(ground: &Ground) -> Option<&'static str> {
+    match ground {
+        Ground::Tones(known) if ground.is_conditional() => Some(match known.carried {
+            false => "the register that was given is the writer's",
+            true => "the register that was given is the writer's and no symbol is missing since",
+        }),
+        _ => None,
+    }
 }
 
 fn register_word(ground: &Ground) -> &'static str {

@@ -43,16 +43,16 @@ fn no_verdict_on_a_stream_is_wrong_and_sure() {
 
 #[test]
 fn agreement_adds_up_along_a_stream() {
-    let text = symbols(14, "8388607").join("\n");
+    let text = symbols(34, "8388607").join("\n");
     let ran = run_with(text.as_bytes(), &["turn", A, "-"]);
-    let expected = [vec!["Perhaps straight"; 11], vec!["Straight"; 3]].concat();
+    let expected = [vec!["Perhaps straight"; 31], vec!["Straight"; 3]].concat();
     assert_eq!(verdicts(&ran), expected);
     assert!(ran
         .out
         .contains("2 monitored tones agree, as they would with a wrong register one time in 16"));
     assert!(ran
         .out
-        .contains("14 monitored tones agree, as with no other register"));
+        .contains("34 monitored tones agree, as with no other register"));
 }
 
 #[test]
@@ -182,4 +182,58 @@ fn a_wrong_register_does_not_decide_on_a_stream() {
         assert!(ran.status != 0 && ran.status != 32, "{}", ran.out);
     }
     assert!(deceived > 3, "{deceived}");
+}
+
+/// The first symbol came without its last points: the writer has drawn for it, the reader has not,
+/// so that the register that was given is not that of the next symbol.
+#[test]
+fn after_a_symbol_of_the_wrong_length_nothing_is_sure() {
+    let short = |symbol: &str| symbol.lines().take(3).collect::<Vec<_>>().join("\n") + "\n";
+    for register in (1..=40).map(|number| (number * 209_701).to_string()) {
+        let mut symbols = symbols(2, &register);
+        symbols[0] = short(&symbols[0]);
+        let words = ["turn", A, "-", "--register", &register];
+        let ran = run_with(symbols.join("\n").as_bytes(), &words);
+        let told = &verdicts(&ran)[1];
+        assert!(told != "Straight" && told != "Turned", "{}", ran.out);
+    }
+}
+
+/// The point of the monitored tone of bench table A.
+fn monitored(symbol: &str) -> &str {
+    symbol.lines().nth(3).unwrap()
+}
+
+/// Symbols of a straight stream, many missing between them, whose monitored tones look turned to a
+/// register that nobody knows to be right.
+fn deceiving(count: usize) -> Vec<String> {
+    let expected = symbols(count, "8388607");
+    let mut sent = symbols(12 * count, "4711").into_iter();
+    let wanted = expected.iter().map(|symbol| turned(monitored(symbol)));
+    wanted
+        .map(|wanted| {
+            let alike = sent.find(|symbol| monitored(symbol) == wanted.trim());
+            alike.expect("one in four is so")
+        })
+        .collect()
+}
+
+#[test]
+fn a_few_tones_of_symbols_with_gaps_do_not_settle_it() {
+    let text = deceiving(16).join("\n");
+    let ran = run_with(text.as_bytes(), &["turn", A, "-"]);
+    assert_eq!(verdicts(&ran), ["Perhaps turned"; 16], "{}", ran.out);
+    let missing = "16 monitored tones of several symbols agree, which settles it only if no \
+                   symbol is missing between them";
+    assert!(ran.out.contains(missing), "{}", ran.out);
+    // With a register that was given, the verdict keeps its condition.
+    let words = ["turn", A, "-", "--register", "8388607"];
+    let ran = run_with(text.as_bytes(), &words);
+    let lines = ran.out.lines().filter(|line| line.starts_with("symbol "));
+    let condition = "if register ";
+    assert!(
+        lines.clone().all(|line| line.contains(condition)),
+        "{}",
+        ran.out
+    );
 }
