@@ -52,10 +52,11 @@ Reads the points as they came and turned by half a turn (every x,y as -x,-y), an
 sentence what to tell the jointer, and what that rests on.
 
 Without --register the value at reset is assumed; then the verdict is only perhaps so, unless 12
-monitored tones agree. With --register N it holds if N is the writer's register. With --register
-find the register is worked out from the monitored tones, and the verdict holds whatever the
-register was: 12 tones of one symbol are enough, or 32 of several that follow each other. Coded,
-and with an odd count of non-zero re-ordered entries, the trellis code tells without any register.
+monitored tones of one symbol agree, or 32 of several. With --register N it holds if N is the
+writer's register. With --register find the register is worked out from the monitored tones, and
+the verdict holds whatever the register was: 12 tones of one symbol are enough, or 32 of several
+that follow each other. Coded, and with an odd count of non-zero re-ordered entries, the trellis
+code tells without any register.
 docs/FIND-THE-REGISTER.md has the reasons.
 
 Exit status: 0 straight, 32 turned, 36 perhaps (straight or turned), 33 cannot tell, 34 neither
