@@ -4,7 +4,7 @@ use super::picture::{caption, Picture};
 use super::reading::{Reading, Tables};
 use super::totals::Totals;
 use super::verdict::CANNOT_TELL;
-use super::verdict_words::not_found_sentence;
+use super::verdict_words::{not_checked_sentence, not_found_sentence};
 use crate::call::{Asked, Call};
 use crate::fault::Fault;
 use crate::files::{hex_lines, PointList};
@@ -80,11 +80,13 @@ impl Read {
         let mut reports = Vec::new();
         for Settled { symbol, found } in settled {
             reports.push(match found {
-                Some(found) => {
+                Some(found) if found.checked => {
                     let reading = self.tables.read(&symbol.1, found.register);
                     self.told(&symbol, found.register, &reading, Some(found), output)
                 }
-                None => self.not_found(symbol.0, &symbol.1),
+                // Points that are turned can look straight to such a register.
+                Some(found) => self.not_found(symbol.0, not_checked_sentence(found)),
+                None => self.not_found(symbol.0, not_found_sentence(&self.tables, &symbol.1)),
             });
         }
         reports
@@ -100,14 +102,9 @@ impl Read {
         output: &Output,
     ) -> (usize, Report) {
         let mut report = self.report(register, reading);
-        if let Some(FoundRegister { tones, checked, .. }) = found {
-            let unless = if checked {
-                ""
-            } else {
-                ", if no symbol is missing between them"
-            };
+        if let Some(FoundRegister { tones, .. }) = found {
             report.summary.push(format!(
-                "register before {register}, found from {tones} monitored tones{unless}"
+                "register before {register}, found from {tones} monitored tones"
             ));
         }
         // Points that are refused for what they are can be drawn too.
@@ -159,8 +156,7 @@ impl Read {
     }
 
     /// No register can be told, so that nothing can be read.
-    fn not_found(&mut self, number: usize, points: &PointList) -> (usize, Report) {
-        let sentence = not_found_sentence(&self.tables, points);
+    fn not_found(&mut self, number: usize, sentence: String) -> (usize, Report) {
         let mut json = fields("read", [None; 4]);
         json.push(("sentence", Json::text(sentence.clone())));
         let mut report = Report::new(CANNOT_TELL, vec![sentence.clone()], json);

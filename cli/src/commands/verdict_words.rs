@@ -5,7 +5,7 @@ use super::verdict::{Ground, Known, Origin, Verdict};
 use crate::ask;
 use crate::files::{PointList, TableSet};
 use crate::json::{Fields, Json};
-use crate::register::{Found, Search, ENOUGH_TONES, TONES_OF_STREAM};
+use crate::register::{Found, FoundRegister, Search, ENOUGH_TONES, TONES_OF_STREAM};
 use crate::words::count;
 
 /// What the jointer should be told, in one sentence.
@@ -260,4 +260,16 @@ pub fn not_found_sentence(tables: &Tables, points: &PointList) -> String {
               noise or other tables."
             .to_string(),
     }
+}
+
+/// Why a register that several symbols give is not read with.
+pub fn not_checked_sentence(found: FoundRegister) -> String {
+    let FoundRegister {
+        register, tones, ..
+    } = found;
+    format!(
+        "Cannot tell the register: {tones} monitored tones of several symbols give {register} \
+         before this one, but only if none is missing between them; it takes {TONES_OF_STREAM}, or \
+         {ENOUGH_TONES} in one symbol."
+    )
 }

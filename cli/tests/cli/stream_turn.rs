@@ -85,22 +85,39 @@ fn after_a_refused_symbol_nothing_is_sure() {
 
 #[test]
 fn read_finds_the_register_of_a_stream() {
-    let text = symbols(15, "4711").join("\n");
+    let text = symbols(35, "4711").join("\n");
     let ran = run_with(text.as_bytes(), &["read", A, "-", "--register=find"]);
     assert_eq!(ran.status, 0, "{}", ran.out);
     let read = ran
         .out
         .lines()
         .filter(|line| !line.starts_with('#') && !line.is_empty());
-    assert_eq!(read.collect::<Vec<_>>(), frames(15));
+    assert_eq!(read.collect::<Vec<_>>(), frames(35));
     assert!(ran
         .out
-        .contains("# register before 4711, found from 15 monitored tones"));
+        .contains("# register before 4711, found from 32 monitored tones"));
     let text = symbols(11, "4711").join("\n");
     let ran = run_with(text.as_bytes(), &["read", A, "-", "--register=find"]);
     assert_eq!(ran.status, 33);
     let totals = "# 11 symbols: 0 done, 0 refused (first symbol 0), 11 without a register, register after not known";
     assert_eq!(ran.out.lines().last(), Some(totals));
+}
+
+/// Turned symbols with a gap between them may look straight to a register that they seem to give:
+/// read with it, they would be other frames.
+#[test]
+fn a_few_tones_of_several_symbols_give_no_frames() {
+    for gap in 1..12 {
+        let mut symbols = symbols(13, "4711");
+        symbols.remove(gap);
+        let text: Vec<String> = symbols.iter().map(|symbol| turned(symbol)).collect();
+        let words = ["read", A, "-", "--register=find"];
+        let ran = run_with(text.join("\n").as_bytes(), &words);
+        assert_eq!(ran.status, 33, "{gap}: {}", ran.out);
+        assert!(!ran.out.contains("DONE"), "{gap}: {}", ran.out);
+        let sentence = "12 monitored tones of several symbols give ";
+        assert!(ran.out.contains(sentence), "{gap}: {}", ran.out);
+    }
 }
 
 /// Symbols with gaps between: whatever their number, none is sure.
