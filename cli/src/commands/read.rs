@@ -56,6 +56,7 @@ impl Task for Read {
         if self.register.is_some() && !out_of_step {
             return vec![self.told(&symbol, register, &reading, None, output)];
         }
+        self.register = None;
         let Tables { set, order, .. } = &self.tables;
         let settled = self.finder.push(set, order, symbol);
         self.settle(settled, output)

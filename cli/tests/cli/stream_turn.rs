@@ -254,3 +254,23 @@ fn a_few_tones_of_symbols_with_gaps_do_not_settle_it() {
         ran.out
     );
 }
+
+/// Once a symbol is out of step, those after it wait for the register too, and none is told before
+/// one that came earlier.
+#[test]
+fn symbols_are_told_in_their_order() {
+    let mut symbols = symbols(120, "4711");
+    for (place, again) in [(40, 39), (50, 48), (80, 80)] {
+        let symbol = symbols[again].clone();
+        symbols.insert(place, symbol);
+    }
+    symbols.remove(100);
+    let text = symbols.join("\n");
+    for command in ["read", "turn"] {
+        let ran = run_with(text.as_bytes(), &[command, A, "-", "--register=find"]);
+        let lines = ran.out.lines().map(|line| line.trim_start_matches("# "));
+        let numbers = lines.filter_map(|line| line.strip_prefix("symbol ")?.split(':').next());
+        let expected: Vec<String> = (0..122).map(|number| number.to_string()).collect();
+        assert_eq!(numbers.collect::<Vec<_>>(), expected, "{command}");
+    }
+}
