@@ -216,11 +216,14 @@ pub fn ground_fields(verdict: Verdict, ground: &Ground) -> Fields {
     ]
 }
 
+/// The condition of a verdict that rests on the register that was given.
+pub const IF_GIVEN: &str = "the register that was given is the writer's";
+
 /// What has to be so for a sure verdict to hold, if anything has to.
 fn condition(ground: &Ground) -> Option<&'static str> {
     match ground {
         Ground::Tones(known) if ground.is_conditional() => Some(match known.carried {
-            false => "the register that was given is the writer's",
+            false => IF_GIVEN,
             true => "the register that was given is the writer's and no symbol is missing since",
         }),
         _ => None,

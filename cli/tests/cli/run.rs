@@ -126,3 +126,10 @@ pub fn symbols(count: usize, register: &str) -> Vec<String> {
         .map(|symbol| symbol.lines().filter(points).map(bare).collect())
         .collect()
 }
+
+/// The words of `turn` on each symbol of a stream.
+pub fn verdicts(ran: &Ran) -> Vec<String> {
+    let lines = ran.out.lines().filter(|line| line.starts_with("symbol "));
+    let word = |line: &str| line.split(": ").nth(1).unwrap().to_string();
+    lines.map(word).collect()
+}
