@@ -1,7 +1,7 @@
 //! Symbols that are missing from a stream, came twice or came in part: nothing wrong is sure, and the
 //! register is found anew.
 
-use crate::run::{run_with, symbols, turned, verdicts};
+use crate::run::{run_with, symbols, symbols_of, tables, turned, verdicts};
 
 const A: &str = "examples/bench-a.txt";
 
@@ -130,5 +130,69 @@ fn symbols_are_told_in_their_order() {
         let numbers = lines.filter_map(|line| line.strip_prefix("symbol ")?.split(':').next());
         let expected: Vec<String> = (0..122).map(|number| number.to_string()).collect();
         assert_eq!(numbers.collect::<Vec<_>>(), expected, "{command}");
+    }
+}
+
+/// Numbers that look random and are the same in each run.
+fn numbers(mut state: u64) -> impl FnMut(u64) -> u64 {
+    move |bound| {
+        state = state
+            .wrapping_mul(6_364_136_223_846_793_005)
+            .wrapping_add(1);
+        (state >> 33) % bound
+    }
+}
+
+/// Some symbols are missing, some came twice, and some without their last points.
+fn damaged(symbols: &[String], random: &mut impl FnMut(u64) -> u64) -> Vec<String> {
+    let mut came = Vec::new();
+    for symbol in symbols {
+        match random(10) {
+            0 | 1 => {}
+            2 => came.push(symbol.lines().next().unwrap().to_string() + "\n"),
+            3 => came.extend([symbol.clone(), symbol.clone()]),
+            _ => came.push(symbol.clone()),
+        }
+    }
+    came
+}
+
+/// Four tones of 2 bits, so that N is even and the trellis code cannot tell, and monitored ones.
+fn even_set(monitored: usize) -> String {
+    let tone = |tone| (tone, if tone < 4 { 2 } else { 0 }, 512);
+    let tones: Vec<_> = (0..4 + monitored).map(tone).collect();
+    tables(
+        &format!("gaps-{monitored}.txt"),
+        "coded",
+        tones.len(),
+        &tones,
+    )
+}
+
+#[test]
+fn no_damaged_stream_is_told_wrongly() {
+    let mut random = numbers(17);
+    for monitored in [1, 2, 5, 11, 12, 20] {
+        let set = even_set(monitored);
+        let frames: Vec<String> = (0..60)
+            .map(|number| format!("{:02x}", number % 4))
+            .collect();
+        for register in ["8388607", "4711", "65537"] {
+            let straight = damaged(&symbols_of(&set, &frames, register), &mut random);
+            let wrong: Vec<String> = straight.iter().map(|symbol| turned(symbol)).collect();
+            for (symbols, never) in [(&straight, "Turned"), (&wrong, "Straight")] {
+                let text = symbols.join("\n");
+                for words in [
+                    &["turn", &set, "-"][..],
+                    &["turn", &set, "-", "--register=find"],
+                ] {
+                    let told = verdicts(&run_with(text.as_bytes(), words));
+                    assert!(told.iter().all(|told| told != never), "{words:?}: {told:?}");
+                }
+            }
+            let words = ["read", &set, "-", "--register=find"];
+            let read = run_with(wrong.join("\n").as_bytes(), &words);
+            assert!(!read.out.contains("DONE"), "{}", read.out);
+        }
     }
 }
