@@ -25,7 +25,7 @@ fn main() -> ExitCode {
         }
     };
     println!(
-        "medians of {} rounds, sides in turn; tones shuffled, 8 frames, buffers not cleared",
+        "medians of {} rounds, sides in turn; tones shuffled, 8 frames or 64, buffers not cleared",
         effort.rounds
     );
     print_symbols(effort);

@@ -11,7 +11,7 @@ const SYMBOL_TIME: f64 = 250e-6;
 pub fn print_symbols(effort: Effort) {
     println!("time of a symbol of 4096 tones, and its share of the symbol time of 250 us");
     println!(
-        "{:<27}{:>9}{:>8}{:>12}{:>8}{:>14}{:>15}",
+        "{:<33}{:>9}{:>8}{:>12}{:>8}{:>14}{:>15}",
         "", "library", "", "peer", "", "library/peer", "middle half"
     );
     for load in LOADS {
@@ -24,7 +24,7 @@ pub fn print_symbols(effort: Effort) {
 fn print_symbol(operation: &str, load: Load, measured: &Measured) {
     let share = |seconds: f64| 100.0 * seconds / SYMBOL_TIME;
     println!(
-        "{:<27}{:>6.1} us{:>6.1} %{:>9.1} us{:>6.1} %{:>14.2}{:>15}",
+        "{:<33}{:>6.1} us{:>6.1} %{:>9.1} us{:>6.1} %{:>14.2}{:>15}",
         format!("{operation}, {}", load.name),
         1e6 * measured.library,
         share(measured.library),
@@ -62,7 +62,8 @@ fn measure_load(effort: Effort, load: Load, nsc: usize) -> (Measured, Measured) 
     let mut workload = Workload::new(load, nsc);
     let alike = workload.agrees(encoders[0], readers[0]);
     assert!(alike, "the library and the peer differ: {}", load.name);
-    let encode = measure(effort, encoders, |encode| workload.encode(encode));
-    let read = measure(effort, readers, |read| workload.read(read));
+    let cycle = workload.cycle();
+    let encode = measure(effort, cycle, encoders, |encode| workload.encode(encode));
+    let read = measure(effort, cycle, readers, |read| workload.read(read));
     (encode, read)
 }

@@ -20,13 +20,15 @@ pub struct Measured {
     pub spread: (f64, f64),
 }
 
-/// Times both sides at the same symbols, the one that goes first changing each round.
+/// Times both sides at the same symbols, of which there are `cycle`; the side that goes first changes
+/// each round.
 pub fn measure<Side: Copy, A>(
     effort: Effort,
+    cycle: usize,
     [library, peer]: [Side; 2],
     mut symbol: impl FnMut(Side) -> A,
 ) -> Measured {
-    let count = symbols_per_turn(effort.turn, [library, peer], &mut symbol);
+    let count = symbols_per_turn(effort.turn, cycle as u32, [library, peer], &mut symbol);
     let (mut library_times, mut peer_times, mut ratios) = (vec![], vec![], vec![]);
     for round in 0..effort.rounds {
         let order = if round % 2 == 0 {
@@ -50,13 +52,14 @@ pub fn measure<Side: Copy, A>(
     }
 }
 
-/// Symbols that the slower side gets through in a turn; also warms both up.
+/// Symbols that the slower side gets through in a turn, in whole cycles; also warms both up.
 fn symbols_per_turn<Side: Copy, A>(
     wanted: Duration,
+    cycle: u32,
     sides: [Side; 2],
     symbol: &mut impl FnMut(Side) -> A,
 ) -> u32 {
-    let mut count = 1;
+    let mut count = cycle;
     loop {
         let [one, other] = sides.map(|side| turn(count, side, symbol));
         if 2.0 * one.max(other) * f64::from(count) > wanted.as_secs_f64() {

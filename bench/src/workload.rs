@@ -1,10 +1,10 @@
-//! Tables with a few frames and their points, the same for both sides.
+//! Table sets with a few frames and their points, the same for both sides.
 
 use crate::peer;
 use clevisroot_sys::{Answer, Tables};
 use difftest::random::Random;
 
-/// Frames in turn, so that no side profits from one frame's bits.
+/// Frames in turn at least, so that no side profits from one frame's bits.
 const FRAMES: usize = 8;
 const REGISTER: u32 = 8_388_607;
 
@@ -15,18 +15,33 @@ pub struct Load {
     pub coded: u8,
     /// Bit counts from the first to the last, evenly.
     pub bits: (u8, u8),
+    /// Table sets in turn, another for each symbol.
+    pub sets: usize,
 }
 
-pub const LOADS: [Load; 4] = [
+pub const LOADS: [Load; 5] = [
     load("15 bits coded", 1, (15, 15)),
     load("15 bits uncoded", 0, (15, 15)),
     MIXED,
     load("8 bits coded", 1, (8, 8)),
+    ROTATING,
 ];
 pub const MIXED: Load = load("0 to 15 bits coded", 1, (0, 15));
 
+/// So many table sets that the processor does not learn by heart which way a branch goes.
+pub const ROTATING: Load = Load {
+    name: "0 to 15, 64 sets in turn",
+    sets: 64,
+    ..MIXED
+};
+
 const fn load(name: &'static str, coded: u8, bits: (u8, u8)) -> Load {
-    Load { name, coded, bits }
+    Load {
+        name,
+        coded,
+        bits,
+        sets: 1,
+    }
 }
 
 pub type Encode = fn(Tables, &[u8], u32, &mut [i16], &mut [i16]) -> Answer;
@@ -45,11 +60,17 @@ struct Symbol {
     y: Vec<i16>,
 }
 
-pub struct Workload {
+/// A table set with symbols of it.
+struct Set {
     tables: OwnTables,
     symbols: Vec<Symbol>,
+}
+
+pub struct Workload {
+    sets: Vec<Set>,
+    /// Counts the symbols.
     next: usize,
-    /// What encoding and reading write to.
+    /// What encoding and reading write to, with room for the longest frame.
     out: Symbol,
 }
 
@@ -81,57 +102,82 @@ impl OwnTables {
     }
 }
 
-impl Workload {
+impl Set {
     /// Draws tables until some are accepted, and writes the symbols with the peer.
-    pub fn new(load: Load, nsc: usize) -> Workload {
-        let random = &mut Random::for_case(nsc as u64, u64::from(load.bits.0));
+    fn random(random: &mut Random, load: Load, nsc: usize) -> Set {
         loop {
             let tables = OwnTables::random(random, load, nsc);
             let answer = peer::check(tables.lent());
             if answer.number == 0 {
                 let l = answer.size as usize;
-                let symbols: Vec<Symbol> = (0..FRAMES)
+                let symbols = (0..FRAMES.div_ceil(load.sets))
                     .map(|_| Symbol::random(random, &tables, l))
                     .collect();
-                let out = Symbol::blank(nsc, l);
-                return Workload {
-                    tables,
-                    symbols,
-                    next: 0,
-                    out,
-                };
+                return Set { tables, symbols };
             }
         }
+    }
+}
+
+impl Workload {
+    pub fn new(load: Load, nsc: usize) -> Workload {
+        let random = &mut Random::for_case(nsc as u64, u64::from(load.bits.0));
+        let sets: Vec<Set> = (0..load.sets)
+            .map(|_| Set::random(random, load, nsc))
+            .collect();
+        Workload {
+            sets,
+            next: 0,
+            out: Symbol::blank(nsc, nsc * usize::from(load.bits.1)),
+        }
+    }
+
+    /// After so many symbols the first comes again.
+    pub fn cycle(&self) -> usize {
+        self.sets.len() * self.sets[0].symbols.len()
     }
 
     /// Encodes the next frame.
     pub fn encode(&mut self, encode: Encode) -> Answer {
-        self.next = (self.next + 1) % FRAMES;
-        let frame = &self.symbols[self.next].frame;
+        self.next = (self.next + 1) % self.cycle();
+        let (tables, symbol) = symbol_at(&self.sets, self.next);
         let Symbol { x, y, .. } = &mut self.out;
-        encode(self.tables.lent(), frame, REGISTER, x, y)
+        encode(tables.lent(), &symbol.frame, REGISTER, x, y)
     }
 
     /// Reads the next points.
     pub fn read(&mut self, read: Read) -> Answer {
-        self.next = (self.next + 1) % FRAMES;
-        let Symbol { x, y, .. } = &self.symbols[self.next];
-        read(self.tables.lent(), x, y, REGISTER, &mut self.out.frame)
+        self.next = (self.next + 1) % self.cycle();
+        let (tables, symbol) = symbol_at(&self.sets, self.next);
+        let frame = &mut self.out.frame[..symbol.frame.len()];
+        read(tables.lent(), &symbol.x, &symbol.y, REGISTER, frame)
     }
 
     /// An implementation writes the peer's points, and reads the frames from them.
     pub fn agrees(&mut self, encode: Encode, read: Read) -> bool {
-        let written = (0..FRAMES).all(|_| {
+        let written = (0..self.cycle()).all(|_| {
             let answer = self.encode(encode);
-            let symbol = &self.symbols[self.next];
+            let (_, symbol) = symbol_at(&self.sets, self.next);
             answer.number == 0 && (&symbol.x, &symbol.y) == (&self.out.x, &self.out.y)
         });
-        let understood = (0..FRAMES).all(|_| {
+        let understood = (0..self.cycle()).all(|_| {
             let answer = self.read(read);
-            answer.number == 0 && self.symbols[self.next].frame == self.out.frame
+            let (_, symbol) = symbol_at(&self.sets, self.next);
+            answer.number == 0 && self.out.frame.starts_with(&symbol.frame)
         });
         written && understood
     }
+
+    /// The tone tables of the sets.
+    pub fn tone_tables(&self) -> impl Iterator<Item = &[u16]> {
+        self.sets.iter().map(|set| set.tables.tones.as_slice())
+    }
+}
+
+/// The symbol with this number, each of another set than the one before, and its tables.
+fn symbol_at(sets: &[Set], number: usize) -> (&OwnTables, &Symbol) {
+    let Set { tables, symbols } = &sets[number % sets.len()];
+    (tables, &symbols[number / sets.len()])
 }
 
 impl Symbol {

@@ -28,9 +28,13 @@ pub fn parse(words: &[OsString], commands: &'static [Command]) -> Result<Request
         sorted.operands.remove(0);
     }
     if sorted.operands.is_empty() {
-        return match wants_help || asks {
-            true => Ok(Request::Text(help::tool(commands))),
-            false => Err(Fault::usage(help::USAGE)),
+        return match (wants_help || asks, sorted.options.first()) {
+            (true, _) => Ok(Request::Text(help::tool(commands))),
+            (false, Some(Given { name, .. })) => {
+                let told = format!("no command, and only --{}", shown(name));
+                Err(Fault::usage(format!("{told}\n{}", help::USAGE)))
+            }
+            (false, None) => Err(Fault::usage(help::USAGE)),
         };
     }
     let command = find(commands, &sorted.operands.remove(0))?;
@@ -168,8 +172,8 @@ fn register(kind: Kind, word: &str) -> Result<Asked, String> {
     match (kind, register_number(word)) {
         (_, Some(number)) => Ok(Asked::Given(number, word.to_string())),
         (Kind::RegisterOrFind, None) if word == "find" => Ok(Asked::Find),
-        (Kind::RegisterOrFind, None) => Err("takes a whole number or `find`".to_string()),
-        _ => Err("takes a whole number".to_string()),
+        (Kind::RegisterOrFind, None) => Err("takes a whole number from 1 or `find`".to_string()),
+        _ => Err("takes a whole number from 1".to_string()),
     }
 }
 

@@ -2,11 +2,9 @@
 
 use crate::fault::Fault;
 use crate::options::{self, Opt};
+use clevisroot_sys::RESET;
 use std::ffi::{OsStr, OsString};
 use std::path::Path;
-
-/// The register at reset.
-pub const RESET: u32 = 8_388_607;
 
 /// What an operand is, with the name that the help has for it.
 #[derive(Clone, Copy)]
@@ -106,12 +104,17 @@ impl Call {
         self.has(&options::JSON)
     }
 
-    /// A number among the operands, as `read` reads it.
-    pub fn number<T>(&self, operand: usize, read: impl Fn(&str) -> Option<T>) -> Result<T, Fault> {
+    /// A number among the operands, as `read` reads it; `kind` says what it is to be.
+    pub fn number<T>(
+        &self,
+        operand: usize,
+        kind: &str,
+        read: impl Fn(&str) -> Option<T>,
+    ) -> Result<T, Fault> {
         let word = self.operands[operand].to_str().and_then(read);
         word.ok_or_else(|| {
             let name = self.command.operands[operand].name();
-            self.command.wrong(&format!("{name} is not a whole number"))
+            self.command.wrong(&format!("{name} is not {kind}"))
         })
     }
 

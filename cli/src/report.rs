@@ -1,9 +1,9 @@
 //! What a command has to say, for a person and for a program.
 
 use crate::json::{Fields, Json};
-use crate::refusal::numbers::name;
 use crate::refusal::Refusal;
 use crate::words::size_words;
+use clevisroot_sys::refusals::name;
 use clevisroot_sys::Answer;
 
 /// The main result: with remarks on the screen, without in a file.

@@ -34,9 +34,9 @@ examples
 pub const READ: &str = "\
 Reads exact points back to the frame, hex, 32 bytes a line. What it prints is a FRAME file. The
 register must be the one the points were written with; --register find works it out from the
-monitored tones, 12 or more, of one symbol or of several that follow each other, and ends with
-status 33 where it cannot. Refusals are 1 to 10 and 12 to 15; with 13, 14 and 15 the picture of
---svg is drawn too and shows what was refused.
+monitored tones, 12 of one symbol or 32 of several that follow each other, and where it cannot
+there is no frame and the status is 33. Refusals are 1 to 10 and 12 to 15; with 13, 14 and 15 the
+picture of --svg is drawn too and shows what was refused.
 
 The file may hold many symbols, with an empty line or a header x,y between them. The register
 goes from one to the next; a refused symbol hands it back as it was, so that the symbols after it
@@ -52,10 +52,11 @@ Reads the points as they came and turned by half a turn (every x,y as -x,-y), an
 sentence what to tell the jointer, and what that rests on.
 
 Without --register the value at reset is assumed; then the verdict is only perhaps so, unless 12
-monitored tones agree. With --register N it holds if N is the writer's register. With --register
-find the register is worked out from the monitored tones, and the verdict holds whatever the
-register was: 12 tones of one symbol are enough, or 32 of several that follow each other. Coded,
-and with an odd count of non-zero re-ordered entries, the trellis code tells without any register.
+monitored tones of one symbol agree, or 32 of several. With --register N it holds if N is the
+writer's register. With --register find the register is worked out from the monitored tones, and
+the verdict holds whatever the register was: 12 tones of one symbol are enough, or 32 of several
+that follow each other. Coded, and with an odd count of non-zero re-ordered entries, the trellis
+code tells without any register.
 docs/FIND-THE-REGISTER.md has the reasons.
 
 Exit status: 0 straight, 32 turned, 36 perhaps (straight or turned), 33 cannot tell, 34 neither

@@ -9,10 +9,10 @@ use crate::fault::Fault;
 use crate::files::{Frame, TableSet};
 use crate::json::Json;
 use crate::output::Output;
-use crate::refusal::numbers::DONE;
 use crate::refusal::Question;
 use crate::report::{done_words, symbol_fields, Report, Written};
 use crate::stream::{self, Reports, Task};
+use clevisroot_sys::refusals::DONE;
 use clevisroot_sys::Answer;
 use std::fmt::Write;
 

@@ -1,15 +1,16 @@
 //! `figures`: document 01's bench figures, worked out now, each beside the page's value.
 
 use crate::ask;
-use crate::call::{Call, RESET};
+use crate::call::Call;
 use crate::fault::Fault;
 use crate::files::{Entry, TableSet};
 use crate::index::Subcarrier;
 use crate::json::Json;
 use crate::output::Output;
-use crate::refusal::numbers::name;
 use crate::report::{fields, Report};
 use clevisroot_sys as library;
+use clevisroot_sys::refusals::name;
+use clevisroot_sys::RESET;
 use std::fmt::Display;
 
 /// The exit status if a figure is not the page's.

@@ -4,13 +4,13 @@ use super::reading::{Reading, Tables};
 use super::verdict::{Ground, Known, Origin, Verdict, Way};
 use super::verdict_words::{ground_fields, sentence};
 use crate::ask::trellis_tells;
-use crate::call::RESET;
 use crate::files::{hex_lines, PointList, TableSet};
 use crate::json::{Fields, Json};
-use crate::refusal::numbers::{MONITOR, OFFGRID};
-use crate::register::{Search, ENOUGH_TONES};
+use crate::register::Search;
 use crate::report::{fields, refusal_fields, Report};
 use crate::words::size_words;
+use clevisroot_sys::refusals::{MONITOR, OFFGRID};
+use clevisroot_sys::RESET;
 
 pub struct Judged {
     /// The points as they came, and turned.
@@ -146,7 +146,7 @@ fn by_register(readings: &[Reading; 2], known: Known, monitored: usize) -> (Verd
     let sure = match known.origin {
         Origin::Given | Origin::Found(_) => true,
         Origin::FoundAcross(_) => false,
-        Origin::Reset | Origin::HandedBack | Origin::Contradicted => known.agreed >= ENOUGH_TONES,
+        Origin::Reset | Origin::HandedBack | Origin::Contradicted => known.enough,
     };
     match sure {
         true => (Verdict::sure(way), Ground::Tones(known)),

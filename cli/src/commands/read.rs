@@ -4,16 +4,17 @@ use super::picture::{caption, Picture};
 use super::reading::{Reading, Tables};
 use super::totals::Totals;
 use super::verdict::CANNOT_TELL;
-use super::verdict_words::not_found_sentence;
-use crate::call::{Asked, Call, RESET};
+use super::verdict_words::{not_checked_sentence, not_found_sentence};
+use crate::call::{Asked, Call};
 use crate::fault::Fault;
 use crate::files::{hex_lines, PointList};
 use crate::json::Json;
 use crate::output::Output;
-use crate::refusal::numbers::MONITOR;
 use crate::register::{Finder, FoundRegister, Settled};
 use crate::report::{done_words, fields, symbol_fields, Report, Written};
 use crate::stream::{self, Reports, Task};
+use clevisroot_sys::refusals::MONITOR;
+use clevisroot_sys::RESET;
 
 struct Read {
     tables: Tables,
@@ -55,6 +56,7 @@ impl Task for Read {
         if self.register.is_some() && !out_of_step {
             return vec![self.told(&symbol, register, &reading, None, output)];
         }
+        self.register = None;
         let Tables { set, order, .. } = &self.tables;
         let settled = self.finder.push(set, order, symbol);
         self.settle(settled, output)
@@ -79,11 +81,13 @@ impl Read {
         let mut reports = Vec::new();
         for Settled { symbol, found } in settled {
             reports.push(match found {
-                Some(found) => {
+                Some(found) if found.checked => {
                     let reading = self.tables.read(&symbol.1, found.register);
                     self.told(&symbol, found.register, &reading, Some(found), output)
                 }
-                None => self.not_found(symbol.0, &symbol.1),
+                // Points that are turned can look straight to such a register.
+                Some(found) => self.not_found(symbol.0, not_checked_sentence(found)),
+                None => self.not_found(symbol.0, not_found_sentence(&self.tables, &symbol.1)),
             });
         }
         reports
@@ -153,8 +157,7 @@ impl Read {
     }
 
     /// No register can be told, so that nothing can be read.
-    fn not_found(&mut self, number: usize, points: &PointList) -> (usize, Report) {
-        let sentence = not_found_sentence(&self.tables, points);
+    fn not_found(&mut self, number: usize, sentence: String) -> (usize, Report) {
         let mut json = fields("read", [None; 4]);
         json.push(("sentence", Json::text(sentence.clone())));
         let mut report = Report::new(CANNOT_TELL, vec![sentence.clone()], json);

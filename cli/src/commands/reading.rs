@@ -4,8 +4,8 @@ use crate::ask::{self, Order};
 use crate::call::Call;
 use crate::fault::Fault;
 use crate::files::{read_tables, PointList, TableSet};
-use crate::refusal::numbers::{is_of_points, DONE};
-use crate::refusal::{Question, Refusal};
+use crate::refusal::{is_of_points, Question, Refusal};
+use clevisroot_sys::refusals::DONE;
 use clevisroot_sys::{self as library, Answer};
 
 pub struct Tables {

@@ -6,11 +6,11 @@ use crate::fault::Fault;
 use crate::files::{read_tables, Class, TableSet};
 use crate::json::{Fields, Json};
 use crate::output::Output;
-use crate::refusal::numbers::DONE;
 use crate::refusal::Question;
 use crate::register::ENOUGH_TONES;
 use crate::report::{table_fields, Report, Written};
 use crate::words::{mode_word, size_words};
+use clevisroot_sys::refusals::DONE;
 use clevisroot_sys::{self as library, Answer};
 use std::fmt::Display;
 

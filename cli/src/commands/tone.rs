@@ -5,11 +5,14 @@ use crate::fault::Fault;
 use crate::files::{saturating, signed};
 use crate::json::{Fields, Json};
 use crate::output::Output;
-use crate::refusal::numbers::{DONE, LABEL, OFFGRID};
 use crate::refusal::Refusal;
 use crate::report::{fields, Report};
 use crate::words::{count, shown};
 use clevisroot_sys as library;
+use clevisroot_sys::refusals::{DONE, LABEL, OFFGRID};
+
+/// What counts and labels are to be.
+const FROM_0: &str = "a whole number from 0";
 
 pub fn map(call: &Call) -> Result<u8, Fault> {
     Output::open(call)?.single(map_report(call)?)
@@ -21,7 +24,7 @@ pub fn point(call: &Call) -> Result<u8, Fault> {
 
 fn map_report(call: &Call) -> Result<Report, Fault> {
     let bits = bits_operand(call)?;
-    let label = call.number(1, |word| saturating(word, u32::MAX))?;
+    let label = call.number(1, FROM_0, |word| saturating(word, u32::MAX))?;
     let point = library::map_label(bits, label);
     if point.number != DONE {
         return Ok(refused("map", point.number, label_sentence(bits)));
@@ -43,7 +46,8 @@ fn map_report(call: &Call) -> Result<Report, Fault> {
 
 fn point_report(call: &Call) -> Result<Report, Fault> {
     let bits = bits_operand(call)?;
-    let ((x, _), (y, _)) = (call.number(1, signed)?, call.number(2, signed)?);
+    let coordinate = |operand| call.number(operand, "a whole number", signed);
+    let ((x, _), (y, _)) = (coordinate(1)?, coordinate(2)?);
     let found = library::read_point(bits, x, y);
     if found.number != DONE {
         let sentence = match found.number {
@@ -74,7 +78,7 @@ fn point_report(call: &Call) -> Result<Report, Fault> {
 
 /// Bits beyond the library's type are refused like those within it.
 fn bits_operand(call: &Call) -> Result<u8, Fault> {
-    let bits = call.number(0, |word| saturating(word, u32::from(u8::MAX)))?;
+    let bits = call.number(0, FROM_0, |word| saturating(word, u32::from(u8::MAX)))?;
     Ok(u8::try_from(bits).unwrap_or(u8::MAX))
 }
 

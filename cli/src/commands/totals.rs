@@ -1,9 +1,9 @@
 //! The totals of a stream of `encode` or `read`.
 
 use crate::json::Json;
-use crate::refusal::numbers::{name, DONE};
 use crate::report::Report;
 use crate::words::count;
+use clevisroot_sys::refusals::{name, DONE};
 use std::collections::BTreeMap;
 
 #[derive(Default)]

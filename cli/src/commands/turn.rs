@@ -5,7 +5,7 @@ use super::picture::{titled, Picture};
 use super::reading::Tables;
 use super::verdict::{Known, Origin};
 use super::verdict_totals::VerdictTotals;
-use crate::call::{Asked, Call, RESET};
+use crate::call::{Asked, Call};
 use crate::fault::Fault;
 use crate::files::PointList;
 use crate::json::Fields;
@@ -14,6 +14,7 @@ use crate::refusal::Refusal;
 use crate::register::{Finder, FoundRegister, Settled};
 use crate::report::{symbol_fields, Report};
 use crate::stream::{self, Reports, Task};
+use clevisroot_sys::RESET;
 
 struct Turn {
     tables: Tables,
@@ -92,10 +93,12 @@ impl Turn {
         reports
     }
 
-    /// Tables, points or register are refused, so that there is no verdict.
+    /// Tables, points or register are refused, so that there is no verdict. The writer has drawn for
+    /// the symbol all the same.
     fn refused(&mut self, refusal: &Refusal, json: Fields) -> Report {
         let report = Report::refused(refusal, json);
         self.totals.add_refused(report.status);
+        self.known = self.known.and_then(|known| self.handed_back(known));
         report
     }
 
@@ -122,8 +125,8 @@ impl Turn {
     fn carried(&self, judged: &Judged) -> Option<Known> {
         let known = judged.known?;
         let read = judged.readings.iter().find(|reading| reading.is_done());
-        match (read, self.find) {
-            (Some(read), _) => {
+        match read {
+            Some(read) => {
                 let known = match judged.only_way() {
                     Some(way) => known.reading(way, self.tables.monitored),
                     None => known,
@@ -134,9 +137,13 @@ impl Turn {
                     ..known
                 })
             }
-            (None, true) => None,
-            (None, false) => Some(Known::new(known.register, Origin::HandedBack)),
+            None => self.handed_back(known),
         }
+    }
+
+    /// The register after a refused symbol. One that was found is found anew.
+    fn handed_back(&self, known: Known) -> Option<Known> {
+        (!self.find).then(|| Known::new(known.register, Origin::HandedBack))
     }
 
     fn picture(&self, number: usize, points: &PointList, judged: &Judged) -> String {

@@ -1,6 +1,6 @@
 //! Verdicts on the clips: how sure they are, and what they rest on.
 
-use crate::register::ENOUGH_TONES;
+use crate::register::{ENOUGH_TONES, TONES_OF_STREAM};
 
 /// The exit status where nothing can be told.
 pub const CANNOT_TELL: u8 = 33;
@@ -44,6 +44,8 @@ pub struct Known {
     pub origin: Origin,
     /// The monitored tones of the symbols so far that agree with it, all the same way round.
     pub agreed: usize,
+    /// They are so many that no other register gives them.
+    pub enough: bool,
     pub way: Option<Way>,
     /// It is the one after a symbol that was read.
     pub carried: bool,
@@ -55,6 +57,7 @@ impl Known {
             register,
             origin,
             agreed: 0,
+            enough: false,
             way: None,
             carried: false,
         }
@@ -67,22 +70,18 @@ impl Known {
     /// What it is to a symbol that is read this way with it: clips are not swapped within a stream,
     /// so that a change of the way speaks against the register.
     pub fn reading(self, way: Way, monitored: usize) -> Known {
-        match (self.origin, self.way) {
-            (_, Some(before)) if before != way => Known {
-                origin: Origin::Contradicted,
-                agreed: monitored,
-                way: Some(way),
-                ..self
-            },
-            (Origin::Found(_) | Origin::FoundAcross(_), _) => Known {
-                way: Some(way),
-                ..self
-            },
-            _ => Known {
-                agreed: self.agreed + monitored,
-                way: Some(way),
-                ..self
-            },
+        let (origin, agreed) = match (self.origin, self.way) {
+            (_, Some(before)) if before != way => (Origin::Contradicted, monitored),
+            (Origin::Found(_) | Origin::FoundAcross(_), _) => (self.origin, self.agreed),
+            _ => (self.origin, self.agreed + monitored),
+        };
+        Known {
+            origin,
+            agreed,
+            // Between several symbols one may be missing, so that they need more.
+            enough: monitored >= ENOUGH_TONES || agreed >= TONES_OF_STREAM,
+            way: Some(way),
+            ..self
         }
     }
 }
@@ -148,7 +147,7 @@ impl Ground {
     /// Whether a sure verdict holds only if the register that was given is the writer's.
     pub fn is_conditional(&self) -> bool {
         match self {
-            Ground::Tones(known) => known.origin == Origin::Given && known.agreed < ENOUGH_TONES,
+            Ground::Tones(known) => known.origin == Origin::Given && !known.enough,
             _ => false,
         }
     }

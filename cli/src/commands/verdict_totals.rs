@@ -1,6 +1,7 @@
 //! The totals of a stream of `turn`: the clips are the same for all of its symbols.
 
 use super::verdict::{Verdict, CANNOT_TELL};
+use super::verdict_words::IF_GIVEN;
 use crate::json::Json;
 use crate::report::Report;
 use crate::words::count;
@@ -75,9 +76,21 @@ impl VerdictTotals {
         }
     }
 
+    /// What the verdict on all of them holds under, if every symbol that says so does.
+    fn condition(&self, whole: Option<Verdict>) -> Option<&'static str> {
+        let [straight, turned] = self.unconditional;
+        let conditional = match whole {
+            Some(Verdict::Straight) => !straight,
+            Some(Verdict::Turned) => !turned,
+            _ => false,
+        };
+        conditional.then_some(IF_GIVEN)
+    }
+
     pub fn report(&self) -> Report {
         let symbols = self.verdicts.values().sum::<usize>() + self.refused;
         let whole = self.whole();
+        let condition = self.condition(whole);
         let mut words: Vec<String> = Vec::new();
         let mut counts = Vec::new();
         for verdict in ALL {
@@ -91,9 +104,10 @@ impl VerdictTotals {
         }
         let word = whole.map_or("no verdict", Verdict::word);
         let summary = format!(
-            "{}: {}; in all: {word}",
+            "{}: {}; in all: {word}{}",
             count(symbols, "symbol"),
-            words.join(", ")
+            words.join(", "),
+            condition.map_or(String::new(), |condition| format!(", if {condition}"))
         );
         let status = whole.map_or(self.first.unwrap_or(CANNOT_TELL), Verdict::status);
         let fields = vec![
@@ -104,6 +118,7 @@ impl VerdictTotals {
                 "verdict",
                 whole.map_or(Json::Null, |whole| Json::text(whole.word())),
             ),
+            ("holds_if", condition.map_or(Json::Null, Json::text)),
         ];
         Report::new(status, vec![summary], fields)
     }

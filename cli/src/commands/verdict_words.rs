@@ -5,7 +5,7 @@ use super::verdict::{Ground, Known, Origin, Verdict};
 use crate::ask;
 use crate::files::{PointList, TableSet};
 use crate::json::{Fields, Json};
-use crate::register::{Found, Search, ENOUGH_TONES, TONES_OF_STREAM};
+use crate::register::{Found, FoundRegister, Search, ENOUGH_TONES, TONES_OF_STREAM};
 use crate::words::count;
 
 /// What the jointer should be told, in one sentence.
@@ -60,7 +60,7 @@ fn sure_by_register(clips: &str, readings: &str, known: &Known) -> String {
                 spare => format!("{spare} check it"),
             }
         ),
-        _ if *agreed >= ENOUGH_TONES => format!(
+        _ if known.enough => format!(
             "{clips}: {readings} with register {register}, which {origin}, and {agreed} monitored \
              tones agree, as with no other register."
         ),
@@ -153,6 +153,12 @@ fn equations(tones: usize) -> String {
 
 /// "1 monitored tone agrees, as it would with a wrong register one time in 4"
 fn agreement(tones: usize) -> String {
+    if tones >= ENOUGH_TONES {
+        return format!(
+            "{tones} monitored tones of several symbols agree, which settles it only if no symbol \
+             is missing between them"
+        );
+    }
     let (agree, it) = if tones == 1 {
         ("agrees", "it")
     } else {
@@ -193,12 +199,9 @@ pub fn ground_fields(verdict: Verdict, ground: &Ground) -> Fields {
     };
     let number = |number: u64| Json::Number(i64::try_from(number).unwrap_or(i64::MAX));
     let few = tones.filter(|tones| (1..ENOUGH_TONES).contains(tones));
-    let holds_if = match verdict.is_sure() && ground.is_conditional() {
-        true => Json::text("the register that was given is the writer's"),
-        false => Json::Null,
-    };
+    let condition = verdict.is_sure().then(|| condition(ground)).flatten();
     vec![
-        ("holds_if", holds_if),
+        ("holds_if", condition.map_or(Json::Null, Json::text)),
         ("trellis", Json::Flag(matches!(ground, Ground::Trellis(_)))),
         ("register", register),
         ("register_is", Json::text(register_word(ground))),
@@ -211,6 +214,20 @@ pub fn ground_fields(verdict: Verdict, ground: &Ground) -> Fields {
             few.map_or(Json::Null, |tones| number(alike_one_in(tones))),
         ),
     ]
+}
+
+/// The condition of a verdict that rests on the register that was given.
+pub const IF_GIVEN: &str = "the register that was given is the writer's";
+
+/// What has to be so for a sure verdict to hold, if anything has to.
+fn condition(ground: &Ground) -> Option<&'static str> {
+    match ground {
+        Ground::Tones(known) if ground.is_conditional() => Some(match known.carried {
+            false => IF_GIVEN,
+            true => "the register that was given is the writer's and no symbol is missing since",
+        }),
+        _ => None,
+    }
 }
 
 fn register_word(ground: &Ground) -> &'static str {
@@ -246,4 +263,16 @@ pub fn not_found_sentence(tables: &Tables, points: &PointList) -> String {
               noise or other tables."
             .to_string(),
     }
+}
+
+/// Why a register that several symbols give is not read with.
+pub fn not_checked_sentence(found: FoundRegister) -> String {
+    let FoundRegister {
+        register, tones, ..
+    } = found;
+    format!(
+        "Cannot tell the register: {tones} monitored tones of several symbols give {register} \
+         before this one, but only if none is missing between them; it takes {TONES_OF_STREAM}, or \
+         {ENOUGH_TONES} in one symbol."
+    )
 }

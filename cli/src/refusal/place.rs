@@ -1,14 +1,14 @@
 //! The place of a refusal as what it is: a place in t or t', a sub-carrier, a pair, or none; with
 //! the tones that stand there and the line of the file they came from.
 
-use super::numbers::{
-    BITS, FRAME, GAIN, MONITOR, OFFGRID, PAIR, ROOM, SEED, STRAY, TONE, TRELLIS, TWICE,
-};
 use super::question::Question;
 use crate::ask::{self, Order};
 use crate::files::TableSet;
 use crate::index::{Place, Subcarrier};
 use crate::json::{Fields, Json};
+use clevisroot_sys::refusals::{
+    BITS, FRAME, GAIN, MONITOR, OFFGRID, PAIR, ROOM, SEED, STRAY, TONE, TRELLIS, TWICE,
+};
 use clevisroot_sys::Answer;
 
 /// What was found out about a place.
@@ -34,6 +34,11 @@ pub fn of(question: &Question, answer: &Answer) -> Found {
         SEED => whole("the register"),
         _ => whole("the table set as a whole"),
     }
+}
+
+/// Whether the refusal is about the points themselves: such points can be drawn, and turned.
+pub fn is_of_points(number: u32) -> bool {
+    matches!(number, OFFGRID | MONITOR | TRELLIS)
 }
 
 /// The places in t' that a reader refused.

@@ -1,15 +1,15 @@
 //! One sentence a refusal: what is wrong with these very tables, and what to do about it.
 
-use super::numbers::{
-    BITS, FEW, FRAME, GAIN, MONITOR, ODD, OFFGRID, PAIR, ROOM, SEED, SIZE, STRAY, TONE, TRELLIS,
-    TWICE,
-};
 use super::place::{place_of, subcarrier_of};
 use super::question::Question;
 use crate::ask;
 use crate::files::{Class, TableSet};
 use crate::index::Place;
 use crate::words::{count, shown, size_words};
+use clevisroot_sys::refusals::{
+    BITS, FEW, FRAME, GAIN, MONITOR, ODD, OFFGRID, PAIR, ROOM, SEED, SIZE, STRAY, TONE, TRELLIS,
+    TWICE,
+};
 use clevisroot_sys::{self as library, Answer};
 
 pub fn sentence(question: &Question, answer: &Answer) -> String {
@@ -96,25 +96,42 @@ fn few(set: &TableSet) -> String {
 
 fn room(question: &Question) -> String {
     let points = question.points.map_or(0, |points| points.count);
+    let tones = question.set.tone_count();
+    let between = if is_several(points, tones) {
+        ", and an empty line between symbols"
+    } else {
+        ""
+    };
     format!(
-        "There are {} for {}: give one point a tone, in t' order.",
+        "There are {} for {}: give one point a tone, in t' order{between}.",
         count(points, "point"),
-        count(question.set.tone_count(), "tone")
+        count(tones, "tone")
     )
+}
+
+/// Whether so many are those of several symbols, with nothing between them.
+fn is_several(given: usize, one: usize) -> bool {
+    one > 0 && given > one && given.is_multiple_of(one)
 }
 
 fn frame(question: &Question) -> String {
     let size = library::check(question.set.lent()).size;
     let given = question.frame.map_or(0, |frame| frame.count);
-    if given == ask::frame_bytes(question.set) {
+    let bytes = ask::frame_bytes(question.set);
+    if given == bytes {
         let unused = match (8 - size % 8) % 8 {
             1 => "upper bit of the last byte is not used and".to_string(),
             unused => format!("upper {unused} bits of the last byte are not used and"),
         };
         format!("{}: the {unused} must be 0.", size_words(size))
     } else {
+        let between = if is_several(given, bytes) {
+            ": put an empty line between frames"
+        } else {
+            ""
+        };
         let given = count(given, "byte");
-        format!("{}, and this frame has {given}.", size_words(size))
+        format!("{}, and this frame has {given}{between}.", size_words(size))
     }
 }
 

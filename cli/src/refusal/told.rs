@@ -1,9 +1,9 @@
 //! All that is said of a refusal.
 
-use super::numbers::name;
 use super::question::Question;
 use super::{place, sentences};
 use crate::json::Fields;
+use clevisroot_sys::refusals::name;
 use clevisroot_sys::Answer;
 
 pub struct Refusal {

@@ -4,8 +4,8 @@
 use super::equations::{Register, Solutions, System};
 use crate::ask::Order;
 use crate::files::{PointList, TableSet};
-use crate::refusal::numbers::DONE;
 use clevisroot_sys as library;
+use clevisroot_sys::refusals::DONE;
 
 /// Fewer monitored tones never tell: 11 give 22 equations for 23 bits.
 pub const ENOUGH_TONES: usize = 12;

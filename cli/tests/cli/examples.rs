@@ -1,11 +1,9 @@
-//! The files in `examples/`, the calls in the README, and the second implementation.
+//! The files in `examples/`, and the second implementation.
 
-use crate::run::{path, root, run, run_with, Ran};
+use crate::run::{root, run, run_with};
 use reference::forms::{Mode, Tables};
 use reference::operations::encode;
 use std::fs;
-use std::path::Path;
-use std::process::{Command, Stdio};
 
 /// The rule that examples/vdsl2-4096.txt states, for a tone in t: bits and gain.
 fn vdsl2_tone(i: u32) -> (u32, u32) {
@@ -114,46 +112,4 @@ fn the_examples_have_the_sizes_they_say() {
         );
         assert_eq!(ran.line(4), format!("a turned clip {turned}"));
     }
-}
-
-/// The calls in the README's console blocks, with what they print.
-fn readme_calls() -> Vec<(String, String)> {
-    let text = fs::read_to_string(root().join("cli/README.md")).unwrap();
-    let mut calls: Vec<(String, String)> = Vec::new();
-    for block in text.split("```console\n").skip(1) {
-        for line in block.split("```").next().unwrap().lines() {
-            match (line.strip_prefix("$ clevisroot "), calls.last_mut()) {
-                (Some(call), _) => calls.push((call.to_string(), String::new())),
-                (None, Some((_, output))) => *output += &format!("{line}\n"),
-                (None, None) => panic!("output before the first call: {line}"),
-            }
-        }
-    }
-    calls
-}
-
-#[test]
-fn the_readme_shows_what_is_printed() {
-    // In a folder of its own, because the calls write files.
-    let folder = path("readme");
-    let _ = fs::create_dir(&folder);
-    let _ = fs::create_dir(folder.join("examples"));
-    for file in fs::read_dir(root().join("examples")).unwrap() {
-        let file = file.unwrap();
-        fs::copy(file.path(), folder.join("examples").join(file.file_name())).unwrap();
-    }
-    let calls = readme_calls();
-    assert!(calls.len() >= 5);
-    for (call, output) in calls {
-        assert_eq!(run_in(&folder, &call).out, output, "clevisroot {call}");
-    }
-    let read = |path: &Path| fs::read_to_string(path).unwrap();
-    let kept = root().join("docs/bench-a.svg");
-    assert_eq!(read(&folder.join("bench-a.svg")), read(&kept));
-}
-
-fn run_in(folder: &Path, call: &str) -> Ran {
-    let mut command = Command::new(env!("CARGO_BIN_EXE_clevisroot"));
-    command.args(call.split_whitespace()).current_dir(folder);
-    Ran::of(&command.stdin(Stdio::null()).output().unwrap())
 }

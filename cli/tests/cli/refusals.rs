@@ -147,12 +147,24 @@ fn room() {
 }
 
 #[test]
+fn points_of_several_symbols_without_an_empty_line() {
+    let points = "1,1\n1,1\n1,1\n-1,-1\n1,1\n1,1\n".repeat(2);
+    let ran = run_with(points.as_bytes(), &["read", A, "-"]);
+    let sentence = "There are 12 points for 6 tones: give one point a tone, in t' order, and an \
+                    empty line between symbols.";
+    refused(&ran, 10, "ROOM", "at place 0: the list", sentence);
+}
+
+#[test]
 fn frame() {
     let whole = "at place 0: the frame as a whole";
     for (frame, sentence) in [
         ("20", "the upper 3 bits of the last byte"),
         ("", "this frame has 0 bytes."),
-        ("0000", "this frame has 2 bytes."),
+        (
+            "0000",
+            "this frame has 2 bytes: put an empty line between frames.",
+        ),
     ] {
         let ran = run_with(frame.as_bytes(), &["encode", A, "-", "--register", "0"]);
         refused(&ran, 11, "FRAME", whole, sentence);

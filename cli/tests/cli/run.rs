@@ -107,17 +107,14 @@ pub fn frames(count: usize) -> Vec<String> {
 
 /// The symbols of a stream of bench table A, from the register on, without remarks.
 pub fn symbols(count: usize, register: &str) -> Vec<String> {
-    let text = frames(count).join("\n\n");
-    let ran = run_with(
-        text.as_bytes(),
-        &[
-            "encode",
-            "examples/bench-a.txt",
-            "-",
-            "--register",
-            register,
-        ],
-    );
+    symbols_of("examples/bench-a.txt", &frames(count), register)
+}
+
+/// The symbols of these frames, as above.
+pub fn symbols_of(set: &str, frames: &[String], register: &str) -> Vec<String> {
+    let text = frames.join("\n\n");
+    let words = ["encode", set, "-", "--register", register];
+    let ran = run_with(text.as_bytes(), &words);
     assert_eq!(ran.status, 0, "{}", ran.out);
     let symbols = ran.out.split("x,y\n").skip(1);
     let points = |line: &&str| line.contains(',') && !line.starts_with('#');
@@ -125,4 +122,11 @@ pub fn symbols(count: usize, register: &str) -> Vec<String> {
     symbols
         .map(|symbol| symbol.lines().filter(points).map(bare).collect())
         .collect()
+}
+
+/// The words of `turn` on each symbol of a stream.
+pub fn verdicts(ran: &Ran) -> Vec<String> {
+    let lines = ran.out.lines().filter(|line| line.starts_with("symbol "));
+    let word = |line: &str| line.split(": ").nth(1).unwrap().to_string();
+    lines.map(word).collect()
 }

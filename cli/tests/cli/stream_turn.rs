@@ -1,15 +1,9 @@
-//! The register along a stream: carried, found, lost after a refusal or a gap; and no verdict that is
-//! wrong and sure.
+//! The register along a stream: carried, found, lost after a refusal; and no verdict that is wrong and
+//! sure.
 
-use crate::run::{frames, run_with, symbols, turned, Ran};
+use crate::run::{frames, run_with, symbols, turned, verdicts};
 
 const A: &str = "examples/bench-a.txt";
-
-fn verdicts(ran: &Ran) -> Vec<String> {
-    let lines = ran.out.lines().filter(|line| line.starts_with("symbol "));
-    let word = |line: &str| line.split(": ").nth(1).unwrap().to_string();
-    lines.map(word).collect()
-}
 
 #[test]
 fn no_verdict_on_a_stream_is_wrong_and_sure() {
@@ -43,16 +37,16 @@ fn no_verdict_on_a_stream_is_wrong_and_sure() {
 
 #[test]
 fn agreement_adds_up_along_a_stream() {
-    let text = symbols(14, "8388607").join("\n");
+    let text = symbols(34, "8388607").join("\n");
     let ran = run_with(text.as_bytes(), &["turn", A, "-"]);
-    let expected = [vec!["Perhaps straight"; 11], vec!["Straight"; 3]].concat();
+    let expected = [vec!["Perhaps straight"; 31], vec!["Straight"; 3]].concat();
     assert_eq!(verdicts(&ran), expected);
     assert!(ran
         .out
         .contains("2 monitored tones agree, as they would with a wrong register one time in 16"));
     assert!(ran
         .out
-        .contains("14 monitored tones agree, as with no other register"));
+        .contains("34 monitored tones agree, as with no other register"));
 }
 
 #[test]
@@ -85,59 +79,22 @@ fn after_a_refused_symbol_nothing_is_sure() {
 
 #[test]
 fn read_finds_the_register_of_a_stream() {
-    let text = symbols(15, "4711").join("\n");
+    let text = symbols(35, "4711").join("\n");
     let ran = run_with(text.as_bytes(), &["read", A, "-", "--register=find"]);
     assert_eq!(ran.status, 0, "{}", ran.out);
     let read = ran
         .out
         .lines()
         .filter(|line| !line.starts_with('#') && !line.is_empty());
-    assert_eq!(read.collect::<Vec<_>>(), frames(15));
+    assert_eq!(read.collect::<Vec<_>>(), frames(35));
     assert!(ran
         .out
-        .contains("# register before 4711, found from 15 monitored tones"));
+        .contains("# register before 4711, found from 32 monitored tones"));
     let text = symbols(11, "4711").join("\n");
     let ran = run_with(text.as_bytes(), &["read", A, "-", "--register=find"]);
     assert_eq!(ran.status, 33);
     let totals = "# 11 symbols: 0 done, 0 refused (first symbol 0), 11 without a register, register after not known";
     assert_eq!(ran.out.lines().last(), Some(totals));
-}
-
-/// Symbols with gaps between: whatever their number, none is sure.
-#[test]
-fn symbols_that_do_not_follow_each_other_give_no_register() {
-    let all = symbols(150, "4711");
-    for (start, step) in [(0, 3), (1, 3), (0, 2), (5, 7)] {
-        let gaps: Vec<String> = all[start..].iter().step_by(step).cloned().collect();
-        for count in [12, 13, 20, gaps.len()] {
-            let text = gaps[..count.min(gaps.len())].join("\n");
-            let ran = run_with(text.as_bytes(), &["turn", A, "-", "--register=find"]);
-            let told = verdicts(&ran);
-            let unsure = |verdict: &String| verdict != "Straight" && verdict != "Turned";
-            assert!(told.iter().all(unsure), "{start} {step} {count}: {told:?}");
-        }
-    }
-}
-
-/// A gap in a long stream: what comes before it and after it is told, and nothing wrong.
-#[test]
-fn a_missing_symbol_is_noticed() {
-    let mut symbols = symbols(100, "4711");
-    symbols.remove(40);
-    let ran = run_with(
-        symbols.join("\n").as_bytes(),
-        &["turn", A, "-", "--register=find"],
-    );
-    let told = verdicts(&ran);
-    assert!(told.iter().all(|verdict| verdict != "Turned"), "{told:?}");
-    assert!(
-        told[..40].iter().all(|verdict| verdict == "Straight"),
-        "{told:?}"
-    );
-    assert!(
-        told[60..].iter().all(|verdict| verdict == "Straight"),
-        "{told:?}"
-    );
 }
 
 #[test]
@@ -182,4 +139,27 @@ fn a_wrong_register_does_not_decide_on_a_stream() {
         assert!(ran.status != 0 && ran.status != 32, "{}", ran.out);
     }
     assert!(deceived > 3, "{deceived}");
+}
+
+/// The verdict on all symbols says on what condition it holds, until enough tones agree.
+#[test]
+fn the_totals_have_the_condition_too() {
+    let symbols = symbols(32, "4711");
+    for (count, condition) in [
+        (2, ", if the register that was given is the writer's"),
+        (31, ", if the register that was given is the writer's"),
+        (32, ""),
+    ] {
+        let text = symbols[..count].join("\n");
+        let ran = run_with(text.as_bytes(), &["turn", A, "-", "--register", "4711"]);
+        let totals = format!("{count} symbols: {count} straight; in all: straight{condition}");
+        assert_eq!(ran.out.lines().last(), Some(totals.as_str()));
+        let words = ["turn", A, "-", "--register", "4711", "--json"];
+        let ran = run_with(text.as_bytes(), &words);
+        let holds = match condition.strip_prefix(", if ") {
+            Some(condition) => format!("\"holds_if\": \"{condition}\"}}\n}}\n"),
+            None => "\"holds_if\": null}\n}\n".to_string(),
+        };
+        assert!(ran.out.ends_with(&holds), "{}", ran.out);
+    }
 }

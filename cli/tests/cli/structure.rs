@@ -1,4 +1,4 @@
-//! The tool's own files: no import goes round in a circle.
+//! The tool's own files: no import goes round in a circle, and refusals have their numbers elsewhere.
 
 use crate::run::root;
 use std::collections::{BTreeMap, BTreeSet};
@@ -84,4 +84,15 @@ fn no_import_goes_round_in_a_circle() {
         left.remove(name);
     }
     assert!(left.is_empty(), "in circles: {left:?}");
+}
+
+/// The refusals' numbers are those of `ffi`, which are held to the C header.
+#[test]
+fn the_tool_has_no_numbers_of_refusals_of_its_own() {
+    for (name, text) in modules() {
+        for (_, refusal) in clevisroot_sys::refusals::ALL {
+            let constant = format!("const {refusal}: u32");
+            assert!(!text.contains(&constant), "{name} has {constant}");
+        }
+    }
 }
