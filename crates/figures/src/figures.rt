@@ -36,18 +36,18 @@ fn order(bits: &[u8], gains: &[u16], tones: &[u16]) {
 
 fn frame_0(bits: &[u8], gains: &[u16], tones: &[u16], xs: &mut [i16], ys: &mut [i16]) {
     text(b"table A frame 0:");
-    written(Mode::Coded, bits, gains, tones, 0, xs, ys);
+    written(bits, gains, tones, 0, xs, ys);
     text(b"table A frame 0: register ");
-    number(register_after(Mode::Coded, bits, gains, tones, 0, xs, ys) as u64);
+    number(register_after(bits, gains, tones, 0, xs, ys) as u64);
 }
 
 // Table A with three frames.
 fn frames(bits: &[u8], gains: &[u16], tones: &[u16], xs: &mut [i16], ys: &mut [i16]) {
     frame_0(bits, gains, tones, xs, ys);
     text(b"\ntable A frame 1:");
-    written(Mode::Coded, bits, gains, tones, 1, xs, ys);
+    written(bits, gains, tones, 1, xs, ys);
     text(b"table A frame 32:");
-    written(Mode::Coded, bits, gains, tones, 32, xs, ys);
+    written(bits, gains, tones, 32, xs, ys);
 }
 
 // Points of table A with no tone monitored: every loaded one is (-1, -1).
@@ -57,13 +57,13 @@ fn silent_points(bits: &[u8], gains: &[u16], tones: &[u16]) {
     text(b"table A, gain of 4 is 0: points");
     points(&xs, &ys);
     text(b"\ntable A, gain of 4 is 0:");
-    read(Mode::Coded, bits, gains, tones, &xs, &ys);
+    read(bits, gains, tones, &xs, &ys);
 }
 
 fn silent(bits: &[u8], gains: &[u16], tones: &[u16], xs: &mut [i16], ys: &mut [i16]) {
     silent_points(bits, gains, tones);
     text(b"\ntable A, gain of 4 is 0, frame 0: register ");
-    number(register_after(Mode::Coded, bits, gains, tones, 0, xs, ys) as u64);
+    number(register_after(bits, gains, tones, 0, xs, ys) as u64);
     text(b"\n");
 }
 
@@ -72,7 +72,7 @@ fn frame_one(bits: &[u8], gains: &[u16], tones: &[u16], xs: &mut [i16], ys: &mut
     text(b"five 2-bit tones coded:");
     size(Mode::Coded, bits, gains, tones);
     text(b"five 2-bit tones coded, frame 1:");
-    written(Mode::Coded, bits, gains, tones, 1, xs, ys);
+    written(bits, gains, tones, 1, xs, ys);
 }
 
 fn print_in(part: Part, bits: &[u8], gains: &[u16], tones: &[u16], xs: &mut [i16], ys: &mut [i16]) {

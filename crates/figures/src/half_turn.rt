@@ -6,7 +6,6 @@ ghost use lib.Signed.{mag};
 use super::lines::read;
 use super::lines::register_after;
 use super::words::text;
-use g9932::Mode;
 
 // The opposite of a coordinate. The least number of sixteen bits has none there, and stays.
 fn opposite(z: i16) -> i16
@@ -31,7 +30,7 @@ fn turned(bits: &[u8], gains: &[u16], tones: &[u16], xs: &mut [i16], ys: &mut [i
     turn(xs);
     turn(ys);
     text(b"\nturned:");
-    if read(Mode::Coded, bits, gains, tones, xs, ys) {
+    if read(bits, gains, tones, xs, ys) {
         text(b", the turn is not detected");
     }
     text(b"\n");
@@ -39,8 +38,8 @@ fn turned(bits: &[u8], gains: &[u16], tones: &[u16], xs: &mut [i16], ys: &mut [i
 
 // Two lines: the points as written, and turned. The lent lists have an entry for each place.
 pub fn half_turn(bits: &[u8], gains: &[u16], tones: &[u16], xs: &mut [i16], ys: &mut [i16]) {
-    register_after(Mode::Coded, bits, gains, tones, 0, xs, ys);
+    register_after(bits, gains, tones, 0, xs, ys);
     text(b"as written:");
-    read(Mode::Coded, bits, gains, tones, xs, ys);
+    read(bits, gains, tones, xs, ys);
     turned(bits, gains, tones, xs, ys);
 }
