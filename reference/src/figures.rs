@@ -119,14 +119,14 @@ fn large_table_figures() -> Vec<String> {
     ]
 }
 
-/// Frame byte 0 written and read, straight and with every point turned: what the jointer is told.
+/// Frame byte 0 written and read, as it is and with every point turned.
 fn turned(tables_name: &str, tables: &Tables) -> Vec<String> {
     let points = write(tables, 0).contents.expect("frame 0 is accepted");
-    let straight = read_back(tables, &points);
+    let written = read_back(tables, &points);
     let turned = read_back(tables, &half_turn(&points));
-    let told = match turned.number {
+    let answer = match turned.number {
         0 => format!(
-            "read as {}, not told from a straight clip",
+            "read as {}, the turn is not detected",
             frame_line(&turned)
         ),
         15 => format!("refused 15 {} at pair {}", name(15), turned.place),
@@ -138,8 +138,8 @@ fn turned(tables_name: &str, tables: &Tables) -> Vec<String> {
     };
     vec![
         tables_name.to_string(),
-        format!("straight: read as {}", frame_line(&straight)),
-        format!("turned: {told}"),
+        format!("as written: read as {}", frame_line(&written)),
+        format!("turned: {answer}"),
     ]
 }
 

@@ -27,68 +27,30 @@ pub fn size(mode: Mode, bits: &[u8], gains: &[u16], tones: &[u16]) {
     text(b"\n");
 }
 
-// The points of a frame of one byte, or the refusal.
-pub fn written(
-    mode: Mode,
-    bits: &[u8],
-    gains: &[u16],
-    tones: &[u16],
-    byte: u8,
-    xs: &mut [i16],
-    ys: &mut [i16],
-) {
-    let frame = [byte];
-    let answer = symbol::encode(mode, bits, gains, tones, &frame, RESET, xs, ys);
+// Whether an operation answers DONE; else its refusal is printed.
+fn done(answer: Answer) -> bool {
     match answer {
         Answer::Done {
             size: _,
             register: _,
-        } => {
-            text(b" points");
-            points(xs, ys);
-        }
+        } => true,
         Answer::Refused {
             refusal,
             register: _,
-        } => refused(refusal),
-    }
-    text(b"\n");
-}
-
-// Writes a frame of one byte to the lent lists and answers the register.
-pub fn register_after(
-    mode: Mode,
-    bits: &[u8],
-    gains: &[u16],
-    tones: &[u16],
-    byte: u8,
-    xs: &mut [i16],
-    ys: &mut [i16],
-) -> u32 {
-    let frame = [byte];
-    let answer = symbol::encode(mode, bits, gains, tones, &frame, RESET, xs, ys);
-    match answer {
-        Answer::Done { size: _, register } => register,
-        Answer::Refused {
-            refusal: _,
-            register,
-        } => register,
+        } => {
+            refused(refusal);
+            false
+        }
     }
 }
 
-// The frame of one byte that the points are read as, or the refusal with its place. Answers whether they were read.
-pub fn read(mode: Mode, bits: &[u8], gains: &[u16], tones: &[u16], xs: &[i16], ys: &[i16]) -> bool {
-    let mut frame = [0u8; 1];
-    let answer = symbol::read(mode, bits, gains, tones, xs, ys, RESET, &mut frame);
+// The same, with the place of the refusal.
+fn done_at(answer: Answer) -> bool {
     match answer {
         Answer::Done {
             size: _,
             register: _,
-        } => {
-            text(b" read as frame");
-            list8(&frame);
-            true
-        }
+        } => true,
         Answer::Refused {
             refusal,
             register: _,
@@ -99,6 +61,45 @@ pub fn read(mode: Mode, bits: &[u8], gains: &[u16], tones: &[u16], xs: &[i16], y
             false
         }
     }
+}
+
+fn register_of(answer: Answer) -> u32 {
+    match answer {
+        Answer::Done { size: _, register } => register,
+        Answer::Refused {
+            refusal: _,
+            register,
+        } => register,
+    }
+}
+
+// The points of a frame of one byte, coded, or the refusal.
+pub fn written(bits: &[u8], gains: &[u16], tones: &[u16], byte: u8, xs: &mut [i16], ys: &mut [i16]) {
+    let frame = [byte];
+    let answer = symbol::encode(Mode::Coded, bits, gains, tones, &frame, RESET, xs, ys);
+    if done(answer) {
+        text(b" points");
+        points(xs, ys);
+    }
+    text(b"\n");
+}
+
+// Writes a frame of one byte, coded, to the lent lists and answers the register.
+pub fn register_after(bits: &[u8], gains: &[u16], tones: &[u16], byte: u8, xs: &mut [i16], ys: &mut [i16]) -> u32 {
+    let frame = [byte];
+    register_of(symbol::encode(Mode::Coded, bits, gains, tones, &frame, RESET, xs, ys))
+}
+
+// The frame of one byte that the points are read as, coded, or the refusal with its place. Answers whether they were read.
+pub fn read(bits: &[u8], gains: &[u16], tones: &[u16], xs: &[i16], ys: &[i16]) -> bool {
+    let mut frame = [0u8; 1];
+    let answer = symbol::read(Mode::Coded, bits, gains, tones, xs, ys, RESET, &mut frame);
+    if !done_at(answer) {
+        return false;
+    }
+    text(b" read as frame");
+    list8(&frame);
+    true
 }
 
 // The point of one label, or the refusal.
