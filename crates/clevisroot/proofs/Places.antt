@@ -13,7 +13,7 @@ use Rattle.g9932.specs.Bits.{weight, orAt, first}
 use Rattle.g9932.specs.Sizes.{Tables, entry, Point, points}
 use Rattle.g9932.specs.Refusals.{Verdict, refuseIf, refuseAt, verdictBy, andThen, sizeTest, listVerdict, modeVerdict, tableVerdict}
 use Rattle.g9932.specs.Order.{consIf, count, filter, isOne, bitsOf, ones, entries, reorderedTones, codedPairs}
-use Rattle.g9932.specs.Trellis.{Reading, frame, breaks, after, zeroState, readPairs, readingOf, keepsCode, lastTwo, heardAt, nextOf, takenBits, width}
+use Rattle.g9932.specs.Trellis.{Reading, frame, breaks, after, zeroState, readPairs, readingOf, obeysCode, lastTwo, decodedAt, nextOf, takenBits, width}
 use Rattle.g9932.specs.Symbol.{classesOf, pairsIn, sizeOf, gatherBits, readingIn}
 use Rattle.g9932.specs.Answers.{breakIn, orderVerdict, encodeInputs, encodeVerdict, pointsVerdict, readInputs, readVerdict}
 use Rattle.g9932.specs.declared.Found.{Found}
@@ -22,6 +22,7 @@ use Rattle.g9932.specs.declared.Mode.{Mode}
 use Rattle.g9932.specs.declared.Mode.the-variants.{Uncoded, Coded}
 use Rattle.g9932.specs.declared.TrellisState.{TrellisState}
 use Rattle.g9932.specs.Order.{Pair}
+use Rattle.g9932.proofs.Verdicts.{test-none}
 use Rattle.g9932.proofs.Accepted.{accepted-tables}
 use Rattle.g9932.proofs.Formed.{length-pairsOf}
 use Rattle.g9932.proofs.Identities.{or-false}
@@ -46,8 +47,8 @@ breaks-inside : (ps : List Pair) (s : TrellisState) (d : List Bool) → index (b
 unfolding readPairs index
 breaks-inside [] s d = omega arith
 breaks-inside (p ∷ ps) s d =
-    go (keepsCode (lastTwo ps) s (heardAt p d)) (takenBits (lastTwo ps) (p .x) (heardAt p d)) (readPairs (nextOf s (heardAt p d)) ps (drop (width p) d))
-    (breaks-inside ps (nextOf s (heardAt p d)) (drop (width p) d))
+    go (obeysCode (lastTwo ps) s (decodedAt p d)) (takenBits (lastTwo ps) (p .x) (decodedAt p d)) (readPairs (nextOf s (decodedAt p d)) ps (drop (width p) d))
+    (breaks-inside ps (nextOf s (decodedAt p d)) (drop (width p) d))
   where
     go : (b : Bool) (x : List Bool) (R : Reading) → index (breakIn R) ≤ length ps → index (breakIn (cond b (after x R) (breaks 0))) ≤ suc (length ps)
     go true x (frame f) h = omega arith
