@@ -87,7 +87,14 @@ fn print_in(part: Part, bits: &[u8], gains: &[u16], tones: &[u16], xs: &mut [i16
 }
 
 // Cuts the lists to the table's length.
-fn print_cut(part: Part, bits: &[u8], gains: &[u16], tones: &[u16], xs: &mut [i16], ys: &mut [i16]) {
+fn print_cut(
+    part: Part,
+    bits: &[u8],
+    gains: &[u16],
+    tones: &[u16],
+    xs: &mut [i16],
+    ys: &mut [i16],
+) {
     let n = tones.len();
     if xs.len() < n {
         return;

@@ -74,7 +74,14 @@ fn register_of(answer: Answer) -> u32 {
 }
 
 // The points of a frame of one byte, coded, or the refusal.
-pub fn written(bits: &[u8], gains: &[u16], tones: &[u16], byte: u8, xs: &mut [i16], ys: &mut [i16]) {
+pub fn written(
+    bits: &[u8],
+    gains: &[u16],
+    tones: &[u16],
+    byte: u8,
+    xs: &mut [i16],
+    ys: &mut [i16],
+) {
     let frame = [byte];
     let answer = symbol::encode(Mode::Coded, bits, gains, tones, &frame, RESET, xs, ys);
     if done(answer) {
@@ -85,7 +92,14 @@ pub fn written(bits: &[u8], gains: &[u16], tones: &[u16], byte: u8, xs: &mut [i1
 }
 
 // Writes a frame of one byte, coded, to the lent lists and answers the register.
-pub fn register_after(bits: &[u8], gains: &[u16], tones: &[u16], byte: u8, xs: &mut [i16], ys: &mut [i16]) -> u32 {
+pub fn register_after(
+    bits: &[u8],
+    gains: &[u16],
+    tones: &[u16],
+    byte: u8,
+    xs: &mut [i16],
+    ys: &mut [i16],
+) -> u32 {
     let frame = [byte];
     register_of(symbol::encode(Mode::Coded, bits, gains, tones, &frame, RESET, xs, ys))
 }

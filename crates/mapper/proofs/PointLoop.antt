@@ -1,13 +1,13 @@
 -- Points by place: each place before i has its point, or its label, or none.
-use Prim.Native.Nat.{ℕ, _+_, _≤_, _<_}
+use Prim.Native.Nat.{ℕ, _+_, _≤_, _<_, _-_}
 use native.Mathlib.Omega.{arith}
 use borrow.Author.Count.{below-more}
 use mathlib.Core.Bool.{Bool, true, false, _&&_, and-eq-true-iff, true≢false}
 use mathlib.Core.List.{List}
-use mathlib.Core.Path.{_≡_, refl, _∙_}
+use mathlib.Core.Path.{_≡_, refl, _∙_, sym}
 use lib.IntN.{ℤ, pos}
-use lib.ListN.{length, set, length-set}
-use lib.Seq.{getD-set-same, getD-set-other}
+use lib.ListN.{length, set, length-set, take, drop, length-drop, getD}
+use lib.Seq.{getD-set-same, getD-set-other, length-take-le, getD-take, getD-drop}
 use Rattle.constellation.proofs.DemapByLayout.{on-or-off}
 use Rattle.constellation.specs.DemapByLayout.{Demaps}
 use Rattle.constellation.specs.MapByLayout.{MapsTo}
@@ -16,7 +16,7 @@ use Rattle.g9932.specs.Sizes.{entry, Point, point}
 use Rattle.g9932.specs.declared.Found.{Found}
 use Rattle.g9932.specs.declared.Found.the-variants.{Nothing}
 use Rattle.mapper.specs.Writing.{PutsPoints}
-use Rattle.mapper.specs.Reading.{pointAt, DemapNeeds, LabelIs, Off, DemapsAll, OffAt, DemapsPoints}
+use Rattle.mapper.specs.Reading.{pointAt, DemapNeeds, LabelIs, Off, DemapsAll, OffAt, DemapsPoints, OnOrOff, LabelNeeds}
 
 -- ---- points put
 
@@ -114,3 +114,45 @@ module _ {layouts : List ℕ} {xs ys : List ℤ} {labels : List ℕ} {all : Bool
           let i = w .0 in
           let o = on i (w .1) in
           on-or-off (entry layouts i) (pointAt xs ys i) (o .0) (w .2 .0) (needs .ofTones i (w .1)) (o .1) (w .2 .1)
+
+-- ---- one place
+
+abbrev part : {A : Type 0} → List A → ℕ → List A
+part l i = take (i + 1 - i) (drop i l)
+
+length-part : {A : Type 0} (l : List A) (i : ℕ) → i < length l → length (part l i) ≡ 1
+length-part l i h = let e : i + 1 - i ≡ 1 = omega arith in rw e (length-take-le 1 (drop i l) (omega (arith, length-drop i l)))
+
+part-at : {A : Type 0} (l : List A) (i : ℕ) (d : A) → getD (part l i) 0 d ≡ getD l i d
+part-at l i d =
+    let e : i + 1 - i ≡ 1 = omega arith in
+    let z : i + 0 ≡ i = omega arith in
+    rw (e, getD-take 1 (drop i l) 0 d (omega arith), getD-drop i l 0 d, z)
+
+module _ (layouts : List ℕ) (xs ys : List ℤ) (i : ℕ) (needs : DemapNeeds layouts xs ys) (h : i < length xs) where
+  one-point : pointAt (part xs i) (part ys i) 0 ≡ pointAt xs ys i
+  one-point = rw (part-at xs i (pos 0), part-at ys i (pos 0))
+
+  pub one-needs : (labels : List ℕ) → length labels ≡ 1 → LabelNeeds (part layouts i) (part xs i) (part ys i) labels
+  one-needs labels n =
+      let x = length-part xs i h in
+      let y = length-part ys i (omega (arith, needs .ysLength)) in
+      let l = length-part layouts i (omega (arith, needs .layoutsLength)) in
+      record {
+        points =
+            record {
+              layoutsLength = l ∙ sym x;
+              ysLength = y ∙ sym x;
+              ofTones = λ k j.
+                  let z : k ≡ 0 = omega (arith, x) in
+                  rw (z, part-at layouts i 0) (needs .ofTones i h);
+            };
+        labelsLength = n ∙ sym x;
+      }
+
+  pub one-found : (labels : List ℕ) (r : Bool) → DemapsAll (part layouts i) (part xs i) (part ys i) labels r → OnOrOff (entry layouts i) (pointAt xs ys i) r
+  one-found labels true d = (entry labels 0, rw (part-at layouts i 0, one-point) at (d .every refl 0 (omega (arith, length-part xs i h))))
+  one-found labels false d =
+      let s = d .some refl in
+      let z : s .0 ≡ 0 = omega (arith, s .1, length-part xs i h) in
+      (s .2 .0, rw (z, part-at layouts i 0, one-point) at (s .2 .1))

@@ -46,6 +46,10 @@ pub record DemapsAll (layouts : List ℕ) (xs ys : List ℤ) (labels : List ℕ)
   pub some : all ≡ false → (i : ℕ) × (i < length xs) × Off (entry layouts i) (pointAt xs ys i)
   pub labelsLength : length labels ≡ length xs
 
+abbrev pub OnOrOff : ℕ → Point → Bool → Type 0
+OnOrOff layout p true = (l : ℕ) × LabelIs layout p l
+OnOrOff layout p false = Off layout p
+
 -- the first place whose point is off, those before it being on
 abbrev pub OffAt : List ℕ → List ℤ → List ℤ → Found → Type 0
 OffAt layouts xs ys (At k) =

@@ -2,10 +2,12 @@
 ghost use mathlib.Core.Path.{_≡_};
 ghost use mathlib.Core.Bool.{not};
 ghost use mathlib.Core.List.{_++_};
-ghost use lib.ListN.{take, drop};
+ghost use lib.ListN.{length, take, drop};
 ghost use Rattle.g9932.specs.Bits.{orAt};
+ghost use Rattle.g9932.specs.Sizes.{entry};
+ghost use Prim.Native.Nat.{_<_};
 ghost use Rattle.mapper.specs.Writing.{FillerNeeds};
-ghost use Rattle.mapper.specs.Reading.{joinOnes, DemapNeeds, LabelNeeds, DemapsAll, OffAt, DemapsPoints, ChecksFiller, JoinNeeds, CollectNeeds, CollectsLabels};
+ghost use Rattle.mapper.specs.Reading.{joinOnes, DemapNeeds, LabelNeeds, DemapsAll, pointAt, OnOrOff, OffAt, DemapsPoints, ChecksFiller, JoinNeeds, CollectNeeds, CollectsLabels};
 use frame::BitWriter;
 use frame::by_place::label_at;
 use frame::by_place::place_at;
@@ -29,16 +31,25 @@ fn demap_all(layouts: &[u16], xs: &[i16], ys: &[i16], labels: &mut [u16]) -> boo
     all
 }
 
-// The first place whose point is off its constellation.
+// Whether the point at a place is in its constellation.
+fn on_grid(layouts: &[u16], xs: &[i16], ys: &[i16], i: usize) -> bool
+    requires { ⌜ DemapNeeds (now layouts) (now xs) (now ys) × (i < length (now xs)) ⌝ }
+    ensures { λ r. ⌜ OnOrOff (entry (now (layouts .entry)) i) (pointAt (now (xs .entry)) (now (ys .entry)) i) r ⌝ }
+{
+    let end = i + 1;
+    let mut label = [0u16; 1];
+    demap_all(&layouts[i..end], &xs[i..end], &ys[i..end], &mut label)
+}
+
+// The first place whose point is off its constellation. It takes one place at a time through `demap_all`, so that the loop there is the
+// only one that the compiler widens.
 fn first_offgrid(layouts: &[u16], xs: &[i16], ys: &[i16]) -> Found
     requires { ⌜ DemapNeeds (now layouts) (now xs) (now ys) ⌝ }
     ensures { λ r. ⌜ OffAt (now (layouts .entry)) (now (xs .entry)) (now (ys .entry)) r ⌝ }
 {
     let mut i = 0;
     while i < xs.len() {
-        let s = constellation::demap::label_by(layouts[i], xs[i], ys[i]);
-        let on = s.on;
-        if !on {
+        if !on_grid(layouts, xs, ys, i) {
             return Found::At(i);
         }
         i += 1;
