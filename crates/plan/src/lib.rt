@@ -8,7 +8,7 @@ ghost use Prim.Native.Nat.{_≤_};
 ghost use lib.ListN.{length};
 ghost use Rattle.plan.specs.Plan.{leastOwn, PlanIs, PlanNeeds, PlansBy, Plans, Arrays, SizesFrame};
 ghost use Rattle.g9932.specs.Refusals.{modeVerdict};
-ghost use Rattle.tables.specs.Ordered.{Medley};
+ghost use Rattle.tables.specs.Counted.{Medley};
 use g9932::Checked;
 use g9932::Mode;
 use g9932::Refusal;
@@ -97,7 +97,7 @@ fn size_frame(mode: Mode, bits: &[u8], tones: &[u16]) -> Sized
     requires { ⌜ Medley (now bits) (now tones) ⌝ }
     ensures { λ r. ⌜ SizesFrame mode (now (bits .entry)) (now (tones .entry)) r ⌝ }
 {
-    let c = tables::order::count_tones(bits, tones);
+    let c = tables::count_tones(bits, tones);
     match mode {
         Mode::Uncoded => Sized::Frame {
             size: c.sum,

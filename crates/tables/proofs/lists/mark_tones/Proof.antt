@@ -7,7 +7,7 @@ use Prim.Native.Nat.{_-_, _≤_}
 use lib.ListN.{length, drop, drop-of-length-le}
 use denote.Ref.{now}
 use Rattle.tables.specs.Checks.{marked}
-use Rattle.tables.proofs.Counts.{tones-next}
+use Rattle.tables.proofs.Counting.{tones-next}
 use Rattle.tables.proofs.Marks.{marked-step, marked-done}
 use Rattle.tables.proofs.lists.mark_tones.Statement.{statement}
 use Rattle.tables.proofs.lists.mark_tones.Tie as tie
