@@ -16,8 +16,7 @@ use Rattle.g9932.specs.Refusals.{toneTest, member, twiceTest}
 use Rattle.g9932.specs.declared.Found.the-variants.{Nothing}
 use Rattle.g9932.proofs.Identities.{or-false as or-false-parts}
 use Rattle.g9932.proofs.Search.{first-no, first-all}
-use Rattle.tables.specs.Checks.{anyBelow, placeFault, Below, marked, trues, Marks}
-use Rattle.tables.proofs.Scans.{any-nothing}
+use Rattle.tables.specs.Checks.{Below, marked, trues, Marks}
 
 member-snoc : (k x : ℕ) (ys : List ℕ) → member k (ys ++ (x ∷ [])) ≡ member k ys || eqb k x
 member-snoc k x [] = or-false (eqb k x)
@@ -111,35 +110,29 @@ fresh (x ∷ t) seen w e (suc k) h =
     let g = or-false-parts (getD seen (entry t k) false) (eqb (entry t k) x) (sym (set-mark seen x (entry t k) (w 0 (omega arith))) ∙ f .0) in
     (g .0, rw (g .1) (f .1))
 
--- from no mark, where 2 applies to no place
-module _ (t : List ℕ) (seen : List Bool) (none : seen ≡ replicate 4096 false) {g : ℕ} (top : g ≤ 4096) (tones : anyBelow (toneTest g t) (length t) ≡ false) where
-  tone-passed : (k : ℕ) → k < length t → toneTest g t k ≡ false
-  tone-passed = first-no (toneTest g t) (length t) (any-nothing (toneTest g t) (length t) tones)
+-- where 2 applies to no place, every tone is below 4,096
+pub tones-below : (t : List ℕ) {g : ℕ} → g ≤ 4096 → first (toneTest g t) (length t) ≡ Nothing → Below 4096 t
+tones-below t {g} top e k l = omega (arith, leb-false g (entry t k) (first-no (toneTest g t) (length t) e k l))
 
-  pub below-all : Below 4096 t
-  below-all k l = omega (arith, leb-false g (entry t k) (tone-passed k l))
-
+-- marking all of t, from no mark
+module _ (t : List ℕ) (seen : List Bool) (none : seen ≡ replicate 4096 false) (below : Below 4096 t) {after : List Bool} (m : after ≡ marked seen t) where
   whole : length seen ≡ 4096
   whole = ap length none ∙ length-replicate 4096 false
 
   within : Below (length seen) t
-  within k l = omega (arith, below-all k l, whole)
+  within k l = omega (arith, below k l, whole)
 
-  -- marking all of t
-  module _ {after : List Bool} (m : after ≡ marked seen t) where
-    pub marked-whole : length after ≡ 4096
-    marked-whole = ap length m ∙ length-marked t seen ∙ whole
+  pub marked-whole : length after ≡ 4096
+  marked-whole = ap length m ∙ length-marked t seen ∙ whole
 
-    pub marks-all : Marks t after
-    marks-all k h =
-        ap (λ (l : List Bool). getD l k false) m
-        ∙ marked-at t seen within k
-        ∙ ap (λ (z : Bool). z || member k t) (ap (λ (l : List Bool). getD l k false) none ∙ getD-replicate 4096 k false false h)
+  pub marks-all : Marks t after
+  marks-all k h =
+      ap (λ (l : List Bool). getD l k false) m
+      ∙ marked-at t seen within k
+      ∙ ap (λ (z : Bool). z || member k t) (ap (λ (l : List Bool). getD l k false) none ∙ getD-replicate 4096 k false false h)
 
-    -- and as many marks as tones say that 3 applies to no place
-    pub none-twice : trues after ≡ length t → Nothing ≡ first (placeFault g t) (length t)
-    none-twice e =
-        let n = ap trues none ∙ trues-none 4096 in
-        sym (first-all (placeFault g t) (length t) (λ k l.
-        let f = fresh t seen within (omega (arith, e, ap trues m)) k l in
-        rw (tone-passed k l) (f .1)))
+  -- as many marks as tones say that 3 applies to no place
+  pub none-twice : trues after ≡ length t → Nothing ≡ first (twiceTest t) (length t)
+  none-twice e =
+      let n = ap trues none ∙ trues-none 4096 in
+      sym (first-all (twiceTest t) (length t) (λ k l. fresh t seen within (omega (arith, e, ap trues m)) k l .1))
