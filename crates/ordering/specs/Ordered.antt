@@ -9,7 +9,7 @@ use lib.Seq.{sets}
 use Rattle.g9932.specs.Sizes.{Tables, entry}
 use Rattle.g9932.specs.Refusals.{Verdict, member, twiceTest, tableVerdict}
 use Rattle.g9932.specs.Order.{sum, filter, bitsOf, singles, others, loaded, ones, reorderedTones, entryCount, reorderedBits}
-use Rattle.g9932.specs.Answers.{verdictOf}
+use Rattle.g9932.specs.Answers.{verdictOf, onDone, roomVerdict}
 use Rattle.g9932.specs.declared.Mode.{Mode}
 use Rattle.g9932.specs.declared.Checked.{Checked}
 use Rattle.tables.specs.Checks.{Below}
@@ -56,3 +56,9 @@ pub record PlaceNeeds (b t : List ℕ) (behind from tonesLength bitsLength : ℕ
 pub record Placing (b t : List ℕ) (behind from : ℕ) (ts bs tsAfter bsAfter : List ℕ) : Type 0 where
   pub tones : tsAfter ≡ sets (sets ts 0 (others b t)) behind (singles b t)
   pub bits : bsAfter ≡ sets bs from (filter (leb 2) (bitsOf b t))
+
+-- copying t' and b' out: refused for room, or both buffers hold n entries
+pub record CopiesOut (l n : ℕ) (ts bs tones bits : List ℕ) (r : Checked) (tonesAfter bitsAfter : List ℕ) : Type 0 where
+  pub answer : verdictOf r ≡ roomVerdict n (length tones) (length bits) l
+  pub tonesHold : tonesAfter ≡ onDone (roomVerdict n (length tones) (length bits) l) (take n ts) tones
+  pub bitsHold : bitsAfter ≡ onDone (roomVerdict n (length tones) (length bits) l) (take n bs) bits

@@ -8,11 +8,13 @@ use order::order_coded;
 use order::order_uncoded;
 use tables::lists::check_lists;
 ghost use mathlib.Core.Path.{_≡_};
+ghost use Prim.Native.Nat.{_≤_};
+ghost use lib.ListN.{length};
 ghost use Rattle.g9932.specs.Sizes.{tables};
 ghost use Rattle.g9932.specs.Refusals.{tableVerdict, modeVerdict};
 ghost use Rattle.g9932.specs.Answers.{verdictOf, Reorders};
 ghost use Rattle.tables.specs.Counted.{Medley};
-ghost use Rattle.ordering.specs.Ordered.{OrderedBy, Ordered, Arrays, OrderNeeds};
+ghost use Rattle.ordering.specs.Ordered.{OrderedBy, Ordered, Arrays, OrderNeeds, CopiesOut};
 
 pub mod order; // refusals 7 to 9, t' and b'
 
@@ -63,7 +65,8 @@ fn order_by(
     }
 }
 
-// Re-orders: refusals 1 to 10. Where nothing is refused, writes t' and b'; else writes nothing.
+// Re-orders: refusals 1 to 10. Where nothing is refused, writes t' and b'; else writes nothing. It works in two arrays of its own, so
+// that a lent buffer is written only when nothing can refuse any more.
 pub fn reorder(
     mode: Mode,
     bits: &[u8],
@@ -76,46 +79,46 @@ pub fn reorder(
 {
     let mut reordered_tones = [0u16; 4096];
     let mut reordered_bits = [0u8; 4096];
-    reorder_through(
+    let r = order_tables(
         mode,
         bits,
         gains,
         tones,
-        tones_out,
-        bits_out,
         &mut reordered_tones,
         &mut reordered_bits,
-    )
-}
-
-// Re-orders by way of two arrays of 4,096, which its caller makes, so that a lent buffer is written only when nothing can refuse
-// any more.
-fn reorder_through(
-    mode: Mode,
-    bits: &[u8],
-    gains: &[u16],
-    tones: &[u16],
-    tones_out: &mut [u16],
-    bits_out: &mut [u8],
-    reordered_tones: &mut [u16],
-    reordered_bits: &mut [u8],
-) -> Checked
-    requires { ⌜ Arrays (now «reordered_tones») (now «reordered_bits») ⌝ }
-    ensures { λ r. ⌜ Reorders (tables mode (now (bits .entry)) (now (gains .entry)) (now (tones .entry))) (now («tones_out» .entry)) (now («bits_out» .entry)) r (now («tones_out» .exit)) (now («bits_out» .exit)) ⌝ }
-{
-    let r = order_tables(mode, bits, gains, tones, reordered_tones, reordered_bits);
+    );
     match r {
         Checked::Refused(x) => Checked::Refused(x),
-        Checked::Accepted(l) => {
-            if tones_out.len() != tones.len() {
-                return Checked::Refused(Refusal::Room);
-            }
-            if bits_out.len() != tones.len() {
-                return Checked::Refused(Refusal::Room);
-            }
-            copy_tones(reordered_tones, tones_out);
-            copy_bits(reordered_bits, bits_out);
-            Checked::Accepted(l)
-        }
+        Checked::Accepted(l) => copy_out(
+            l,
+            tones.len(),
+            &reordered_tones,
+            &reordered_bits,
+            tones_out,
+            bits_out,
+        ),
     }
+}
+
+// Copies t' and b' out of their arrays, n entries each, where both lent buffers have that length: refusal 10.
+fn copy_out(
+    l: usize,
+    n: usize,
+    reordered_tones: &[u16],
+    reordered_bits: &[u8],
+    tones_out: &mut [u16],
+    bits_out: &mut [u8],
+) -> Checked
+    requires { ⌜ (n ≤ length (now «reordered_tones»)) × (n ≤ length (now «reordered_bits»)) ⌝ }
+    ensures { λ r. ⌜ CopiesOut l n (now («reordered_tones» .entry)) (now («reordered_bits» .entry)) (now («tones_out» .entry)) (now («bits_out» .entry)) r (now («tones_out» .exit)) (now («bits_out» .exit)) ⌝ }
+{
+    if tones_out.len() != n {
+        return Checked::Refused(Refusal::Room);
+    }
+    if bits_out.len() != n {
+        return Checked::Refused(Refusal::Room);
+    }
+    copy_tones(reordered_tones, tones_out);
+    copy_bits(reordered_bits, bits_out);
+    Checked::Accepted(l)
 }
