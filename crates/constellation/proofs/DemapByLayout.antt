@@ -68,7 +68,7 @@ product-le m t w p h = mul-le-mul {n₂ = 65535} {m₂ = 32768} (omega arith) (o
 -- ---- what a layout holds
 
 pub record Holds (b : ℕ) : Type 0 where
-  pub above : layoutOf b / 256 % 128 ≡ 2 ^ pairs b
+  above : layoutOf b / 256 % 128 ≡ 2 ^ pairs b
   pub below : layoutOf b % 128 ≡ 2 ^ (6 - pairs b)
   pub one : eqb (layoutOf b / 32768) 1 ≡ ltb b 2
   pub silent : eqb (bitAnd (layoutOf b / 32768) (layoutOf b / 128 % 2)) 1 ≡ false

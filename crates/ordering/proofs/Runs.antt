@@ -60,7 +60,7 @@ module _ {out after xs ys ss rs goal : List ℕ} {n mid m end x : ℕ} where
       }
 
 -- one run after another
-pub sets-sets : (out xs ys : List ℕ) (n m : ℕ) → m ≡ n + length xs → sets (sets out n xs) m ys ≡ sets out n (xs ++ ys)
+sets-sets : (out xs ys : List ℕ) (n m : ℕ) → m ≡ n + length xs → sets (sets out n xs) m ys ≡ sets out n (xs ++ ys)
 sets-sets out [] ys n m e = let q : m ≡ n = omega arith in rw q
 sets-sets out (x ∷ xs) ys n m e = sets-sets (set out n x) xs ys (suc n) m (omega arith)
 

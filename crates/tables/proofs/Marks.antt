@@ -9,7 +9,7 @@ use native.Mathlib.Omega.{arith}
 use borrow.Author.Tests.{eqb-true, eqb-false, leb-false}
 use lib.Dec.{eqb}
 use lib.ListN.{length, getD, take, set, replicate, getD-replicate, length-set, length-replicate}
-use lib.Seq.{take-suc, take-all, getD-set-same, getD-set-other}
+use lib.Seq.{take-suc, getD-set-same, getD-set-other}
 use Rattle.g9932.specs.Bits.{weight, first}
 use Rattle.g9932.specs.Sizes.{entry}
 use Rattle.g9932.specs.Refusals.{toneTest, member, twiceTest}
@@ -38,9 +38,6 @@ module _ (t : List ℕ) (i : ℕ) (seen : List Bool) (m : Marks (take i t) seen)
   marks-more {x} q n l b k h =
       let e : take (i + 1) t ≡ take i t ++ (x ∷ []) = rw (add-one, take-suc t i 0, q) in
       set-mark seen x k (omega arith) ∙ ap (λ (z : Bool). z || eqb k x) (m k h) ∙ sym (member-snoc k x (take i t)) ∙ sym (ap (member k) e)
-
-  pub marks-end : length t ≤ i → Marks t seen
-  marks-end l k h = m k h ∙ ap (member k) (take-all i t l)
 
 -- ---- a whole list of tones marked
 
