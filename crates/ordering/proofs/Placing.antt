@@ -11,7 +11,7 @@ use lib.Seq.{sets}
 use Rattle.g9932.specs.Sizes.{entry}
 use Rattle.g9932.specs.Order.{filter, isOne, bitsOf, oneBit, singles, others, ones}
 use Rattle.ordering.specs.Ordered.{Placing}
-use Rattle.ordering.proofs.Runs.{Left, left-step, left-same, Both, front-step, behind-step}
+use Rattle.ordering.proofs.Runs.{Left, left-step, left-same}
 use Rattle.tables.proofs.Counting.{tones-next}
 use Rattle.g9932.proofs.Counts.{map-filter, filter-ones}
 
@@ -59,54 +59,60 @@ module _ (b t : List ℕ) (i : ℕ) {k v : ℕ} (x : k ≡ entry t i) (y : v ≡
 
 -- ---- what is left to write from place i on, each list from its cursor, gives what the whole gives from the start
 
-pub record Ahead (b t : List ℕ) (behind from : ℕ) (ts₀ bs₀ ts bs : List ℕ) (other one at i : ℕ) : Type 0 where
+-- the tones but the 1-bit ones, and the counts of at least 2
+pub record Ahead (b t : List ℕ) (from : ℕ) (ts₀ bs₀ ts bs : List ℕ) (other at i : ℕ) : Type 0 where
   pub within : i ≤ length t
-  pub tones : Both ts other (others b (drop i t)) behind one (singles b (drop i t)) (behind + length (singles b t)) (sets (sets ts₀ 0 (others b t)) behind (singles b t))
+  pub tones : Left ts other (others b (drop i t)) (length (others b t)) (sets ts₀ 0 (others b t))
   pub bits : Left bs at (bigs b (drop i t)) (from + length (bigs b t)) (sets bs₀ from (bigs b t))
 
-pub ahead-start : {b t ts bs : List ℕ} {behind from : ℕ} → behind ≡ length (others b t) → Ahead b t behind from ts bs ts bs 0 behind from 0
-ahead-start e =
-    record {
-      within = omega arith;
-      tones = record { front = omega arith; past = omega arith; room = refl; gives = refl };
-      bits = record { room = refl; gives = refl };
-    }
+pub ahead-start : {b t ts bs : List ℕ} {from : ℕ} → Ahead b t from ts bs ts bs 0 from 0
+ahead-start = record { within = omega arith; tones = record { room = omega arith; gives = refl }; bits = record { room = refl; gives = refl } }
 
-module _ {b t ts₀ bs₀ ts bs : List ℕ} {behind from other one at i : ℕ} (a : Ahead b t behind from ts₀ bs₀ ts bs other one at i) where
-  pub ahead-end : length t ≤ i → Placing b t behind from ts₀ bs₀ ts bs
-  ahead-end h =
-      let d : drop i t ≡ [] = drop-of-length-le t h in
-      record {
-        tones = rw d at (a .tones .gives);
-        bits = rw d at (a .bits .gives);
-      }
+module _ {b t ts₀ bs₀ ts bs : List ℕ} {from other at i : ℕ} (a : Ahead b t from ts₀ bs₀ ts bs other at i) where
+  pub ahead-end : length t ≤ i → Placing b t from ts₀ bs₀ ts bs
+  ahead-end h = let d : drop i t ≡ [] = drop-of-length-le t h in record { tones = rw d at (a .tones .gives); bits = rw d at (a .bits .gives) }
 
   -- one tone more: k, with v bits
   module _ {k v : ℕ} (x : k ≡ entry t i) (y : v ≡ entry b k) (h : i < length t) where
-    pub single-room : v ≡ 1 → one < behind + length (singles b t)
-    single-room e = omega (arith, a .tones .room, ap length (single-here b t i x y h e))
-
-    pub other-room : (v ≡ 1 → ⊥) → other < behind
-    other-room e = omega (arith, a .tones .front, ap length (other-here b t i x y h e))
+    pub other-room : (v ≡ 1 → ⊥) → other < length (others b t)
+    other-room e = omega (arith, a .tones .room, ap length (other-here b t i x y h e))
 
     pub big-room : 2 ≤ v → at < from + length (bigs b t)
     big-room e = omega (arith, a .bits .room, ap length (big-here b t i x y h e))
 
-    module _ {after : List ℕ} where
-      pub ahead-single : v ≡ 1 → after ≡ set ts one k → Ahead b t behind from ts₀ bs₀ after bs other (one + 1) at (i + 1)
-      ahead-single e w =
-          record {
-            within = omega arith;
-            tones = behind-step w (other-past b t i x y h e) (single-here b t i x y h e) (a .tones);
-            bits = left-same (big-past b t i x y h (omega arith)) (a .bits);
-          }
+    pub ahead-one : v ≡ 1 → Ahead b t from ts₀ bs₀ ts bs other at (i + 1)
+    ahead-one e =
+        record {
+          within = omega arith;
+          tones = left-same (other-past b t i x y h e) (a .tones);
+          bits = left-same (big-past b t i x y h (omega arith)) (a .bits);
+        }
 
-      module _ (e : v ≡ 1 → ⊥) (w : after ≡ set ts other k) where
-        other-placed : Both after (other + 1) (others b (drop (i + 1) t)) behind one (singles b (drop (i + 1) t)) (behind + length (singles b t)) (sets (sets ts₀ 0 (others b t)) behind (singles b t))
-        other-placed = front-step w (other-here b t i x y h e) (single-past b t i x y h e) (a .tones)
+    module _ {after : List ℕ} (e : v ≡ 1 → ⊥) (w : after ≡ set ts other k) where
+      pub ahead-big : 2 ≤ v → Ahead b t from ts₀ bs₀ after (set bs at v) (other + 1) (at + 1) (i + 1)
+      ahead-big f = record { within = omega arith; tones = left-step w (other-here b t i x y h e) (a .tones); bits = left-step refl (big-here b t i x y h f) (a .bits) }
 
-        pub ahead-big : 2 ≤ v → Ahead b t behind from ts₀ bs₀ after (set bs at v) (other + 1) one (at + 1) (i + 1)
-        ahead-big f = record { within = omega arith; tones = other-placed; bits = left-step (big-here b t i x y h f) (a .bits) }
+      pub ahead-zero : v < 2 → Ahead b t from ts₀ bs₀ after bs (other + 1) at (i + 1)
+      ahead-zero f = record { within = omega arith; tones = left-step w (other-here b t i x y h e) (a .tones); bits = left-same (big-past b t i x y h f) (a .bits) }
 
-        pub ahead-zero : v < 2 → Ahead b t behind from ts₀ bs₀ after bs (other + 1) one at (i + 1)
-        ahead-zero f = record { within = omega arith; tones = other-placed; bits = left-same (big-past b t i x y h f) (a .bits) }
+-- the 1-bit tones
+pub record OnesLeft (b t : List ℕ) (behind : ℕ) (ts₀ ts : List ℕ) (one i : ℕ) : Type 0 where
+  pub within : i ≤ length t
+  pub tones : Left ts one (singles b (drop i t)) (behind + length (singles b t)) (sets ts₀ behind (singles b t))
+
+pub ones-start : {b t ts : List ℕ} {behind : ℕ} → OnesLeft b t behind ts ts behind 0
+ones-start = record { within = omega arith; tones = record { room = refl; gives = refl } }
+
+module _ {b t ts₀ ts : List ℕ} {behind one i : ℕ} (a : OnesLeft b t behind ts₀ ts one i) where
+  pub ones-end : length t ≤ i → ts ≡ sets ts₀ behind (singles b t)
+  ones-end h = let d : drop i t ≡ [] = drop-of-length-le t h in rw d at (a .tones .gives)
+
+  module _ {k v : ℕ} (x : k ≡ entry t i) (y : v ≡ entry b k) (h : i < length t) where
+    pub one-room : v ≡ 1 → one < behind + length (singles b t)
+    one-room e = omega (arith, a .tones .room, ap length (single-here b t i x y h e))
+
+    pub one-more : {after : List ℕ} → v ≡ 1 → after ≡ set ts one k → OnesLeft b t behind ts₀ after (one + 1) (i + 1)
+    one-more e w = record { within = omega arith; tones = left-step w (single-here b t i x y h e) (a .tones) }
+
+    pub one-past : (v ≡ 1 → ⊥) → OnesLeft b t behind ts₀ ts one (i + 1)
+    one-past e = record { within = omega arith; tones = left-same (single-past b t i x y h e) (a .tones) }

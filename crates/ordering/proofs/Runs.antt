@@ -1,11 +1,11 @@
 -- Laws of `sets`, a run of stores: what is left to write, from here, gives what the whole gives from the start.
 use Prim.Native.Nat.{ℕ, zero, suc, _+_, _-_, _<_, _≤_}
 use mathlib.Core.List.{List, [], _∷_, _++_}
-use mathlib.Core.Path.{_≡_, refl, sym, ap, _∙_}
+use mathlib.Core.Path.{_≡_, sym, ap, _∙_}
 use native.Mathlib.Numerals.{add-one}
 use native.Mathlib.Omega.{arith}
 use lib.ListN.{length, getD, take, drop, set, replicate, length-append}
-use lib.Seq.{sets, sets-eq, set-comm, take-at, take-all, take-suc, take-suc-set}
+use lib.Seq.{sets, sets-eq, take-at, take-all, take-suc, take-suc-set}
 
 -- one store more, and the end
 pub sets-step : (out : List ℕ) (n x : ℕ) {xs ys zs : List ℕ} → xs ≡ x ∷ ys → sets out n xs ≡ zs → sets (set out n x) (n + 1) ys ≡ zs
@@ -14,50 +14,18 @@ sets-step out n x e q = rw add-one (sym (ap (sets out n) e) ∙ q)
 pub sets-done : (out : List ℕ) (n : ℕ) {xs zs : List ℕ} → xs ≡ [] → sets out n xs ≡ zs → out ≡ zs
 sets-done out n e q = sym (ap (sets out n) e) ∙ q
 
--- a store behind a run comes before it or after it
-sets-set : (out xs : List ℕ) (n m x : ℕ) → n + length xs ≤ m → sets (set out m x) n xs ≡ set (sets out n xs) m x
-sets-set out [] n m x h = refl
-sets-set out (y ∷ xs) n m x h =
-    ap (λ (l : List ℕ). sets l (suc n) xs) (set-comm out m n x y (λ e. omega arith)) ∙ sets-set (set out n y) xs (suc n) m x (omega arith)
-
 -- a run still to be written: xs from place n on, as far as `end`, gives `goal`
 pub record Left (out : List ℕ) (n : ℕ) (xs : List ℕ) (end : ℕ) (goal : List ℕ) : Type 0 where
   pub room : n + length xs ≡ end
   pub gives : sets out n xs ≡ goal
 
+-- a store more, and none
 module _ {out : List ℕ} {n end : ℕ} {xs ys goal : List ℕ} where
-  pub left-step : {x : ℕ} → xs ≡ x ∷ ys → Left out n xs end goal → Left (set out n x) (n + 1) ys end goal
-  left-step {x} e l = record { room = omega (arith, l .room, ap length e); gives = sets-step out n x e (l .gives) }
+  pub left-step : {after : List ℕ} {x : ℕ} → after ≡ set out n x → xs ≡ x ∷ ys → Left out n xs end goal → Left after (n + 1) ys end goal
+  left-step {x = x} w e l = record { room = omega (arith, l .room, ap length e); gives = rw w (sets-step out n x e (l .gives)) }
 
   pub left-same : xs ≡ ys → Left out n xs end goal → Left out n ys end goal
   left-same e l = rw e at l
-
--- two runs that grow together: xs from place n on as far as `mid`, and ss behind it from place m on as far as `end`
-pub record Both (out : List ℕ) (n : ℕ) (xs : List ℕ) (mid m : ℕ) (ss : List ℕ) (end : ℕ) (goal : List ℕ) : Type 0 where
-  pub front : n + length xs ≡ mid
-  pub past : mid ≤ m
-  pub room : m + length ss ≡ end
-  pub gives : sets (sets out n xs) m ss ≡ goal
-
--- a store to the first, and one to the second
-module _ {out after xs ys ss rs goal : List ℕ} {n mid m end x : ℕ} where
-  pub front-step : after ≡ set out n x → xs ≡ x ∷ ys → ss ≡ rs → Both out n xs mid m ss end goal → Both after (n + 1) ys mid m rs end goal
-  front-step w e f l =
-      record {
-        front = omega (arith, l .front, ap length e);
-        past = l .past;
-        room = omega (arith, l .room, ap length f);
-        gives = rw (w, ← f) (ap (λ (o : List ℕ). sets o m ss) (sets-step out n x e refl) ∙ l .gives);
-      }
-
-  pub behind-step : after ≡ set out m x → xs ≡ ys → ss ≡ x ∷ rs → Both out n xs mid m ss end goal → Both after n ys mid (m + 1) rs end goal
-  behind-step w e f l =
-      record {
-        front = omega (arith, l .front, ap length e);
-        past = omega (arith, l .past);
-        room = omega (arith, l .room, ap length f);
-        gives = rw (w, ← e) (ap (λ (o : List ℕ). sets o (m + 1) rs) (sets-set out xs n m x (omega (arith, l .front, l .past))) ∙ sets-step (sets out n xs) m x f (l .gives));
-      }
 
 -- one run after another
 sets-sets : (out xs ys : List ℕ) (n m : ℕ) → m ≡ n + length xs → sets (sets out n xs) m ys ≡ sets out n (xs ++ ys)

@@ -45,16 +45,15 @@ pub record CodedNeeds (b t : List ℕ) (one zeros : ℕ) : Type 0 where
   pub zerosIs : zeros ≡ length t - entryCount b t
   pub below : Below (length b) t
 
--- what placing the tones asks: the 1-bit tones come behind the others, and there is room for all
-pub record PlaceNeeds (b t : List ℕ) (behind from tonesLength bitsLength : ℕ) : Type 0 where
-  pub behindIs : behind ≡ length (others b t)
-  pub tonesFit : behind + length (singles b t) ≤ tonesLength
+-- what placing the tones but the 1-bit ones asks: there is room for all
+pub record PlaceNeeds (b t : List ℕ) (from tonesLength bitsLength : ℕ) : Type 0 where
+  pub tonesFit : length (others b t) ≤ tonesLength
   pub bitsFit : from + length (filter (leb 2) (bitsOf b t)) ≤ bitsLength
   pub below : Below (length b) t
 
 -- and what it does to the two arrays
-pub record Placing (b t : List ℕ) (behind from : ℕ) (ts bs tsAfter bsAfter : List ℕ) : Type 0 where
-  pub tones : tsAfter ≡ sets (sets ts 0 (others b t)) behind (singles b t)
+pub record Placing (b t : List ℕ) (from : ℕ) (ts bs tsAfter bsAfter : List ℕ) : Type 0 where
+  pub tones : tsAfter ≡ sets ts 0 (others b t)
   pub bits : bsAfter ≡ sets bs from (filter (leb 2) (bitsOf b t))
 
 -- copying t' and b' out: refused for room, or both buffers hold n entries

@@ -5,6 +5,7 @@ use g9932::Found;
 use g9932::Place;
 use g9932::Refusal;
 use g9932::Subcarrier;
+use tables::bits_at;
 use tables::count_tones;
 use tables::tone_at;
 ghost use mathlib.Core.Path.{_≡_};
@@ -15,7 +16,7 @@ ghost use lib.Seq.{sets};
 ghost use Rattle.g9932.specs.Bits.{first};
 ghost use Rattle.g9932.specs.Sizes.{entry};
 ghost use Rattle.g9932.specs.Refusals.{pairTest, modeVerdict};
-ghost use Rattle.g9932.specs.Order.{isOne, zeroInFront, pairsOf};
+ghost use Rattle.g9932.specs.Order.{isOne, singles, zeroInFront, pairsOf};
 ghost use Rattle.g9932.specs.declared.Mode.the-variants.{Uncoded, Coded};
 ghost use Rattle.tables.specs.Checks.{anyBelow};
 ghost use Rattle.tables.specs.Counted.{Medley};
@@ -72,21 +73,19 @@ fn fill(out: &mut [u8], at: usize, count: usize, v: u8)
     }
 }
 
-// Coded: writes the tones with 0 or at least 2 bits from the front of t', the 1-bit tones from `behind` on, and the counts of
-// at least 2 in b' from `from` on, all in t order.
-fn place_tones(
+// Coded: writes the tones with 0 or at least 2 bits from the front of t', and the counts of at least 2 in b' from `from` on, in t
+// order.
+fn place_others(
     bits: &[u8],
     tones: &[u16],
-    behind: usize,
     from: usize,
     reordered_tones: &mut [u16],
     reordered_bits: &mut [u8],
 )
-    requires { ⌜ PlaceNeeds (now bits) (now tones) behind from (length (now «reordered_tones»)) (length (now «reordered_bits»)) ⌝ }
-    ensures { λ _. ⌜ Placing (now (bits .entry)) (now (tones .entry)) behind from (now («reordered_tones» .entry)) (now («reordered_bits» .entry)) (now («reordered_tones» .exit)) (now («reordered_bits» .exit)) ⌝ }
+    requires { ⌜ PlaceNeeds (now bits) (now tones) from (length (now «reordered_tones»)) (length (now «reordered_bits»)) ⌝ }
+    ensures { λ _. ⌜ Placing (now (bits .entry)) (now (tones .entry)) from (now («reordered_tones» .entry)) (now («reordered_bits» .entry)) (now («reordered_tones» .exit)) (now («reordered_bits» .exit)) ⌝ }
 {
     let mut other = 0;
-    let mut one = behind;
     let mut at = from;
     let mut i = 0;
     while i < tones.len() {
@@ -98,12 +97,27 @@ fn place_tones(
             other += 1;
             reordered_bits[at] = b;
             at += 1;
-        } else if b == 1 {
-            put_tone(reordered_tones, Place(one), k);
-            one += 1;
-        } else {
+        } else if b == 0 {
             put_tone(reordered_tones, Place(other), k);
             other += 1;
+        }
+    }
+}
+
+// Coded: writes the 1-bit tones in t' from `behind` on, in t order.
+fn place_ones(bits: &[u8], tones: &[u16], behind: usize, reordered_tones: &mut [u16])
+    requires { ⌜ behind + length (singles (now bits) (now tones)) ≤ length (now «reordered_tones») ⌝ }
+    ensures { λ _. ⌜ now («reordered_tones» .exit) ≡ sets (now («reordered_tones» .entry)) behind (singles (now (bits .entry)) (now (tones .entry))) ⌝ }
+{
+    let mut one = behind;
+    let mut i = 0;
+    while i < tones.len() {
+        let tone = tone_at(tones, Place(i));
+        let b = bits_at(bits, tone);
+        i += 1;
+        if b == 1 {
+            put_tone(reordered_tones, Place(one), tone);
+            one += 1;
         }
     }
 }
@@ -123,7 +137,8 @@ fn write_coded(
 {
     let half = ones / 2;
     fill(reordered_bits, 0, zeros, 0);
-    place_tones(bits, tones, tones.len() - ones, zeros, reordered_tones, reordered_bits);
+    place_others(bits, tones, zeros, reordered_tones, reordered_bits);
+    place_ones(bits, tones, tones.len() - ones, reordered_tones);
     fill(reordered_bits, tones.len() - half, half, 2);
 }
 
