@@ -24,7 +24,14 @@ pub fn check_tables(mode: Mode, bits: &[u8], gains: &[u16], tones: &[u16]) -> Ch
 {
     let mut reordered_tones = [0u16; 4096];
     let mut reordered_bits = [0u8; 4096];
-    order_tables(mode, bits, gains, tones, &mut reordered_tones, &mut reordered_bits)
+    order_tables(
+        mode,
+        bits,
+        gains,
+        tones,
+        &mut reordered_tones,
+        &mut reordered_bits,
+    )
 }
 
 // Refusals 1 to 9. Where nothing is refused, t' and b' stand in the first NSC entries of two lent arrays of 4,096.

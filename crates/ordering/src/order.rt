@@ -41,7 +41,12 @@ fn put_tone(reordered_tones: &mut [u16], p: Place, k: Subcarrier)
 }
 
 // Uncoded: t' is t, b' lists the bits in t order, and L is their sum.
-pub fn order_uncoded(bits: &[u8], tones: &[u16], reordered_tones: &mut [u16], reordered_bits: &mut [u8]) -> Checked
+pub fn order_uncoded(
+    bits: &[u8],
+    tones: &[u16],
+    reordered_tones: &mut [u16],
+    reordered_bits: &mut [u8],
+) -> Checked
     requires room { ⌜ OrderNeeds (now tones) (now «reordered_tones») (now «reordered_bits») ⌝ }
     requires medley { ⌜ Medley (now bits) (now tones) ⌝ }
     ensures { λ r. ⌜ OrderedBy (modeVerdict Uncoded (now (bits .entry)) (now (tones .entry))) Uncoded (now (bits .entry)) (now (tones .entry)) r (now («reordered_tones» .exit)) (now («reordered_bits» .exit)) ⌝ }
@@ -202,7 +207,12 @@ pub fn first_pair(reordered_bits: &[u8], from: usize, n: usize) -> Found
 }
 
 // Coded: refusals 7 to 9 and L, with t' and b' written before 9.
-pub fn order_coded(bits: &[u8], tones: &[u16], reordered_tones: &mut [u16], reordered_bits: &mut [u8]) -> Checked
+pub fn order_coded(
+    bits: &[u8],
+    tones: &[u16],
+    reordered_tones: &mut [u16],
+    reordered_bits: &mut [u8],
+) -> Checked
     requires room { ⌜ OrderNeeds (now tones) (now «reordered_tones») (now «reordered_bits») ⌝ }
     requires medley { ⌜ Medley (now bits) (now tones) ⌝ }
     ensures { λ r. ⌜ OrderedBy (modeVerdict Coded (now (bits .entry)) (now (tones .entry))) Coded (now (bits .entry)) (now (tones .entry)) r (now («reordered_tones» .exit)) (now («reordered_bits» .exit)) ⌝ }

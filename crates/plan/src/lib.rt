@@ -68,15 +68,7 @@ fn file_plan(
     );
     let place = at.place;
     let entry = at.entry;
-    filing::share_entries(
-        ones / 2,
-        place,
-        entry,
-        table[1],
-        layouts,
-        entries,
-        places,
-    );
+    filing::share_entries(ones / 2, place, entry, table[1], layouts, entries, places);
     Sizes {
         size,
         entries: entry + ones / 2,
@@ -139,7 +131,16 @@ fn plan_by(
         Sized::Refused(x) => Planned::Refused(x),
         Sized::Frame { size, ones } => {
             let p = file_plan(
-                mode, ones, size, bits, gains, tones, layouts, entries, places, monitored,
+                mode,
+                ones,
+                size,
+                bits,
+                gains,
+                tones,
+                layouts,
+                entries,
+                places,
+                monitored,
             );
             Planned::Ready(p)
         }
@@ -166,7 +167,14 @@ pub fn plan_tables(
         Checked::Refused(x) => Planned::Refused(x),
         Checked::Accepted(_) => {
             plan_by(
-                mode, bits, gains, tones, layouts, entries, places, monitored,
+                mode,
+                bits,
+                gains,
+                tones,
+                layouts,
+                entries,
+                places,
+                monitored,
             )
         }
     }

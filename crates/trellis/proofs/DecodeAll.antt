@@ -76,12 +76,12 @@ module _ (w : BitWriter) (es labels out : List ℕ) (needs : LabelNeeds w es lab
       first-needs =
           let a = needs .wide 0 (omega (arith, needs .few)) in
           let p : PairNeeds (firstReader w) (pair 0 y) 0 l out =
-              record {
-                vSmall = omega arith;
-                wSmall = rw (hl, hy) (needs .within 0 (omega (arith, needs .few)));
-                bytes = omega (arith, needs .bytes);
-                waits = needs .waits;
-              } in
+          record {
+            vSmall = omega arith;
+            wSmall = rw (hl, hy) (needs .within 0 (omega (arith, needs .few)));
+            bytes = omega (arith, needs .bytes);
+            waits = needs .waits;
+          } in
           (rw hy (a .0), rw hy (a .1), p)
 
       -- the first label, and those after it

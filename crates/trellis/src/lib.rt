@@ -194,13 +194,7 @@ fn code_first(frame: &[u8], start: usize, y: usize) -> PairCode
 
 // Codes a frame, whose bits begin at bit `start`: the labels of the entries of b', each at its place. A first pair has x = 0 where
 // the count of entries is odd. Called by proved code only.
-pub fn encode_labels(
-    frame: &[u8],
-    start: usize,
-    entries: &[u8],
-    places: &[u16],
-    labels: &mut [u16],
-)
+pub fn encode_labels(frame: &[u8], start: usize, entries: &[u8], places: &[u16], labels: &mut [u16])
     requires { ⌜ FrameNeeds (now frame) start (now entries) × Placed (now entries) (now places) (now labels) ⌝ }
     ensures { λ _. ⌜ CodesFrame (now (frame .entry)) start (now (entries .entry)) (labelsAt (now (places .entry)) (now (labels .exit))) ⌝ }
 {

@@ -198,7 +198,12 @@ pub fn read_labels(
     ensures { λ r. ⌜ ReadsLabels writer (now (entries .entry)) (labelsAt (now (places .entry)) (now (labels .entry))) (now (frame .entry)) r (now (frame .exit)) ⌝ }
 {
     if entries.len() % 2 == 1 {
-        let first = read_first(writer, entry(entries, 0), entry_label(labels, places, 0), frame);
+        let first = read_first(
+            writer,
+            entry(entries, 0),
+            entry_label(labels, places, 0),
+            frame,
+        );
         let obeys = first.obeys;
         let reader = first.reader;
         if !obeys {

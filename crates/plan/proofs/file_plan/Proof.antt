@@ -63,9 +63,11 @@ returns c =
     let f = c .before .before .before .before .before .before .before .before .before .before .before .before .before .before .before .before .before .before .file-tones in
     let h = c .before .before .before .before .before .before .share-entries in
     let g = rw (c .before .before .before .before .before .before .before .before .before .before .before .before .before .before .before .before .before .before .before .before .before .before .before .before .least-own .ensures) at (f .ensures) in
-    let t = c .before .before .before .before .before .before .before .before .before .before .before .before .before .before .before .before .before .before .before .before .before .before .before .before .before .layout-table .ensures in
-    (plan-is (a .mode) (a .bits .now) (a .gains .now) (a .tones .now) (a .ones) (a .size) (f .result) (f .last .1 .1 .1 .1 .1 .0) (f .last .1 .1 .1 .1 .1 .1 .0) (f .last .1 .1 .1 .1 .1 .1 .1 .0) (f .last .1 .1 .1 .1 .1 .1 .1 .1 .0)
-    (h .last .1 .1 .1 .1 .0) (h .last .1 .1 .1 .1 .1 .0) (h .last .1 .1 .1 .1 .1 .1 .0) (s .pre .onesIs) (s .pre .even) g (rw t at (h .ensures)), refl)
+    let t = c .before .before .before .before .before .before .before .before .before .before .before .before .before .before .before .before .before .before .before .before .before .before .before .before .before .layout-table .ensures in (
+      plan-is (a .mode) (a .bits .now) (a .gains .now) (a .tones .now) (a .ones) (a .size) (f .result) (f .last .1 .1 .1 .1 .1 .0) (f .last .1 .1 .1 .1 .1 .1 .0) (f .last .1 .1 .1 .1 .1 .1 .1 .0) (f .last .1 .1 .1 .1 .1 .1 .1 .1 .0)
+          (h .last .1 .1 .1 .1 .0) (h .last .1 .1 .1 .1 .1 .0) (h .last .1 .1 .1 .1 .1 .1 .0) (s .pre .onesIs) (s .pre .even) g (rw t at (h .ensures)),
+      refl,
+    )
 
 pub file-plan-spec : {M : Type 1} → statement M
 file-plan-spec =

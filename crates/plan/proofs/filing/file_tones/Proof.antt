@@ -111,12 +111,12 @@ loop-again c =
     let r = l .inv .2 in
     let g = tone-more (a .least) cs (record { place = l .place; entry = l .entry; monitored = l .monitor }) (l .layouts) (l .entries) (l .places) (l .monitored) (l .inv .3) (omega (arith, l .inv .0, r .layoutsLength, s .pre .0 .most)) (omega (arith, l .inv .0, l .inv .3 .entryMost, r .entriesLength, s .pre .0 .most)) (omega (arith, l .inv .0, l .inv .3 .entryMost, r .placesLength, s .pre .0 .most)) (omega (arith, l .inv .0, l .inv .3 .monitoredMost, r .monitoredLength, s .pre .0 .most)) (toneOf (entry (a .bits .now) n) (entry (a .gains .now) n) .class) (f .result) (rw (k .ensures) at (f .ensures)) in
     let arrays : Arrays _ _ _ _ =
-        record {
-          layoutsLength = length-set (l .layouts) (l .place) (f .result .layout) ∙ r .layoutsLength;
-          entriesLength = length-set (l .entries) (l .entry) (f .result .bits) ∙ r .entriesLength;
-          placesLength = length-set (l .places) (l .entry) (l .place) ∙ r .placesLength;
-          monitoredLength = length-set (l .monitored) (l .monitor) (l .place) ∙ r .monitoredLength;
-        } in
+    record {
+      layoutsLength = length-set (l .layouts) (l .place) (f .result .layout) ∙ r .layoutsLength;
+      entriesLength = length-set (l .entries) (l .entry) (f .result .bits) ∙ r .entriesLength;
+      placesLength = length-set (l .places) (l .entry) (l .place) ∙ r .placesLength;
+      monitoredLength = length-set (l .monitored) (l .monitor) (l .place) ∙ r .monitoredLength;
+    } in
     (omega (arith, l .inv .0, files-one (f .ensures) .0), omega arith, arrays, rw (classes-more (a .least) (a .bits .now) (a .gains .now) (a .tones .now) (l .i) (omega arith)) g)
 
 same-length : tie.Need-same-length Inv-loop μ-loop

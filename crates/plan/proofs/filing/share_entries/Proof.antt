@@ -74,8 +74,7 @@ loop-again c =
     let a = s .args in
     let l = c .before .loop in
     let p = a .from + 2 * l .j in
-    let k = length-set (l .layouts) p (a .one) in
-    (
+    let k = length-set (l .layouts) p (a .one) in (
       omega arith,
       share-more (l .inv .1) (omega (arith, s .pre .most, s .pre .layoutsLength, l .inv .2)) (omega (arith, s .pre .most, s .pre .atMost, s .pre .entriesLength, l .inv .3)) (omega (arith, s .pre .most, s .pre .atMost, s .pre .placesLength, l .inv .4)),
       length-set (set (l .layouts) p (a .one)) (p + 1) (a .one) ∙ k ∙ l .inv .2,
