@@ -6,7 +6,7 @@ use mathlib.Core.Path.{ap₂, _≡_, ap, _∙_, refl}
 use native.Mathlib.Omega.{arith}
 use borrow.Author.Tests.{eq-eqb, eqb-false}
 use lib.ListN.{length, take}
-use Rattle.g9932.specs.Sizes.{Tables, tables}
+use Rattle.g9932.specs.Sizes.{Tables, tables, mostTones}
 use Rattle.g9932.specs.Refusals.{refuseIf, Verdict, accepted, roomTest, tableVerdict, listVerdict, modeVerdict}
 use Rattle.g9932.specs.Answers.{onDone, roomVerdict, verdictOf, orderVerdict, Reorders}
 use Rattle.g9932.specs.declared.Mode.{Mode}
@@ -19,7 +19,7 @@ use Rattle.g9932.proofs.Verdicts.{test-here, test-past, number-some, and-refuse
 use Rattle.tables.proofs.Answers.{number-none}
 use Rattle.ordering.specs.Ordered.{OrderedBy, Ordered, CopiesOut}
 
-pub table-fits : (T : Tables) {l : ℕ} → accepted l ≡ tableVerdict T → length (T .tones) ≤ 4096
+pub table-fits : (T : Tables) {l : ℕ} → accepted l ≡ tableVerdict T → length (T .tones) ≤ mostTones
 table-fits T e = let a = accepted-tables T (number-none e) in omega (arith, a .tonesMost, a .tableMost)
 
 -- a refusal leaves t' and b' out of the promise

@@ -6,7 +6,7 @@ use mathlib.Core.Path.{_≡_}
 use lib.Dec.{leb}
 use lib.ListN.{length, take}
 use lib.Seq.{sets}
-use Rattle.g9932.specs.Sizes.{Tables, entry}
+use Rattle.g9932.specs.Sizes.{Tables, entry, mostTones}
 use Rattle.g9932.specs.Refusals.{Verdict, member, twiceTest, tableVerdict}
 use Rattle.g9932.specs.Order.{sum, filter, bitsOf, singles, others, loaded, ones, reorderedTones, entryCount, reorderedBits}
 use Rattle.g9932.specs.Answers.{verdictOf, onDone, roomVerdict}
@@ -25,11 +25,11 @@ Ordered T r ts bs = OrderedBy (tableVerdict T) (T .mode) (T .bits) (T .tones) r 
 
 -- two arrays that hold any t' and b'; and room for those of t
 pub record Arrays (ts bs : List ℕ) : Type 0 where
-  pub tonesLength : length ts ≡ 4096
-  pub bitsLength : length bs ≡ 4096
+  pub tonesLength : length ts ≡ mostTones
+  pub bitsLength : length bs ≡ mostTones
 
 pub record OrderNeeds (t ts bs : List ℕ) : Type 0 where
-  pub size : length t ≤ 4096
+  pub size : length t ≤ mostTones
   pub tonesFit : length t ≤ length ts
   pub bitsFit : length t ≤ length bs
 

@@ -6,7 +6,7 @@ use mathlib.Core.Path.{_≡_, refl, sym, ap, _∙_}
 use native.Mathlib.Omega.{arith}
 use lib.ListN.{length}
 use Rattle.g9932.specs.Bits.{first}
-use Rattle.g9932.specs.Sizes.{tables}
+use Rattle.g9932.specs.Sizes.{tables, mostTones}
 use Rattle.g9932.specs.Refusals.{Verdict, accepted, sizeTest, toneTest, twiceTest, tableVerdict, listVerdict}
 use Rattle.g9932.specs.Answers.{verdictOf}
 use Rattle.g9932.specs.declared.Mode.{Mode}
@@ -24,7 +24,7 @@ pub number-none : {l : ℕ} {v : Verdict} → accepted l ≡ v → v .number ≡
 number-none e = sym (ap (λ (v : Verdict). v .number) e)
 
 -- tables that pass 1 have at most 4,096 tones
-pub lists-fit : (b g t : List ℕ) {l : ℕ} → accepted l ≡ listVerdict b g t → length t ≤ 4096
+pub lists-fit : (b g t : List ℕ) {l : ℕ} → accepted l ≡ listVerdict b g t → length t ≤ mostTones
 unfolding listVerdict
 lists-fit b g t e = let z = size-facts (length b) (length g) (length t) (test-none 0 _ _ (number-none e) .0) in omega arith
 

@@ -6,6 +6,7 @@ use mathlib.Core.Path.{_≡_, refl, sym}
 use borrow.Author.Tests.{ltb-false, eqb-true, not-false}
 use lib.Dec.{ltb, eqb}
 use lib.ListN.{length}
+use Rattle.g9932.specs.Sizes.{mostTones}
 use Rattle.g9932.specs.Bits.{first}
 use Rattle.g9932.specs.Refusals.{Verdict, refused, accepted, sizeTest, toneTest, twiceTest, bitsTest, strayTest, gainTest, indexVerdict, listVerdict}
 use Rattle.g9932.specs.declared.Found.the-variants.{At, Nothing}
@@ -24,16 +25,16 @@ module _ (p q : ℕ → Bool) (n : ℕ) where
 
 -- what the size test leaves
 pub record SizeFacts (g gains nsc : ℕ) : Type 0 where
-  pub top : g ≤ 4096
+  pub top : g ≤ mostTones
   pub gainsFit : gains ≡ g
   pub tonesFit : nsc ≤ g
 
 pub size-facts : (g n m : ℕ) → sizeTest g n m ≡ false → SizeFacts g n m
 size-facts g n m e =
-    let w4 = or-false (ltb g 1 || ltb 4096 g || not (eqb n g) || ltb m 1) (ltb g m) e in
-    let w3 = or-false (ltb g 1 || ltb 4096 g || not (eqb n g)) (ltb m 1) (w4 .0) in
-    let w2 = or-false (ltb g 1 || ltb 4096 g) (not (eqb n g)) (w3 .0) in
-    let w1 = or-false (ltb g 1) (ltb 4096 g) (w2 .0) in
+    let w4 = or-false (ltb g 1 || ltb mostTones g || not (eqb n g) || ltb m 1) (ltb g m) e in
+    let w3 = or-false (ltb g 1 || ltb mostTones g || not (eqb n g)) (ltb m 1) (w4 .0) in
+    let w2 = or-false (ltb g 1 || ltb mostTones g) (not (eqb n g)) (w3 .0) in
+    let w1 = or-false (ltb g 1) (ltb mostTones g) (w2 .0) in
     record {
       top = ltb-false _ _ (w1 .1);
       gainsFit = eqb-true _ _ (not-false _ (w2 .1));

@@ -6,7 +6,7 @@ use mathlib.Core.Path.{_≡_}
 use lib.Dec.{ltb}
 use lib.ListN.{length, getD, set}
 use Rattle.g9932.specs.Bits.{weight}
-use Rattle.g9932.specs.Sizes.{entry}
+use Rattle.g9932.specs.Sizes.{entry, mostTones}
 use Rattle.g9932.specs.Refusals.{member, strayBy, gainBy}
 use Rattle.tables.specs.declared.lists.Rule.{Rule}
 use Rattle.tables.specs.declared.lists.Rule.the-variants.{Bits, Stray, Gain}
@@ -47,4 +47,4 @@ trues (b ∷ l) = weight b + trues l
 
 -- the members of a list of tones are marked
 abbrev pub Marks : List ℕ → List Bool → Type 0
-Marks t seen = (k : ℕ) → k < 4096 → getD seen k false ≡ member k t
+Marks t seen = (k : ℕ) → k < mostTones → getD seen k false ≡ member k t

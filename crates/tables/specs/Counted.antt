@@ -4,7 +4,7 @@ use mathlib.Core.Bool.{false}
 use mathlib.Core.List.{List}
 use mathlib.Core.Path.{_≡_}
 use lib.ListN.{length}
-use Rattle.g9932.specs.Sizes.{entry}
+use Rattle.g9932.specs.Sizes.{entry, mostTones}
 use Rattle.g9932.specs.Refusals.{member, twiceTest}
 use Rattle.g9932.specs.Order.{sum, bitsOf, loaded, ones}
 use Rattle.tables.specs.Checks.{Below}
@@ -12,7 +12,7 @@ use Rattle.tables.specs.declared.Counts.{Counts}
 
 -- what refusals 1 to 6 leave of the bit table and t: t has indices below G, each once, and only they have bits, at most 15
 pub record Medley (b t : List ℕ) : Type 0 where
-  pub size : length b ≤ 4096
+  pub size : length b ≤ mostTones
   pub below : Below (length b) t
   pub once : (k : ℕ) → k < length t → twiceTest t k ≡ false
   pub bitsMost : (k : ℕ) → entry b k ≤ 15

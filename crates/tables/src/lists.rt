@@ -13,6 +13,7 @@ ghost use mathlib.Core.Path.{_≡_};
 ghost use mathlib.Core.Bool.{false};
 ghost use Prim.Native.Nat.{_≤_};
 ghost use lib.ListN.{length, replicate};
+ghost use Rattle.g9932.specs.Sizes.{mostTones};
 ghost use Rattle.g9932.specs.Bits.{first};
 ghost use Rattle.g9932.specs.Refusals.{sizeTest, toneTest, twiceTest, strayBy, gainBy, indexVerdict, listVerdict};
 ghost use Rattle.g9932.specs.Answers.{verdictOf};
@@ -39,7 +40,7 @@ fn wrong_size(g: usize, gains: usize, nsc: usize) -> bool
 
 // Does 2 TONE apply to any place? No early exit and no `if`, so that the compiler takes many entries at a time.
 fn any_tone_fault(g: usize, tones: &[u16]) -> bool
-    requires { ⌜ g ≤ 4096 ⌝ }
+    requires { ⌜ g ≤ mostTones ⌝ }
     ensures { λ r. ⌜ r ≡ anyBelow (toneTest g (now (tones .entry))) (length (now (tones .entry))) ⌝ }
 {
     let end = g as u16;
@@ -54,7 +55,7 @@ fn any_tone_fault(g: usize, tones: &[u16]) -> bool
 
 // 2 TONE: the first place whose entry is G or more. Where the scan finds none there is none to look for.
 fn first_tone(g: usize, tones: &[u16]) -> Found
-    requires { ⌜ g ≤ 4096 ⌝ }
+    requires { ⌜ g ≤ mostTones ⌝ }
     ensures { λ r. ⌜ r ≡ first (toneTest g (now (tones .entry))) (length (now (tones .entry))) ⌝ }
 {
     if !any_tone_fault(g, tones) {
@@ -73,7 +74,7 @@ fn first_tone(g: usize, tones: &[u16]) -> Found
 
 // Marks every entry of t.
 fn mark_tones(tones: &[u16], seen: &mut [bool; 4096])
-    requires { ⌜ Below 4096 (now tones) ⌝ }
+    requires { ⌜ Below mostTones (now tones) ⌝ }
     ensures { λ _. ⌜ now (seen .exit) ≡ marked (now (seen .entry)) (now (tones .entry)) ⌝ }
 {
     let mut i = 0;
@@ -87,7 +88,7 @@ fn mark_tones(tones: &[u16], seen: &mut [bool; 4096])
 
 // How many are marked?
 fn count_marks(seen: &[bool; 4096]) -> usize
-    requires { ⌜ length (now seen) ≡ 4096 ⌝ }
+    requires { ⌜ length (now seen) ≡ mostTones ⌝ }
     ensures { λ r. ⌜ r ≡ trues (now (seen .entry)) ⌝ }
 {
     let mut n: u16 = 0;
@@ -101,8 +102,8 @@ fn count_marks(seen: &[bool; 4096]) -> usize
 
 // The first place in t whose entry equals an earlier one. Marks each entry that it passes.
 fn first_repeat(tones: &[u16], seen: &mut [bool; 4096]) -> Found
-    requires clear { ⌜ now seen ≡ replicate 4096 false ⌝ }
-    requires below { ⌜ Below 4096 (now tones) ⌝ }
+    requires clear { ⌜ now seen ≡ replicate mostTones false ⌝ }
+    requires below { ⌜ Below mostTones (now tones) ⌝ }
     ensures { λ r. ⌜ r ≡ first (twiceTest (now (tones .entry))) (length (now (tones .entry))) ⌝ }
 {
     let mut i = 0;
@@ -121,8 +122,8 @@ fn first_repeat(tones: &[u16], seen: &mut [bool; 4096]) -> Found
 // 3 TWICE: the first place whose entry equals an earlier one. Marks every entry: as many marks as entries say that none comes
 // twice, and only otherwise is a place looked for.
 fn first_twice(tones: &[u16], seen: &mut [bool; 4096]) -> Found
-    requires clear { ⌜ now seen ≡ replicate 4096 false ⌝ }
-    requires below { ⌜ Below 4096 (now tones) ⌝ }
+    requires clear { ⌜ now seen ≡ replicate mostTones false ⌝ }
+    requires below { ⌜ Below mostTones (now tones) ⌝ }
     ensures { λ r. ⌜ (r ≡ first (twiceTest (now (tones .entry))) (length (now (tones .entry)))) × Marks (now (tones .entry)) (now (seen .exit)) ⌝ }
 {
     mark_tones(tones, seen);
@@ -157,7 +158,7 @@ fn is_fault(seen: bool, bits: u8, gain: u16) -> bool
 // Does 4 BITS, 5 STRAY or 6 GAIN apply to any index? `seen` marks the members of t. No early exit and no `if`, so that the
 // compiler takes many entries at a time.
 fn any_index_fault(bits: &[u8], gains: &[u16], tones: &[u16], seen: &[bool; 4096]) -> bool
-    requires size { ⌜ length (now bits) ≤ 4096 ⌝ }
+    requires size { ⌜ length (now bits) ≤ mostTones ⌝ }
     requires gains { ⌜ length (now gains) ≡ length (now bits) ⌝ }
     requires marks { ⌜ Marks (now tones) (now seen) ⌝ }
     ensures { λ r. ⌜ r ≡ anyBelow (indexFault (now (bits .entry)) (now (gains .entry)) (now (tones .entry))) (length (now (bits .entry))) ⌝ }
@@ -191,7 +192,7 @@ fn breaks(rule: Rule, seen: bool, bits: u8, gain: u16) -> bool
 
 // The smallest index to which the rule applies. `seen` marks the members of t.
 fn first_index(rule: Rule, bits: &[u8], gains: &[u16], tones: &[u16], seen: &[bool; 4096]) -> Found
-    requires size { ⌜ length (now bits) ≤ 4096 ⌝ }
+    requires size { ⌜ length (now bits) ≤ mostTones ⌝ }
     requires marks { ⌜ Marks (now tones) (now seen) ⌝ }
     ensures { λ r. ⌜ r ≡ first (ruleTest rule (now (bits .entry)) (now (gains .entry)) (now (tones .entry))) (length (now (bits .entry))) ⌝ }
 {
@@ -208,7 +209,7 @@ fn first_index(rule: Rule, bits: &[u8], gains: &[u16], tones: &[u16], seen: &[bo
 
 // Refusals 4 to 6. A pass over all indices accepts; which number applies is looked for only after that. `seen` marks the members of t.
 fn check_indices(bits: &[u8], gains: &[u16], tones: &[u16], seen: &[bool; 4096]) -> Checked
-    requires size { ⌜ length (now bits) ≤ 4096 ⌝ }
+    requires size { ⌜ length (now bits) ≤ mostTones ⌝ }
     requires gains { ⌜ length (now gains) ≡ length (now bits) ⌝ }
     requires marks { ⌜ Marks (now tones) (now seen) ⌝ }
     ensures { λ r. ⌜ verdictOf r ≡ indexVerdict (now (bits .entry)) (now (gains .entry)) (now (tones .entry)) ⌝ }

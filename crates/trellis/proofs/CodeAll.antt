@@ -10,7 +10,7 @@ use Rattle.frame.proofs.Labels.{labels-set, within-set}
 use Rattle.frame.specs.Labels.{bitsOfLabels}
 use Rattle.g9932.specs.Bits.{bits}
 use Rattle.g9932.specs.Order.{pair, inTwos, pairsOf}
-use Rattle.g9932.specs.Sizes.{unpack}
+use Rattle.g9932.specs.Sizes.{unpack, mostBytes}
 use Rattle.g9932.specs.Trellis.{taken, sentBits, zeroState, takenTotal}
 use Rattle.trellis.specs.Coding.{codedWord, firstCoder, CodesPair, CodeNeeds, CodesFrom, CodesFrame, FrameNeeds}
 use Rattle.trellis.specs.declared.PairCode.{PairCode}
@@ -39,7 +39,7 @@ module _ (frame : List ℕ) (start : ℕ) (es labels : List ℕ) (needs : FrameN
     taken-first : takenTotal (pairsOf es) ≡ taken false (pair 0 y) + takenTotal (inTwos (drop 1 es))
     taken-first = padded-taken es y (needs .few) odd hy
 
-    pub first-needs : (2 ≤ y) × (y ≤ 15) × (start + y ≤ 8 * length frame + 1) × (length frame ≤ 7680)
+    pub first-needs : (2 ≤ y) × (y ≤ 15) × (start + y ≤ 8 * length frame + 1) × (length frame ≤ mostBytes)
     first-needs =
         let a = needs .wide 0 (omega (arith, needs .few)) in
         let t = taken-first in

@@ -12,13 +12,14 @@ use lib.Seq.{drop-cons}
 use denote.Ref.{now}
 use Rattle.tables.specs.Checks.{trues}
 use Rattle.tables.proofs.lists.count_marks.Statement.{statement}
+use Rattle.g9932.specs.Sizes.{mostTones}
 use Rattle.tables.proofs.lists.count_marks.Tie as tie
 
 abbrev Inv-loop : tie.InvT-loop
-Inv-loop seen n₀ i₀ n i = (i ≤ 4096) × (n + trues (drop i seen) ≡ trues seen) × (n ≤ i)
+Inv-loop seen n₀ i₀ n i = (i ≤ mostTones) × (n + trues (drop i seen) ≡ trues seen) × (n ≤ i)
 
 abbrev μ-loop : tie.MeasureT-loop
-μ-loop seen n₀ i₀ n i = 4096 - i
+μ-loop seen n₀ i₀ n i = mostTones - i
 
 loop-holds : tie.Need-loop-holds Inv-loop μ-loop
 loop-holds c = omega arith

@@ -7,6 +7,7 @@ use mathlib.Core.Bool.{false}
 use Prim.Native.Nat.{ℕ, _-_, _<_, _≤_}
 use lib.ListN.{length, getD, take, length-set, length-replicate}
 use denote.Ref.{now}
+use Rattle.g9932.specs.Sizes.{mostTones}
 use Rattle.g9932.specs.Bits.{first}
 use Rattle.g9932.specs.Refusals.{member, twiceTest}
 use Rattle.g9932.specs.declared.Found.the-variants.{Nothing}
@@ -17,13 +18,13 @@ use Rattle.tables.proofs.lists.first_repeat.Statement.{statement}
 use Rattle.tables.proofs.lists.first_repeat.Tie as tie
 
 abbrev Inv-loop : tie.InvT-loop
-Inv-loop tones seen₀ i₀ seen i = (i ≤ length tones) × (first (twiceTest tones) i ≡ Nothing) × (length seen ≡ 4096) × Marks (take i tones) seen
+Inv-loop tones seen₀ i₀ seen i = (i ≤ length tones) × (first (twiceTest tones) i ≡ Nothing) × (length seen ≡ mostTones) × Marks (take i tones) seen
 
 abbrev μ-loop : tie.MeasureT-loop
 μ-loop tones seen₀ i₀ seen i = length tones - i
 
 -- the entry at place i has a mark's index,
-below : (c : tie.After-tone-at Inv-loop μ-loop) → c .tone-at .result .0 < 4096
+below : (c : tie.After-tone-at Inv-loop μ-loop) → c .tone-at .result .0 < mostTones
 below c = omega (arith, c .tone-at .ensures, c .before .before .before .before .pre .1 (c .before .before .loop .i) (omega arith))
 
 -- and its mark tells whether 3 applies to it
@@ -35,7 +36,7 @@ marked c =
     ap (λ (x : ℕ). member x (take (l .i) (now (c .before .before .before .before .args .tones)))) (sym (k .ensures)) ∙ sym (l .inv .3 (k .result .0) (below c))
 
 loop-holds : tie.Need-loop-holds Inv-loop μ-loop
-loop-holds c = (omega arith, first-none _, ap length (c .before .pre .0) ∙ length-replicate 4096 false, marks-none (now (c .before .args .tones)) (c .before .pre .0))
+loop-holds c = (omega arith, first-none _, ap length (c .before .pre .0) ∙ length-replicate mostTones false, marks-none (now (c .before .args .tones)) (c .before .pre .0))
 
 tone-at-requires : tie.Need-tone-at-requires Inv-loop μ-loop
 tone-at-requires c κs = search needs
