@@ -1,14 +1,13 @@
 -- What stands in the two arrays for t' and b', and what the functions that write them ask.
-use Prim.Native.Nat.{ℕ, _+_, _-_, _%_, _<_, _≤_}
-use mathlib.Core.Bool.{false}
+use Prim.Native.Nat.{ℕ, _+_, _-_, _%_, _≤_}
 use mathlib.Core.List.{List}
 use mathlib.Core.Path.{_≡_}
 use lib.Dec.{leb}
 use lib.ListN.{length, take}
 use lib.Seq.{sets}
-use Rattle.g9932.specs.Sizes.{Tables, entry, mostTones}
-use Rattle.g9932.specs.Refusals.{Verdict, member, twiceTest, tableVerdict}
-use Rattle.g9932.specs.Order.{sum, filter, bitsOf, singles, others, loaded, ones, reorderedTones, entryCount, reorderedBits}
+use Rattle.g9932.specs.Sizes.{Tables, mostTones}
+use Rattle.g9932.specs.Refusals.{Verdict, tableVerdict}
+use Rattle.g9932.specs.Order.{filter, bitsOf, others, ones, reorderedTones, entryCount, reorderedBits}
 use Rattle.g9932.specs.Answers.{verdictOf, onDone, roomVerdict}
 use Rattle.g9932.specs.declared.Mode.{Mode}
 use Rattle.g9932.specs.declared.Checked.{Checked}

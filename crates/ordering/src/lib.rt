@@ -2,7 +2,6 @@
 use g9932::Checked;
 use g9932::Mode;
 use g9932::Refusal;
-use order::copy_bits;
 use order::copy_tones;
 use order::order_coded;
 use order::order_uncoded;
@@ -16,7 +15,7 @@ ghost use Rattle.g9932.specs.Answers.{verdictOf, Reorders};
 ghost use Rattle.tables.specs.Counted.{Medley};
 ghost use Rattle.ordering.specs.Ordered.{OrderedBy, Ordered, Arrays, OrderNeeds, CopiesOut};
 
-pub mod order; // refusals 7 to 9, t' and b'
+mod order; // refusals 7 to 9, t' and b'
 
 // Checks the tables and tells L: refusals 1 to 9.
 pub fn check_tables(mode: Mode, bits: &[u8], gains: &[u16], tones: &[u16]) -> Checked
@@ -36,7 +35,7 @@ pub fn check_tables(mode: Mode, bits: &[u8], gains: &[u16], tones: &[u16]) -> Ch
 
 // Refusals 1 to 9. Where nothing is refused, t' and b' stand in the first NSC entries of two lent arrays of 4,096.
 // Only proved code calls it, and shows their lengths.
-pub fn order_tables(
+fn order_tables(
     mode: Mode,
     bits: &[u8],
     gains: &[u16],
@@ -126,6 +125,6 @@ fn copy_out(
         return Checked::Refused(Refusal::Room);
     }
     copy_tones(reordered_tones, tones_out);
-    copy_bits(reordered_bits, bits_out);
+    frame::copy(reordered_bits, bits_out);
     Checked::Accepted(l)
 }

@@ -187,7 +187,7 @@ fn holds_any_one(reordered_bits: &[u8], from: usize, n: usize) -> bool
 
 // 9 PAIR: the first pair, of the n entries of b' from `from` on, that holds an entry of 1. Where no entry is 1 there is none to
 // look for.
-pub fn first_pair(reordered_bits: &[u8], from: usize, n: usize) -> Found
+fn first_pair(reordered_bits: &[u8], from: usize, n: usize) -> Found
     requires { ⌜ from + n ≤ length (now «reordered_bits») ⌝ }
     ensures { λ r. ⌜ r ≡ first (pairTest (pairsOf (take n (drop from (now («reordered_bits» .entry)))))) (length (pairsOf (take n (drop from (now («reordered_bits» .entry)))))) ⌝ }
 {
@@ -241,18 +241,6 @@ pub fn copy_tones(reordered_tones: &[u16], out: &mut [u16])
     let mut i = 0;
     while i < out.len() {
         out[i] = reordered_tones[i];
-        i += 1;
-    }
-}
-
-// Copies b' out of its array, as many entries as `out` has.
-pub fn copy_bits(reordered_bits: &[u8], out: &mut [u8])
-    requires { ⌜ length (now out) ≤ length (now «reordered_bits») ⌝ }
-    ensures { λ _. ⌜ now (out .exit) ≡ take (length (now (out .entry))) (now («reordered_bits» .entry)) ⌝ }
-{
-    let mut i = 0;
-    while i < out.len() {
-        out[i] = reordered_bits[i];
         i += 1;
     }
 }

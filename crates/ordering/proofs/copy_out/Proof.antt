@@ -14,8 +14,8 @@ returns-2 c = room-refused _ _ _ _ (simp (eq-eqb _ _ (c .before .if1 .left), ne-
 copy-tones-requires : tie.Need-copy-tones-requires
 copy-tones-requires c κs = search needs
 
-copy-bits-requires : tie.Need-copy-bits-requires
-copy-bits-requires c κs = search needs
+copy-requires : tie.Need-copy-requires
+copy-requires c κs = search needs
 
 same-length : tie.Need-same-length
 same-length c = search needs
@@ -24,7 +24,7 @@ same-length-2 : tie.Need-same-length-2
 same-length-2 c = search needs
 
 returns-3 : tie.Need-returns-3
-returns-3 c = copied-out _ _ _ _ (c .before .before .before .before .before .before .before .before .before .if1 .left) (c .before .before .before .before .before .before .before .before .if2 .left) (c .before .before .before .before .before .before .copy-tones .ensures) (c .before .before .copy-bits .ensures)
+returns-3 c = copied-out _ _ _ _ (c .before .before .before .before .before .before .before .before .before .if1 .left) (c .before .before .before .before .before .before .before .before .if2 .left) (c .before .before .before .before .before .before .copy-tones .ensures) (c .before .before .copy .ensures)
 
 pub copy-out-spec : {M : Type 1} → statement M
 copy-out-spec =
@@ -33,7 +33,7 @@ copy-out-spec =
     returns
     returns-2
     copy-tones-requires
-    copy-bits-requires
+    copy-requires
     same-length
     same-length-2
     returns-3)

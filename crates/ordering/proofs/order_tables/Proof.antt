@@ -1,6 +1,6 @@
 -- `ordering::order_tables` meets its contract: refusals 1 to 6, and then those of the mode.
-use native.Mathlib.Omega.{arith}
 use mathlib.Core.Path.{sym, ap, _∙_}
+use native.Mathlib.Omega.{arith}
 use Rattle.g9932.specs.Answers.{verdictOf}
 use Rattle.tables.proofs.Answers.{lists-fit, lists-medley, lists-refused}
 use Rattle.ordering.proofs.Answers.{ordered-refused, lists-accepted}

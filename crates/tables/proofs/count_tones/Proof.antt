@@ -1,17 +1,16 @@
 -- `tables::count_tones` meets its contract. The invariant: each count so far with that of the bit table from i on is that of
 -- all of it, and no sum is above what i entries can give. The measure is what is left.
-use borrow.Author.Needs.{needs}
-use native.Mathlib.Omega.{arith}
 use mathlib.Core.Path.{_≡_, refl, ap}
 use Prim.Native.Nat.{_+_, _*_, _-_, _≤_}
+use native.Mathlib.Omega.{arith}
 use lib.Dec.{ltb}
 use lib.ListN.{length, drop, drop-of-length-le}
 use denote.Ref.{now}
 use Rattle.g9932.specs.Sizes.{entry}
 use Rattle.g9932.specs.Order.{sum, count, isOne}
 use Rattle.g9932.proofs.Members.{sum-members}
-use Rattle.tables.proofs.Counting.{count-table}
-use Rattle.tables.proofs.Counting.{drop-some}
+use Rattle.tables.proofs.Counting.{count-table, drop-some}
+use borrow.Author.Needs.{needs}
 use Rattle.tables.proofs.count_tones.Statement.{statement}
 use Rattle.tables.proofs.count_tones.Tie as tie
 

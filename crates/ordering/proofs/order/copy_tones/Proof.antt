@@ -1,12 +1,12 @@
 -- `ordering::order::copy_tones` meets its contract. The invariant: the first i entries are copied. The measure is what is left of
 -- `out`.
-use borrow.Author.Needs.{needs}
-use native.Mathlib.Omega.{arith}
 use mathlib.Core.Path.{_≡_, refl}
 use Prim.Native.Nat.{_-_, _≤_}
+use native.Mathlib.Omega.{arith}
 use denote.Ref.{now}
 use lib.ListN.{length, take, length-set}
 use Rattle.ordering.proofs.Runs.{copy-more, copy-end}
+use borrow.Author.Needs.{needs}
 use Rattle.ordering.proofs.order.copy_tones.Statement.{statement}
 use Rattle.ordering.proofs.order.copy_tones.Tie as tie
 

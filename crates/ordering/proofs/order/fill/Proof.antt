@@ -1,12 +1,12 @@
 -- `ordering::order::fill` meets its contract. The invariant: writing what is left from here gives what the whole gives from the
 -- start. The measure is what is left.
-use borrow.Author.Needs.{needs}
-use native.Mathlib.Omega.{arith}
 use mathlib.Core.Path.{_≡_, refl, ap}
 use Prim.Native.Nat.{ℕ, _+_}
+use native.Mathlib.Omega.{arith}
 use lib.ListN.{length, replicate, length-set}
 use lib.Seq.{sets}
 use Rattle.ordering.proofs.Runs.{sets-step, sets-done, replicate-some}
+use borrow.Author.Needs.{needs}
 use Rattle.ordering.proofs.order.fill.Statement.{statement}
 use Rattle.ordering.proofs.order.fill.Tie as tie
 

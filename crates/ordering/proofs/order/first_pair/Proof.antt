@@ -1,9 +1,8 @@
 -- `ordering::order::first_pair` meets its contract. The invariant: no pair before k holds an entry of 1. The measure is the pairs
 -- left.
-use borrow.Author.Needs.{needs}
-use native.Mathlib.Omega.{arith}
 use mathlib.Core.Path.{_≡_, _∙_, sym}
 use Prim.Native.Nat.{_+_, _-_, _/_, _≤_}
+use native.Mathlib.Omega.{arith}
 use denote.Ref.{now}
 use borrow.Author.Tests.{not-true}
 use Rattle.g9932.specs.Bits.{first}
@@ -12,6 +11,7 @@ use Rattle.g9932.specs.Order.{pairsOf}
 use Rattle.g9932.specs.declared.Found.the-variants.{Nothing}
 use Rattle.g9932.proofs.Search.{first-none, first-more, first-at, first-end}
 use Rattle.ordering.proofs.Pairs.{part, length-pairs, pair-test, none-paired}
+use borrow.Author.Needs.{needs}
 use Rattle.ordering.proofs.order.first_pair.Statement.{statement}
 use Rattle.ordering.proofs.order.first_pair.Tie as tie
 

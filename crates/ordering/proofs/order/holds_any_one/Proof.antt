@@ -1,15 +1,15 @@
 -- `ordering::order::holds_any_one` meets its contract. The invariant: `any` tells of the entries before k. The measure is what is
 -- left.
-use borrow.Author.Needs.{needs}
-use native.Mathlib.Omega.{arith}
 use mathlib.Core.Path.{_≡_, sym, ap}
 use Prim.Native.Nat.{_-_, _≤_}
+use native.Mathlib.Omega.{arith}
 use lib.ListN.{getD}
 use denote.Ref.{now}
 use Rattle.g9932.specs.Order.{isOne}
 use Rattle.tables.specs.Checks.{anyBelow}
 use Rattle.ordering.proofs.Pairs.{part, part-at}
 use Rattle.tables.proofs.Scans.{any-none, any-more, any-end}
+use borrow.Author.Needs.{needs}
 use Rattle.ordering.proofs.order.holds_any_one.Statement.{statement}
 use Rattle.ordering.proofs.order.holds_any_one.Tie as tie
 

@@ -1,10 +1,10 @@
 -- `ordering::order::order_coded` meets its contract: each return follows the chain of refusals 7 to 9, whose tests are those of the
 -- counts and of the entries that were written.
+use Prim.Native.Nat.{_+_, _-_, _/_, _≤_}
+use mathlib.Core.Path.{_≡_, refl, sym, ap, _∙_}
 use native.Mathlib.Omega.{arith}
 use denote.Ref.{now}
-use Prim.Native.Nat.{_+_, _-_, _/_, _≤_}
 use lib.ListN.{length}
-use mathlib.Core.Path.{_≡_, refl, sym, ap, _∙_}
 use Rattle.g9932.specs.Order.{entries}
 use Rattle.g9932.specs.declared.Refusal.the-variants.{Odd, Few, Pair}
 use Rattle.tables.proofs.Modes.{pairIn, coded-odd, coded-even, coded-count, half-loaded, coded-within, coded-few, coded-pair, coded-done, coded-room}

@@ -1,10 +1,9 @@
 -- `ordering::order::order_uncoded` meets its contract. The invariant: writing what is left of t and of its bits gives what the
 -- whole gives, and the sum so far with the bits left is the sum of all. The measure is what is left of t.
-use borrow.Author.Needs.{needs}
-use native.Mathlib.Omega.{arith}
 use mathlib.Core.Path.{_≡_, refl, sym, ap, _∙_}
 use mathlib.Core.List.{List}
 use Prim.Native.Nat.{ℕ, _+_, _*_, _-_, _≤_}
+use native.Mathlib.Omega.{arith}
 use denote.Ref.{now}
 use lib.ListN.{length, take, drop, length-set, length-map, drop-of-length-le}
 use lib.Seq.{sets}
@@ -14,6 +13,7 @@ use Rattle.ordering.proofs.Runs.{sets-step, take-sets}
 use Rattle.tables.proofs.Counting.{tones-next}
 use Rattle.ordering.proofs.Placing.{bits-next}
 use Rattle.tables.proofs.Modes.{uncoded-verdict}
+use borrow.Author.Needs.{needs}
 use Rattle.ordering.proofs.order.order_uncoded.Statement.{statement}
 use Rattle.ordering.proofs.order.order_uncoded.Tie as tie
 

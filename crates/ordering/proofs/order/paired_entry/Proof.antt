@@ -1,9 +1,9 @@
 -- `ordering::order::paired_entry` meets its contract: past the 0 in front, entry j stands one place before.
-use denote.Ref.{now}
-use Rattle.ordering.proofs.Pairs.{padded, front-zero, front-odd, front-even}
 use mathlib.Core.Path.{_∙_, ap, sym}
 use Prim.Native.Nat.{ℕ}
+use denote.Ref.{now}
 use lib.ListN.{getD}
+use Rattle.ordering.proofs.Pairs.{padded, front-zero, front-odd, front-even}
 use borrow.Author.Needs.{needs}
 use Rattle.ordering.proofs.order.paired_entry.Statement.{statement}
 use Rattle.ordering.proofs.order.paired_entry.Tie as tie

@@ -1,8 +1,8 @@
 -- `tables::lists::check_indices` meets its contract: each return follows the chain of refusals 4 to 6 to the one that it makes.
 use mathlib.Core.Path.{refl, sym, _∙_}
 use borrow.Author.Tests.{not-true}
-use Rattle.tables.proofs.Faults.{indices-passed}
 use denote.Ref.{now}
+use Rattle.tables.proofs.Faults.{indices-passed}
 use Rattle.g9932.proofs.Verdicts.{found-here, found-past}
 use borrow.Author.Needs.{needs}
 use Rattle.tables.proofs.lists.check_indices.Statement.{statement}

@@ -1,10 +1,9 @@
 -- `tables::lists::first_repeat` meets its contract. The invariant: 3 applies to no place before i, and the entries before i are
 -- marked. The measure is what is left of t.
-use borrow.Author.Needs.{needs}
-use native.Mathlib.Omega.{arith}
 use mathlib.Core.Path.{_≡_, _∙_, ap, sym}
 use mathlib.Core.Bool.{false}
 use Prim.Native.Nat.{ℕ, _-_, _<_, _≤_}
+use native.Mathlib.Omega.{arith}
 use lib.ListN.{length, getD, take, length-set, length-replicate}
 use denote.Ref.{now}
 use Rattle.g9932.specs.Sizes.{mostTones}
@@ -14,6 +13,7 @@ use Rattle.g9932.specs.declared.Found.the-variants.{Nothing}
 use Rattle.g9932.proofs.Search.{first-none, first-more, first-at, first-end}
 use Rattle.tables.specs.Checks.{Marks}
 use Rattle.tables.proofs.Marks.{marks-none, marks-more}
+use borrow.Author.Needs.{needs}
 use Rattle.tables.proofs.lists.first_repeat.Statement.{statement}
 use Rattle.tables.proofs.lists.first_repeat.Tie as tie
 
