@@ -111,7 +111,7 @@ pub extern "C" fn clevisroot_check(
 ) -> SymbolAnswer
     ensures { λ r. ⌜ r ≡ answerOf (tableVerdict (tables (modeOf coded) (now (bits .entry)) (now (gains .entry)) (now (tones .entry)))) 0 ⌝ }
 {
-    checked(tables::check_tables(mode_of(coded), bits, gains, tones))
+    checked(ordering::check_tables(mode_of(coded), bits, gains, tones))
 }
 
 #[no_mangle]
@@ -125,7 +125,7 @@ pub extern "C" fn clevisroot_reorder(
 ) -> SymbolAnswer
     ensures { λ r. ⌜ Reordering (tables (modeOf coded) (now (bits .entry)) (now (gains .entry)) (now (tones .entry))) (now (order .entry)) (now (entries .entry)) r (now (order .exit)) (now (entries .exit)) ⌝ }
 {
-    checked(tables::reorder(mode_of(coded), bits, gains, tones, order, entries))
+    checked(ordering::reorder(mode_of(coded), bits, gains, tones, order, entries))
 }
 
 #[no_mangle]

@@ -12,12 +12,12 @@ use Rattle.g9932.specs.Bits.{bits, num, first}
 use Rattle.g9932.specs.Points.{labelOf, samePoint}
 use Rattle.g9932.specs.Sizes.{Point, point, origin}
 use Rattle.constellation.specs.Widened.{pairs, signWeight, interleaved}
-use Rattle.constellation.specs.Reading.{SoughtIs, Steps, Narrowed, topSix, inGrid}
+use Rattle.constellation.specs.Reading.{FoundLabelIs, Steps, Narrowed, topSix, inGrid}
 use Rattle.constellation.specs.Layouts.{layoutOf, ToneLayout, carries, nothing}
 use Rattle.constellation.specs.DemapByLayout.{Power, IsLayout, OnAxis, WordUp, TopsBy, LabelDown, Demaps}
 use Rattle.constellation.proofs.Grid.{bit-rule, six-few}
 use Rattle.constellation.proofs.Mapping.{rule}
-use Rattle.constellation.proofs.Reading.{test, sought-law}
+use Rattle.constellation.proofs.Reading.{test, found-label-law}
 use Rattle.constellation.proofs.Tops.{narrowed-top}
 
 -- ---- up and down
@@ -68,7 +68,7 @@ product-le m t w p h = mul-le-mul {n₂ = 65535} {m₂ = 32768} (omega arith) (o
 -- ---- what a layout holds
 
 pub record Holds (b : ℕ) : Type 0 where
-  pub above : layoutOf b / 256 % 128 ≡ 2 ^ pairs b
+  above : layoutOf b / 256 % 128 ≡ 2 ^ pairs b
   pub below : layoutOf b % 128 ≡ 2 ^ (6 - pairs b)
   pub one : eqb (layoutOf b / 32768) 1 ≡ ltb b 2
   pub silent : eqb (bitAnd (layoutOf b / 32768) (layoutOf b / 128 % 2)) 1 ≡ false
@@ -116,7 +116,7 @@ module _ (layout : ℕ) (x y : ℤ) (ex ey w t l : ℕ) (ox oy on origin-is : Bo
   onIt = (silence && origin-is) || (not silence && (on && (ox && oy)))
 
   by-bits : (r b : ℕ) → 1 ≤ b → b ≤ 15 → layout ≡ layoutOf b → r ≡ cond (eqb (layout / 32768) 1) (l % 2) l
-      → SoughtIs (record { found = onIt; label = r }) (labelOf b (point x y))
+      → FoundLabelIs (record { found = onIt; label = r }) (labelOf b (point x y))
   unfolding test
   by-bits r b low high e own =
       let k = pairs b in
@@ -137,12 +137,12 @@ module _ (layout : ℕ) (x y : ℤ) (ex ey w t l : ℕ) (ox oy on origin-is : Bo
       let tx : ox ≡ eqb (2 * (ax .steps / 2 % signWeight k) + 65536) (ax .steps) = ax .onIs ∙ ap (λ (i : ℕ). eqb (2 * i + 65536) (ax .steps)) fx in
       let ty : oy ≡ eqb (2 * (ay .steps / 2 % signWeight k) + 65536) (ay .steps) = ay .onIs ∙ ap (λ (i : ℕ). eqb (2 * i + 65536) (ay .steps)) fy in
       let quiet : silence ≡ false = rw e (f .silent) in
-      sought-law b x y (ax .steps) (ay .steps) v l low high sx sy (ap₂ (λ (i j : ℕ). num (interleaved (bits 8 i) (bits 8 j))) fx fy) back onIt r
+      found-label-law b x y (ax .steps) (ay .steps) v l low high sx sy (ap₂ (λ (i j : ℕ). num (interleaved (bits 8 i) (bits 8 j))) fx fy) back onIt r
       (rw quiet (ap₂ _&&_ g (ap₂ _&&_ tx ty)))
       (own ∙ ap (λ (i : Bool). cond i (l % 2) l) (ap (λ (s : ℕ). eqb (s / 32768) 1) e ∙ f .one))
 
-  pub seen-law : (r : ℕ) → r ≡ cond (eqb (layout / 32768) 1) (l % 2) l → Demaps layout (point x y) (record { on = onIt; label = r })
-  seen-law r own = record { sought = λ b low high e. by-bits r b low high e own; silent = λ e. rw e (or-none origin-is ∙ o) }
+  pub demaps-law : (r : ℕ) → r ≡ cond (eqb (layout / 32768) 1) (l % 2) l → Demaps layout (point x y) (record { on = onIt; label = r })
+  demaps-law r own = record { sought = λ b low high e. by-bits r b low high e own; silent = λ e. rw e (or-none origin-is ∙ o) }
     where
       or-none : (a : Bool) → a || false ≡ a
       or-none true = refl

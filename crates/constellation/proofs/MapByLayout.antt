@@ -45,7 +45,7 @@ pub bits-256 : (w : ℕ) → yBits w < 256
 bits-256 w = evens-lt 8 16 w (omega arith)
 
 -- the bits of X are those of Y in half the word
-pub x-bits : (w : ℕ) → w < 65536 → yBits (w / 2) ≡ xBits w
+x-bits : (w : ℕ) → w < 65536 → yBits (w / 2) ≡ xBits w
 x-bits w h = rw (odds-evens 15 w) (evens-more 15 (w / 2) (omega arith))
 
 -- two bits fewer of a word are one bit fewer of each half
@@ -67,13 +67,13 @@ fewer (suc j) w h =
     let m : 1 + j ≡ suc j = omega arith in
     rw (← n, ← (shr-shr w 2 (2 * j)), ← m, ← (shr-shr (yBits w) 1 j), ← (fewer-two w h)) (fewer j (w / 4) (omega arith))
 
-pub fewer-y : (k w : ℕ) → k ≤ 6 → w < 65536 → yBits (w / 2 ^ (12 - 2 * k)) ≡ yBits w * 2 ^ k / 64
+fewer-y : (k w : ℕ) → k ≤ 6 → w < 65536 → yBits (w / 2 ^ (12 - 2 * k)) ≡ yBits w * 2 ^ k / 64
 fewer-y k w h s =
     let n : 12 - 2 * k ≡ 2 * (6 - k) = omega arith in
     let m : k + (6 - k) ≡ 6 = omega arith in
     rw n (fewer (6 - k) w s ∙ ap (λ (e : ℕ). e / 2 ^ (6 - k)) (sym (shl-shr (yBits w) k)) ∙ rw m at (shr-shr (yBits w * 2 ^ k) k (6 - k)))
 
-pub fewer-x : (k w : ℕ) → k ≤ 6 → w < 65536 → xBits (w / 2 ^ (12 - 2 * k)) ≡ xBits w * 2 ^ k / 64
+fewer-x : (k w : ℕ) → k ≤ 6 → w < 65536 → xBits (w / 2 ^ (12 - 2 * k)) ≡ xBits w * 2 ^ k / 64
 fewer-x k w h s =
     let p = 12 - 2 * k in
     let e : w / 2 ^ p / 2 ≡ w / 2 / 2 ^ p = shr-shr w p 1 ∙ ap (λ (n : ℕ). w / 2 ^ n) (add-comm p 1) ∙ sym (shr-shr w 1 p) in
@@ -115,7 +115,7 @@ module _ (k l : ℕ) (h : k ≤ 6) where
   twelve : 2 * k + p ≡ 12
   twelve = omega arith
 
-  pub lifted-lt : l < 2 ^ (2 * k + 3) → liftedLabel (2 ^ p) l < 65536
+  lifted-lt : l < 2 ^ (2 * k + 3) → liftedLabel (2 ^ p) l < 65536
   lifted-lt s =
       let n : 2 * k + 3 + suc p ≡ 16 = omega arith in
       let e : 2 ^ (2 * k + 3) * 2 ^ suc p ≡ 65536 = sym (pow-add 2 (2 * k + 3) (suc p)) ∙ ap (λ (m : ℕ). 2 ^ m) n in
@@ -128,7 +128,7 @@ module _ (k l : ℕ) (h : k ≤ 6) where
       rw (twelve, e) at (field (liftedLabel (2 ^ p) l / 2) (2 * k) p)
 
   -- the word of the label stands at the top
-  pub spread-high : spreadWord (liftedLabel (2 ^ p) l) / 2 ^ p ≡ widened k l
+  spread-high : spreadWord (liftedLabel (2 ^ p) l) / 2 ^ p ≡ widened k l
   unfolding widened
   spread-high =
       let t = topFour (topFive k l) in

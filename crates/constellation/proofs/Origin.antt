@@ -9,10 +9,10 @@ use Rattle.g9932.proofs.Constellations.{samePoint-self, samePoint→eq}
 use Rattle.g9932.specs.Points.{samePoint}
 use Rattle.g9932.specs.Sizes.{Point, point, origin}
 
-pub zero-bits : (x : ℤ) → SFits w16 x → ofZ w16 x ≡ 0 → x ≡ pos 0
+zero-bits : (x : ℤ) → SFits w16 x → ofZ w16 x ≡ 0 → x ≡ pos 0
 zero-bits x h e = sym (toZ-ofZ w16 x h) ∙ ap (toZ w16) e
 
-pub differs : (p q : Point) → (p ≡ q → ⊥) → samePoint p q ≡ false
+differs : (p q : Point) → (p ≡ q → ⊥) → samePoint p q ≡ false
 differs p q h = go (samePoint p q) refl
   where
     go : (c : Bool) → samePoint p q ≡ c → samePoint p q ≡ false

@@ -17,7 +17,7 @@ use Rattle.g9932.specs.Answers.{labelFound, toneDone, toneRefused}
 use Rattle.g9932.proofs.Words.{bits-num, num-bits, num-lt, length-bits, weight-le}
 use Rattle.g9932.proofs.Labels.{label-point, label-back}
 use Rattle.constellation.specs.Widened.{pairs, mappingLabel, wordOf, xBits, yBits, interleaved, signWeight, axis}
-use Rattle.constellation.specs.Reading.{SoughtIs, Steps, Narrowed, ownLabel, topSix, inGrid}
+use Rattle.constellation.specs.Reading.{FoundLabelIs, Steps, Narrowed, ownLabel, topSix, inGrid}
 use Rattle.constellation.proofs.Grid.{grid-word, word-grid}
 use Rattle.constellation.proofs.Halves.{interleaved-apart, deinterleave-interleaved}
 use Rattle.constellation.proofs.Mapping.{point-word}
@@ -116,8 +116,8 @@ module _ (b : ℕ) (x y : ℤ) (u v w n : ℕ) (low : 1 ≤ b) (high : b ≤ 15)
       let ty = eq-eqb (2 * (v / 2 % h) + 65536) v (rw fy (sym gy)) in
       (rw (g, tx, ty), fl)
 
-  pub sought-law : (f : Bool) (l : ℕ) → f ≡ test → l ≡ ownLabel b n → SoughtIs (record { found = f; label = l }) (labelOf b (point x y))
-  sought-law f l g e = record { found = g ∙ go test (isLabel (labelOf b (point x y))) refl refl; label = λ i. e ∙ found i .1 }
+  pub found-label-law : (f : Bool) (l : ℕ) → f ≡ test → l ≡ ownLabel b n → FoundLabelIs (record { found = f; label = l }) (labelOf b (point x y))
+  found-label-law f l g e = record { found = g ∙ go test (isLabel (labelOf b (point x y))) refl refl; label = λ i. e ∙ found i .1 }
     where
       go : (t i : Bool) → test ≡ t → isLabel (labelOf b (point x y)) ≡ i → test ≡ isLabel (labelOf b (point x y))
       go true i e f = e ∙ sym (ap isLabel (kept e))

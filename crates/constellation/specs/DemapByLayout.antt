@@ -9,7 +9,7 @@ use Rattle.g9932.specs.Bits.{bits, num}
 use Rattle.g9932.specs.Points.{labelOf, samePoint}
 use Rattle.g9932.specs.Sizes.{Point, origin}
 use Rattle.constellation.specs.Widened.{topFour, interleaved}
-use Rattle.constellation.specs.Reading.{SoughtIs, Steps, inGrid}
+use Rattle.constellation.specs.Reading.{FoundLabelIs, Steps, inGrid}
 use Rattle.constellation.specs.Layouts.{layoutOf, silentLayout}
 use Rattle.constellation.specs.declared.demap.PointLabel.{PointLabel}
 
@@ -51,5 +51,5 @@ LabelDown m three w l = (k v : ℕ) → k ≤ 6 → m ≡ 2 ^ k → w ≡ v * 2 
 
 -- the label of a point, by the layout of b bits; a silent tone's point is the origin
 pub record Demaps (layout : ℕ) (p : Point) (r : PointLabel) : Type 0 where
-  pub sought : (b : ℕ) → 1 ≤ b → b ≤ 15 → layout ≡ layoutOf b → SoughtIs (record { found = r .on; label = r .label }) (labelOf b p)
+  pub sought : (b : ℕ) → 1 ≤ b → b ≤ 15 → layout ≡ layoutOf b → FoundLabelIs (record { found = r .on; label = r .label }) (labelOf b p)
   pub silent : layout ≡ silentLayout → r .on ≡ samePoint p origin

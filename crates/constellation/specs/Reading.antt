@@ -11,10 +11,10 @@ use Rattle.g9932.specs.Points.{isLabel, labelBits}
 use Rattle.g9932.specs.declared.Found.{Found}
 use Rattle.g9932.specs.declared.Found.the-variants.{At, Nothing}
 use Rattle.constellation.specs.Widened.{axis, topFour, widened, wordOf}
-use Rattle.constellation.specs.declared.Sought.{Sought}
+use Rattle.constellation.specs.declared.FoundLabel.{FoundLabel}
 
 -- whether there is a label, and its number where there is one
-pub record SoughtIs (r : Sought) (o : Option (List Bool)) : Type 0 where
+pub record FoundLabelIs (r : FoundLabel) (o : Option (List Bool)) : Type 0 where
   pub found : r .found ≡ isLabel o
   pub label : isLabel o ≡ true → r .label ≡ num (labelBits o)
 

@@ -10,7 +10,7 @@ ghost use Rattle.g9932.specs.Sizes.{point};
 ghost use Rattle.g9932.specs.Points.{pointOf, labelOf};
 ghost use Rattle.g9932.specs.Answers.{mapLabel, readPoint, mappedOf, labelledOf};
 ghost use Rattle.constellation.specs.Widened.{pairs as pairsOf, mappingLabel, topFour, widened as widenedOf, xBits, yBits, interleaved, signWeight, axis as axisOf};
-ghost use Rattle.constellation.specs.Reading.{SoughtIs, Steps, Narrowed, ownLabel, topSix, inGrid};
+ghost use Rattle.constellation.specs.Reading.{FoundLabelIs, Steps, Narrowed, ownLabel, topSix, inGrid};
 ghost use Rattle.constellation.specs.Layouts.{layoutList};
 use g9932::Labelled;
 use g9932::Mapped;
@@ -68,7 +68,7 @@ pub struct Coordinates {
 }
 
 // The label of a point, where the constellation has the point.
-pub struct Sought {
+pub struct FoundLabel {
     pub found: bool,
     pub label: u32,
 }
@@ -233,9 +233,9 @@ fn in_grid(b: u32, six: u32) -> bool
 }
 
 // The label of a point, where the constellation has the point. Called by proved code only.
-pub fn label_of(b: u32, x: i16, y: i16) -> Sought
+pub fn label_of(b: u32, x: i16, y: i16) -> FoundLabel
     requires { ⌜ (1 ≤ b) × (b ≤ 15) ⌝ }
-    ensures { λ r. ⌜ SoughtIs r (labelOf b (point x y)) ⌝ }
+    ensures { λ r. ⌜ FoundLabelIs r (labelOf b (point x y)) ⌝ }
 {
     let k = pairs(b);
     let h = sign_weight(k);
@@ -247,7 +247,7 @@ pub fn label_of(b: u32, x: i16, y: i16) -> Sought
     let six = (4 * word) >> (2 * k);
     let label = own_label(b, narrowed(k, word, six));
     let found = in_grid(b, six) & ((2 * ex + 65536 == u) & (2 * ey + 65536 == v));
-    Sought { found, label }
+    FoundLabel { found, label }
 }
 
 // Reads one point: refusal 16 for its bits, then 13.

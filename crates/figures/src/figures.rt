@@ -25,7 +25,7 @@ pub enum Part {
 fn order(bits: &[u8], gains: &[u16], tones: &[u16]) {
     let mut order = [0u16; 6];
     let mut entries = [0u8; 6];
-    tables::reorder(Mode::Coded, bits, gains, tones, &mut order, &mut entries);
+    ordering::reorder(Mode::Coded, bits, gains, tones, &mut order, &mut entries);
     text(b"table A: tones");
     list16(&order);
     text(b"\ntable A: bits");

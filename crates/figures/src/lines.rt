@@ -16,7 +16,7 @@ const RESET: u32 = 8388607;
 
 // L, or the refusal of the tables.
 pub fn size(mode: Mode, bits: &[u8], gains: &[u16], tones: &[u16]) {
-    let checked = tables::check_tables(mode, bits, gains, tones);
+    let checked = ordering::check_tables(mode, bits, gains, tones);
     match checked {
         Checked::Accepted(l) => {
             text(b" L ");

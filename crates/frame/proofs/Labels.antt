@@ -14,7 +14,7 @@ use Rattle.g9932.specs.Sizes.{entry}
 use Rattle.frame.specs.Labels.{bitsOfLabels, Within, labelsAt, Rising, Placed}
 
 -- a label after the others
-pub labels-more : (es ls : List ℕ) (e l : ℕ) → length es ≡ length ls → bitsOfLabels (es ++ (e ∷ [])) (ls ++ (l ∷ [])) ≡ bitsOfLabels es ls ++ bits e l
+labels-more : (es ls : List ℕ) (e l : ℕ) → length es ≡ length ls → bitsOfLabels (es ++ (e ∷ [])) (ls ++ (l ∷ [])) ≡ bitsOfLabels es ls ++ bits e l
 labels-more [] [] e l h = append-nil (bits e l)
 labels-more [] (a ∷ ls) e l h = absurd (omega arith)
 labels-more (d ∷ es) [] e l h = absurd (omega arith)

@@ -8,14 +8,13 @@ use borrow.Author.Tests.{ltb-true, ltb-false, ne-eqb}
 use lib.Dec.{ltb}
 use lib.ListN.{length, getD, List·getD-eq-default}
 use Rattle.g9932.proofs.Counts.{every-at}
-use Rattle.g9932.proofs.Formed.{AllTwo}
+use Rattle.g9932.proofs.Formed.{AllTwo, pair-at, no-one-in-front}
 use Rattle.g9932.proofs.Reordering.{allTwo-entries}
 use Rattle.g9932.proofs.Search.{first-all}
 use Rattle.g9932.specs.Order.{isOne, zeroInFront, pairsOf, entries}
 use Rattle.g9932.specs.Refusals.{holdsOne, pairTest}
 use Rattle.g9932.specs.declared.Found.the-variants.{Nothing}
 use Rattle.tables.proofs.Modes.{pairIn}
-use Rattle.tables.proofs.Pairs.{pair-at, no-one-in-front}
 
 no-one : (es : List ℕ) → AllTwo es → (k : ℕ) → isOne (getD es k 0) ≡ false
 no-one es all k = go (ltb k (length es)) refl

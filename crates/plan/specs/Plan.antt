@@ -9,7 +9,7 @@ use Rattle.constellation.specs.Layouts.{classLayout}
 use Rattle.g9932.specs.Bits.{weight}
 use Rattle.g9932.specs.Order.{consIf, filter, ones}
 use Rattle.g9932.specs.Refusals.{numberOf, placeOf, Verdict, refused, accepted, tableVerdict, modeVerdict}
-use Rattle.g9932.specs.Sizes.{Tables, entry, toneOf}
+use Rattle.g9932.specs.Sizes.{Tables, entry, toneOf, mostTones}
 use Rattle.g9932.specs.Symbol.{load, isMonitored, classesOf}
 use Rattle.g9932.specs.declared.Class.{Class}
 use Rattle.g9932.specs.declared.Class.the-variants.{Data, Monitored, Silent}
@@ -109,14 +109,14 @@ pub record SizesFrame (m : Mode) (b t : List ℕ) (r : Sized) : Type 0 where
 
 -- the four lists, in arrays that hold any
 pub record Arrays (layouts entries places monitored : List ℕ) : Type 0 where
-  pub layoutsLength : length layouts ≡ 4096
-  pub entriesLength : length entries ≡ 4096
-  pub placesLength : length places ≡ 4096
-  pub monitoredLength : length monitored ≡ 4096
+  pub layoutsLength : length layouts ≡ mostTones
+  pub entriesLength : length entries ≡ mostTones
+  pub placesLength : length places ≡ mostTones
+  pub monitoredLength : length monitored ≡ mostTones
 
 pub record PlanNeeds (m : Mode) (one : ℕ) (b t layouts entries places monitored : List ℕ) : Type 0 where
   pub arrays : Arrays layouts entries places monitored
-  pub most : length t ≤ 4096
+  pub most : length t ≤ mostTones
   pub bitsMost : (k : ℕ) → entry b k ≤ 15
   pub onesIs : one ≡ sharing m b t
   pub even : one % 2 ≡ 0
@@ -161,16 +161,16 @@ pub record Filing (least : ℕ) (cs : List Class) (at : Cursors) (layouts entrie
 
 pub record FileNeeds (least : ℕ) (b t layouts entries places monitored : List ℕ) : Type 0 where
   pub arrays : Arrays layouts entries places monitored
-  pub most : length t ≤ 4096
+  pub most : length t ≤ mostTones
   pub bitsMost : (k : ℕ) → entry b k ≤ 15
   pub leastIs : 1 ≤ least
 
 -- entries that two tones share, behind the others
 pub record ShareNeeds (h from at : ℕ) (layouts entries places : List ℕ) : Type 0 where
-  pub layoutsLength : length layouts ≡ 4096
-  pub entriesLength : length entries ≡ 4096
-  pub placesLength : length places ≡ 4096
-  pub most : from + 2 * h ≤ 4096
+  pub layoutsLength : length layouts ≡ mostTones
+  pub entriesLength : length entries ≡ mostTones
+  pub placesLength : length places ≡ mostTones
+  pub most : from + 2 * h ≤ mostTones
   pub atMost : at ≤ from
 
 pub record Shares (one from h at : ℕ) (layouts entries places layoutsAfter entriesAfter placesAfter : List ℕ) : Type 0 where

@@ -3,12 +3,12 @@
 mod filing;
 
 ghost use mathlib.Core.Path.{_≡_};
-ghost use Rattle.g9932.specs.Sizes.{tables};
+ghost use Rattle.g9932.specs.Sizes.{tables, mostTones};
 ghost use Prim.Native.Nat.{_≤_};
 ghost use lib.ListN.{length};
 ghost use Rattle.plan.specs.Plan.{leastOwn, PlanIs, PlanNeeds, PlansBy, Plans, Arrays, SizesFrame};
 ghost use Rattle.g9932.specs.Refusals.{modeVerdict};
-ghost use Rattle.tables.specs.Ordered.{Medley};
+ghost use Rattle.tables.specs.Counted.{Medley};
 use g9932::Checked;
 use g9932::Mode;
 use g9932::Refusal;
@@ -89,7 +89,7 @@ fn size_frame(mode: Mode, bits: &[u8], tones: &[u16]) -> Sized
     requires { ⌜ Medley (now bits) (now tones) ⌝ }
     ensures { λ r. ⌜ SizesFrame mode (now (bits .entry)) (now (tones .entry)) r ⌝ }
 {
-    let c = tables::order::count_tones(bits, tones);
+    let c = tables::count_tones(bits, tones);
     match mode {
         Mode::Uncoded => Sized::Frame {
             size: c.sum,
@@ -123,7 +123,7 @@ fn plan_by(
     monitored: &mut [u16],
 ) -> Planned
     requires arrays { ⌜ Arrays (now layouts) (now entries) (now places) (now monitored) ⌝ }
-    requires medley { ⌜ Medley (now bits) (now tones) × (length (now tones) ≤ 4096) ⌝ }
+    requires medley { ⌜ Medley (now bits) (now tones) × (length (now tones) ≤ mostTones) ⌝ }
     ensures { λ r. ⌜ PlansBy (modeVerdict mode (now (bits .entry)) (now (tones .entry))) (tables mode (now (bits .entry)) (now (gains .entry)) (now (tones .entry))) r (now (layouts .exit)) (now (entries .exit)) (now (places .exit)) (now (monitored .exit)) ⌝ }
 {
     let s = size_frame(mode, bits, tones);

@@ -18,8 +18,8 @@ pub next-number : (r : ℕ) → nextRegister r ≡ r / 2 + 4194304 * ((r % 2 + r
 unfolding nextRegister
 next-number r = rw (weight-xor (odd r) (odd (r / 32)), weight-odd r, weight-odd (r / 32))
 
-pub feed-fits : (r : ℕ) → r < 4294967296 → r / 2 + 4194304 * ((r % 2 + r / 32 % 2) % 2) < 4294967296
-feed-fits r h = bounded (r / 2) ((r % 2 + r / 32 % 2) % 2) (omega arith) (omega arith)
+pub feed-fits : (r n : ℕ) → r < 4294967296 → r / 2 + 4194304 * (n % 2) < 4294967296
+feed-fits r n h = bounded (r / 2) (n % 2) (omega arith) (omega arith)
   where
     bounded : (a w : ℕ) → a < 2147483648 → w < 2 → a + 4194304 * w < 4294967296
     bounded a w ha hw = omega arith

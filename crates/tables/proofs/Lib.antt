@@ -1,9 +1,6 @@
 pub mod Scans
 pub mod Faults
 pub mod Marks
-pub mod Runs
-pub mod Counts
-pub mod Placing
-pub mod Pairs
+pub mod Counting
 pub mod Modes
 pub mod Answers

@@ -9,22 +9,21 @@ use native.Mathlib.Omega.{arith}
 use borrow.Author.Tests.{eqb-true, eqb-false, leb-false}
 use lib.Dec.{eqb}
 use lib.ListN.{length, getD, take, set, replicate, getD-replicate, length-set, length-replicate}
-use lib.Seq.{take-suc, take-all, getD-set-same, getD-set-other}
+use lib.Seq.{take-suc, getD-set-same, getD-set-other}
 use Rattle.g9932.specs.Bits.{weight, first}
-use Rattle.g9932.specs.Sizes.{entry}
+use Rattle.g9932.specs.Sizes.{entry, mostTones}
 use Rattle.g9932.specs.Refusals.{toneTest, member, twiceTest}
 use Rattle.g9932.specs.declared.Found.the-variants.{Nothing}
 use Rattle.g9932.proofs.Identities.{or-false as or-false-parts}
 use Rattle.g9932.proofs.Search.{first-no, first-all}
-use Rattle.tables.specs.Checks.{anyBelow, placeFault, Below, marked, trues, Marks}
-use Rattle.tables.proofs.Scans.{any-nothing}
+use Rattle.tables.specs.Checks.{Below, marked, trues, Marks}
 
 member-snoc : (k x : ℕ) (ys : List ℕ) → member k (ys ++ (x ∷ [])) ≡ member k ys || eqb k x
 member-snoc k x [] = or-false (eqb k x)
 member-snoc k x (y ∷ ys) = ap (λ (b : Bool). eqb k y || b) (member-snoc k x ys) ∙ sym (or-assoc (eqb k y) (member k ys) (eqb k x))
 
-pub marks-none : (t : List ℕ) {seen : List Bool} → seen ≡ replicate 4096 false → Marks (take 0 t) seen
-marks-none t e k h = ap (λ (l : List Bool). getD l k false) e ∙ getD-replicate 4096 k false false h
+pub marks-none : (t : List ℕ) {seen : List Bool} → seen ≡ replicate mostTones false → Marks (take 0 t) seen
+marks-none t e k h = ap (λ (l : List Bool). getD l k false) e ∙ getD-replicate mostTones k false false h
 
 -- one mark more
 set-mark : (seen : List Bool) (x k : ℕ) → x < length seen → getD (set seen x true) k false ≡ getD seen k false || eqb k x
@@ -35,13 +34,10 @@ set-mark seen x k l = go (eqb k x) refl
     go false q = getD-set-other seen x k true false (eqb-false k x q) ∙ sym (or-false (getD seen k false))
 
 module _ (t : List ℕ) (i : ℕ) (seen : List Bool) (m : Marks (take i t) seen) where
-  pub marks-more : {x : ℕ} → x ≡ entry t i → length seen ≡ 4096 → i < length t → x < 4096 → Marks (take (i + 1) t) (set seen x true)
+  pub marks-more : {x : ℕ} → x ≡ entry t i → length seen ≡ mostTones → i < length t → x < mostTones → Marks (take (i + 1) t) (set seen x true)
   marks-more {x} q n l b k h =
       let e : take (i + 1) t ≡ take i t ++ (x ∷ []) = rw (add-one, take-suc t i 0, q) in
       set-mark seen x k (omega arith) ∙ ap (λ (z : Bool). z || eqb k x) (m k h) ∙ sym (member-snoc k x (take i t)) ∙ sym (ap (member k) e)
-
-  pub marks-end : length t ≤ i → Marks t seen
-  marks-end l k h = m k h ∙ ap (member k) (take-all i t l)
 
 -- ---- a whole list of tones marked
 
@@ -111,35 +107,29 @@ fresh (x ∷ t) seen w e (suc k) h =
     let g = or-false-parts (getD seen (entry t k) false) (eqb (entry t k) x) (sym (set-mark seen x (entry t k) (w 0 (omega arith))) ∙ f .0) in
     (g .0, rw (g .1) (f .1))
 
--- from no mark, where 2 applies to no place
-module _ (t : List ℕ) (seen : List Bool) (none : seen ≡ replicate 4096 false) {g : ℕ} (top : g ≤ 4096) (tones : anyBelow (toneTest g t) (length t) ≡ false) where
-  tone-passed : (k : ℕ) → k < length t → toneTest g t k ≡ false
-  tone-passed = first-no (toneTest g t) (length t) (any-nothing (toneTest g t) (length t) tones)
+-- where 2 applies to no place, every tone is below 4,096
+pub tones-below : (t : List ℕ) {g : ℕ} → g ≤ mostTones → first (toneTest g t) (length t) ≡ Nothing → Below mostTones t
+tones-below t {g} top e k l = omega (arith, leb-false g (entry t k) (first-no (toneTest g t) (length t) e k l))
 
-  pub below-all : Below 4096 t
-  below-all k l = omega (arith, leb-false g (entry t k) (tone-passed k l))
-
-  whole : length seen ≡ 4096
-  whole = ap length none ∙ length-replicate 4096 false
+-- marking all of t, from no mark
+module _ (t : List ℕ) (seen : List Bool) (none : seen ≡ replicate mostTones false) (below : Below mostTones t) {after : List Bool} (m : after ≡ marked seen t) where
+  whole : length seen ≡ mostTones
+  whole = ap length none ∙ length-replicate mostTones false
 
   within : Below (length seen) t
-  within k l = omega (arith, below-all k l, whole)
+  within k l = omega (arith, below k l, whole)
 
-  -- marking all of t
-  module _ {after : List Bool} (m : after ≡ marked seen t) where
-    pub marked-whole : length after ≡ 4096
-    marked-whole = ap length m ∙ length-marked t seen ∙ whole
+  pub marked-whole : length after ≡ mostTones
+  marked-whole = ap length m ∙ length-marked t seen ∙ whole
 
-    pub marks-all : Marks t after
-    marks-all k h =
-        ap (λ (l : List Bool). getD l k false) m
-        ∙ marked-at t seen within k
-        ∙ ap (λ (z : Bool). z || member k t) (ap (λ (l : List Bool). getD l k false) none ∙ getD-replicate 4096 k false false h)
+  pub marks-all : Marks t after
+  marks-all k h =
+      ap (λ (l : List Bool). getD l k false) m
+      ∙ marked-at t seen within k
+      ∙ ap (λ (z : Bool). z || member k t) (ap (λ (l : List Bool). getD l k false) none ∙ getD-replicate mostTones k false false h)
 
-    -- and as many marks as tones say that 3 applies to no place
-    pub none-twice : trues after ≡ length t → Nothing ≡ first (placeFault g t) (length t)
-    none-twice e =
-        let n = ap trues none ∙ trues-none 4096 in
-        sym (first-all (placeFault g t) (length t) (λ k l.
-        let f = fresh t seen within (omega (arith, e, ap trues m)) k l in
-        rw (tone-passed k l) (f .1)))
+  -- as many marks as tones say that 3 applies to no place
+  pub none-twice : trues after ≡ length t → Nothing ≡ first (twiceTest t) (length t)
+  none-twice e =
+      let n = ap trues none ∙ trues-none mostTones in
+      sym (first-all (twiceTest t) (length t) (λ k l. fresh t seen within (omega (arith, e, ap trues m)) k l .1))

@@ -1,28 +1,25 @@
--- Laws of refusals 7 to 9: none applies uncoded; coded, the counts decide 7, 8 and L. And of t' and b' written in runs of stores.
+-- Laws of refusals 7 to 9: none applies uncoded; coded, the counts decide 7, 8 and L.
 use Prim.Native.Nat.{ℕ, _+_, _-_, _/_, _%_, _<_, _≤_}
 use mathlib.Core.Bool.{false}
-use mathlib.Core.List.{List, _++_}
+use mathlib.Core.List.{List}
 use mathlib.Core.Path.{_≡_, refl, sym, ap, _∙_}
 use native.Mathlib.Omega.{arith}
 use borrow.Author.Tests.{eq-eqb, ne-eqb, lt-ltb, le-ltb}
-use lib.Dec.{ltb, leb}
-use lib.ListN.{length, take, drop, replicate, length-replicate}
-use lib.Seq.{sets, take-add, drop-at, length-take-le}
+use lib.Dec.{ltb}
+use lib.ListN.{length, take}
 use Rattle.g9932.specs.Bits.{first}
 use Rattle.g9932.specs.Refusals.{Verdict, refused, accepted, refuseAt, pairTest, modeVerdict}
-use Rattle.g9932.specs.Order.{sum, count, isOne, bitsOf, oneBit, filter, singles, others, loaded, ones, entryCount, entries, pairsOf, reorderedTones, reorderedBits, codedPairs, frameSize}
+use Rattle.g9932.specs.Order.{sum, count, isOne, bitsOf, loaded, ones, entryCount, entries, pairsOf, reorderedBits, codedPairs, frameSize}
 use Rattle.g9932.specs.declared.Found.{Found}
 use Rattle.g9932.specs.declared.Found.the-variants.{At, Nothing}
 use Rattle.g9932.specs.declared.Mode.the-variants.{Uncoded, Coded}
-use Rattle.g9932.proofs.Counts.{length-parts}
 use Rattle.g9932.proofs.Formed.{isOne-even, formed-size, formed-pairsOf, length-pairsOf, total-pairsOf}
-use Rattle.g9932.proofs.Reordering.{entries-law, sum-entries, length-entries, allTwo-entries, nonzero-entries}
+use Rattle.g9932.proofs.Reordering.{sum-entries, length-entries, allTwo-entries, nonzero-entries}
 use Rattle.g9932.proofs.Search.{first-none}
 use Rattle.g9932.proofs.Verdicts.{test-here, test-past, found-here, found-past}
-use Rattle.tables.specs.declared.order.Counts.{Counts}
-use Rattle.tables.specs.Ordered.{CountsAre, CodedReady, Written}
-use Rattle.tables.proofs.Runs.{take-two, take-three}
-use Rattle.tables.proofs.Counts.{entries-fit}
+use Rattle.tables.specs.declared.Counts.{Counts}
+use Rattle.tables.specs.Counted.{CountsAre}
+use Rattle.tables.proofs.Counting.{entries-fit}
 
 pub uncoded-verdict : (b t : List ℕ) {l : ℕ} → l ≡ sum (bitsOf b t) → accepted l ≡ modeVerdict Uncoded b t
 unfolding modeVerdict codedPairs frameSize
@@ -87,36 +84,3 @@ module _ {b t : List ℕ} {c : Counts} (k : CountsAre c b t) where
           let s = sum-entries b t coded-even in
           let f = formed-size (pairsOf (entries b t)) (formed-pairsOf (entries b t) (allTwo-entries b t) (omega (arith, coded-count))) in
           omega (arith, coded-count, k .sumIs)
-
--- t' and b', written in runs
-module _ (b t : List ℕ) where
-  pub tones-written : (order : List ℕ) {after : List ℕ} {m : ℕ} → m ≡ length (others b t) → length t ≤ length order → after ≡ sets (sets order 0 (others b t)) m (singles b t)
-      → take (length t) after ≡ reorderedTones Coded b t
-  unfolding reorderedTones
-  tones-written order e room q =
-      ap (take (length t)) q ∙ take-two order (others b t) (singles b t) e (omega (arith, length-parts (oneBit b) t)) room
-
-  pub bits-written : (e0 : List ℕ) {e1 e2 e3 : List ℕ} {one zeros : ℕ} → CodedReady b t one zeros → length t ≤ length e0
-      → e1 ≡ sets e0 0 (replicate zeros 0) → e2 ≡ sets e1 zeros (filter (leb 2) (bitsOf b t)) → e3 ≡ sets e2 (length t - one / 2) (replicate (one / 2) 2)
-      → take (length t) e3 ≡ reorderedBits Coded b t
-  unfolding reorderedBits
-  bits-written e0 {one = one} {zeros = zeros} k room q1 q2 q3 =
-      let f = entries-fit b t (k .even) in
-      let z = length-replicate {A = ℕ} zeros 0 in
-      let h = length-replicate {A = ℕ} (one / 2) 2 in
-      rw (q3, q2, q1, entries-law b t, ← k .zerosIs, ← k .onesIs)
-      (take-three e0 (replicate zeros 0) (filter (leb 2) (bitsOf b t)) (sym z) (replicate (one / 2) 2) (omega arith) (omega arith) room)
-
-  -- the N entries of b', where it is written
-  pub entries-in : {n z : ℕ} {order after : List ℕ} → ones b t % 2 ≡ 0 → length t ≤ length after → n ≡ entryCount b t → z ≡ length t - n
-      → Written Coded b t order after → take n (drop z after) ≡ entries b t
-  unfolding reorderedBits
-  entries-in {n} {z} {after = after} even room pn pz w =
-      let f = entries-fit b t even in
-      let s : z + n ≡ length t = omega arith in
-      let q : length t - entryCount b t ≡ z = omega arith in
-      let u : take z after ++ take n (drop z after) ≡ replicate z 0 ++ entries b t =
-      sym (take-add z n after) ∙ ap (λ (m : ℕ). take m after) s ∙ w .bits ∙ ap (λ (m : ℕ). replicate m 0 ++ entries b t) q in
-      sym (drop-at (take z after) (take n (drop z after)) z (length-take-le z after (omega arith)))
-      ∙ ap (drop z) u
-      ∙ drop-at (replicate z 0) (entries b t) z (length-replicate z 0)

@@ -1,17 +1,13 @@
--- Refusals 1 to 9 in two parts, and the tests that one pass makes together.
+-- The tests that one pass makes together, and the marks of the members of t.
 use Prim.Native.Nat.{ℕ, zero, suc, _+_, _<_}
 use mathlib.Core.Bool.{Bool, true, false, _||_}
 use mathlib.Core.List.{List, [], _∷_}
 use mathlib.Core.Path.{_≡_}
 use lib.Dec.{ltb}
 use lib.ListN.{length, getD, set}
-use Rattle.g9932.specs.Bits.{weight, first}
-use Rattle.g9932.specs.Sizes.{entry}
-use Rattle.g9932.specs.Refusals.{Verdict, accepted, refuseIf, refuseAt, sizeTest, toneTest, member, twiceTest, bitsTest, strayBy, strayTest, gainBy, gainTest, oddTest, fewTest, pairTest}
-use Rattle.g9932.specs.Order.{codedPairs, frameSize}
-use Rattle.g9932.specs.declared.Found.{Found}
-use Rattle.g9932.specs.declared.Found.the-variants.{Nothing}
-use Rattle.g9932.specs.declared.Mode.{Mode}
+use Rattle.g9932.specs.Bits.{weight}
+use Rattle.g9932.specs.Sizes.{entry, mostTones}
+use Rattle.g9932.specs.Refusals.{member, strayBy, gainBy}
 use Rattle.tables.specs.declared.lists.Rule.{Rule}
 use Rattle.tables.specs.declared.lists.Rule.the-variants.{Bits, Stray, Gain}
 
@@ -19,10 +15,6 @@ use Rattle.tables.specs.declared.lists.Rule.the-variants.{Bits, Stray, G
 unfoldable pub anyBelow : (ℕ → Bool) → ℕ → Bool
 anyBelow p zero = false
 anyBelow p (suc n) = anyBelow p n || p n
-
--- 2 or 3 applies to a place in t
-abbrev pub placeFault : ℕ → List ℕ → ℕ → Bool
-placeFault g t k = toneTest g t k || twiceTest t k
 
 -- 4, 5 or 6 applies to an index
 abbrev pub indexBy : Bool → ℕ → ℕ → Bool
@@ -55,9 +47,4 @@ trues (b ∷ l) = weight b + trues l
 
 -- the members of a list of tones are marked
 abbrev pub Marks : List ℕ → List Bool → Type 0
-Marks t seen = (k : ℕ) → k < 4096 → getD seen k false ≡ member k t
-
--- what the pass over t finds, and the marks that it leaves where it finds nothing
-pub record Passed (g : ℕ) (t : List ℕ) (r : Found) (seen : List Bool) : Type 0 where
-  pub found : r ≡ first (placeFault g t) (length t)
-  pub marks : r ≡ Nothing → Marks t seen
+Marks t seen = (k : ℕ) → k < mostTones → getD seen k false ≡ member k t

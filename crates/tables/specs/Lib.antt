@@ -1,3 +1,4 @@
--- What the code's contracts cite besides document 01's definitions: the refusals in two parts, and what the writers leave.
+-- What the code's contracts cite besides document 01's definitions: the tests that one pass makes together, what refusals 1 to 6 leave,
+-- and the counts.
 pub mod Checks
-pub mod Ordered
+pub mod Counted

@@ -1,26 +1,15 @@
-// Checking the bit, gain and tone tables, the frame size L, and the re-ordered tables t' and b' (document 01).
-use g9932::Checked;
+// The bit, gain and tone tables: what stands at a place and at a sub-carrier, counts over the tones, and refusals 1 to 6.
 use g9932::Class;
-use g9932::Mode;
 use g9932::Place;
-use g9932::Refusal;
 use g9932::Subcarrier;
 use g9932::Tone;
-use lists::check_lists;
-use order::copy_bits;
-use order::copy_tones;
-use order::order_coded;
-use order::order_uncoded;
 ghost use mathlib.Core.Path.{_≡_};
 ghost use Prim.Native.Nat.{_≤_};
 ghost use Rattle.g9932.specs.Bits.{weight};
-ghost use Rattle.g9932.specs.Sizes.{tables, entry, toneOf};
-ghost use Rattle.g9932.specs.Refusals.{tableVerdict, modeVerdict};
-ghost use Rattle.g9932.specs.Answers.{verdictOf, Reorders};
-ghost use Rattle.tables.specs.Ordered.{OrderedBy, Ordered, Arrays, Room, Medley};
+ghost use Rattle.g9932.specs.Sizes.{entry, toneOf};
+ghost use Rattle.tables.specs.Counted.{CountsAre, Medley};
 
 pub mod lists; // refusals 1 to 6
-pub mod order; // refusals 7 to 9, t' and b'
 
 // The sub-carrier at a place of a tone table; 0 past its end.
 pub fn tone_at(tones: &[u16], p: Place) -> Subcarrier
@@ -87,106 +76,33 @@ pub fn one_if(test: bool) -> u16
     test as u16
 }
 
-// Checks the tables and tells L: refusals 1 to 9.
-pub fn check_tables(mode: Mode, bits: &[u8], gains: &[u16], tones: &[u16]) -> Checked
-    ensures { λ r. ⌜ verdictOf r ≡ tableVerdict (tables mode (now (bits .entry)) (now (gains .entry)) (now (tones .entry))) ⌝ }
-{
-    let mut order = [0u16; 4096];
-    let mut entries = [0u8; 4096];
-    order_tables(mode, bits, gains, tones, &mut order, &mut entries)
+// Sums over the tones: of the bits, of the loaded tones, and of the 1-bit tones.
+pub struct Counts {
+    pub sum: usize,
+    pub loaded: usize,
+    pub ones: usize,
 }
 
-// Refusals 1 to 9. Where nothing is refused, t' and b' stand in the first NSC entries of two lent arrays of 4,096.
-// Only proved code calls it, and shows their lengths.
-pub fn order_tables(
-    mode: Mode,
-    bits: &[u8],
-    gains: &[u16],
-    tones: &[u16],
-    order: &mut [u16],
-    entries: &mut [u8],
-) -> Checked
-    requires { ⌜ Arrays (now order) (now entries) ⌝ }
-    ensures { λ r. ⌜ Ordered (tables mode (now (bits .entry)) (now (gains .entry)) (now (tones .entry))) r (now (order .exit)) (now (entries .exit)) ⌝ }
+// The counts over all tones. Only tones have bits, so that they are the counts over the bit table. The sums fit 16 bits, and there
+// is no `if`, so that the compiler takes many entries at a time.
+pub fn count_tones(bits: &[u8], tones: &[u16]) -> Counts
+    requires { ⌜ Medley (now bits) (now tones) ⌝ }
+    ensures { λ r. ⌜ CountsAre r (now (bits .entry)) (now (tones .entry)) ⌝ }
 {
-    let r = check_lists(bits, gains, tones);
-    match r {
-        Checked::Refused(x) => Checked::Refused(x),
-        Checked::Accepted(_) => order_by(mode, bits, tones, order, entries),
+    let mut sum: u16 = 0;
+    let mut loaded: u16 = 0;
+    let mut ones: u16 = 0;
+    let mut i = 0;
+    while i < bits.len() {
+        let b = bits[i];
+        sum += b as u16;
+        loaded += one_if(0 < b);
+        ones += one_if(b == 1);
+        i += 1;
     }
-}
-
-// Refusals 7 to 9, with t' and b' written. Its caller shows that refusals 1 to 6 do not apply, and that the arrays have room.
-fn order_by(
-    mode: Mode,
-    bits: &[u8],
-    tones: &[u16],
-    order: &mut [u16],
-    entries: &mut [u8],
-) -> Checked
-    requires room { ⌜ Room (now tones) (now order) (now entries) ⌝ }
-    requires medley { ⌜ Medley (now bits) (now tones) ⌝ }
-    ensures { λ r. ⌜ OrderedBy (modeVerdict mode (now (bits .entry)) (now (tones .entry))) mode (now (bits .entry)) (now (tones .entry)) r (now (order .exit)) (now (entries .exit)) ⌝ }
-{
-    match mode {
-        Mode::Uncoded => order_uncoded(bits, tones, order, entries),
-        Mode::Coded => order_coded(bits, tones, order, entries),
-    }
-}
-
-// Re-orders: refusals 1 to 10. Where nothing is refused, writes t' and b'; else writes nothing.
-pub fn reorder(
-    mode: Mode,
-    bits: &[u8],
-    gains: &[u16],
-    tones: &[u16],
-    tones_out: &mut [u16],
-    bits_out: &mut [u8],
-) -> Checked
-    ensures { λ r. ⌜ Reorders (tables mode (now (bits .entry)) (now (gains .entry)) (now (tones .entry))) (now («tones_out» .entry)) (now («bits_out» .entry)) r (now («tones_out» .exit)) (now («bits_out» .exit)) ⌝ }
-{
-    let mut order = [0u16; 4096];
-    let mut entries = [0u8; 4096];
-    reorder_through(
-        mode,
-        bits,
-        gains,
-        tones,
-        tones_out,
-        bits_out,
-        &mut order,
-        &mut entries,
-    )
-}
-
-// Re-orders by way of two arrays of 4,096, which its caller makes, so that a lent buffer is written only when nothing can refuse
-// any more.
-fn reorder_through(
-    mode: Mode,
-    bits: &[u8],
-    gains: &[u16],
-    tones: &[u16],
-    tones_out: &mut [u16],
-    bits_out: &mut [u8],
-    order: &mut [u16],
-    entries: &mut [u8],
-) -> Checked
-    requires { ⌜ Arrays (now order) (now entries) ⌝ }
-    ensures { λ r. ⌜ Reorders (tables mode (now (bits .entry)) (now (gains .entry)) (now (tones .entry))) (now («tones_out» .entry)) (now («bits_out» .entry)) r (now («tones_out» .exit)) (now («bits_out» .exit)) ⌝ }
-{
-    let r = order_tables(mode, bits, gains, tones, order, entries);
-    match r {
-        Checked::Refused(x) => Checked::Refused(x),
-        Checked::Accepted(l) => {
-            if tones_out.len() != tones.len() {
-                return Checked::Refused(Refusal::Room);
-            }
-            if bits_out.len() != tones.len() {
-                return Checked::Refused(Refusal::Room);
-            }
-            copy_tones(order, tones_out);
-            copy_bits(entries, bits_out);
-            Checked::Accepted(l)
-        }
+    Counts {
+        sum: sum as usize,
+        loaded: loaded as usize,
+        ones: ones as usize,
     }
 }

@@ -13,10 +13,11 @@ ghost use mathlib.Core.Path.{_≡_};
 ghost use mathlib.Core.Bool.{false};
 ghost use Prim.Native.Nat.{_≤_};
 ghost use lib.ListN.{length, replicate};
+ghost use Rattle.g9932.specs.Sizes.{mostTones};
 ghost use Rattle.g9932.specs.Bits.{first};
-ghost use Rattle.g9932.specs.Refusals.{sizeTest, toneTest, strayBy, gainBy, listVerdict};
+ghost use Rattle.g9932.specs.Refusals.{sizeTest, toneTest, twiceTest, strayBy, gainBy, indexVerdict, listVerdict};
 ghost use Rattle.g9932.specs.Answers.{verdictOf};
-ghost use Rattle.tables.specs.Checks.{anyBelow, indexBy, indexFault, ruleBy, ruleTest, Below, marked, trues, Marks, Passed};
+ghost use Rattle.tables.specs.Checks.{anyBelow, indexBy, indexFault, ruleBy, ruleTest, Below, marked, trues, Marks};
 
 // 1 SIZE, of the three lengths.
 fn wrong_size(g: usize, gains: usize, nsc: usize) -> bool
@@ -39,7 +40,7 @@ fn wrong_size(g: usize, gains: usize, nsc: usize) -> bool
 
 // Does 2 TONE apply to any place? No early exit and no `if`, so that the compiler takes many entries at a time.
 fn any_tone_fault(g: usize, tones: &[u16]) -> bool
-    requires { ⌜ g ≤ 4096 ⌝ }
+    requires { ⌜ g ≤ mostTones ⌝ }
     ensures { λ r. ⌜ r ≡ anyBelow (toneTest g (now (tones .entry))) (length (now (tones .entry))) ⌝ }
 {
     let end = g as u16;
@@ -52,9 +53,28 @@ fn any_tone_fault(g: usize, tones: &[u16]) -> bool
     any
 }
 
+// 2 TONE: the first place whose entry is G or more. Where the scan finds none there is none to look for.
+fn first_tone(g: usize, tones: &[u16]) -> Found
+    requires { ⌜ g ≤ mostTones ⌝ }
+    ensures { λ r. ⌜ r ≡ first (toneTest g (now (tones .entry))) (length (now (tones .entry))) ⌝ }
+{
+    if !any_tone_fault(g, tones) {
+        return Found::Nothing;
+    }
+    let mut i = 0;
+    while i < tones.len() {
+        let k = tone_at(tones, Place(i));
+        if g <= k.0 {
+            return Found::At(i);
+        }
+        i += 1;
+    }
+    Found::Nothing
+}
+
 // Marks every entry of t.
 fn mark_tones(tones: &[u16], seen: &mut [bool; 4096])
-    requires { ⌜ Below 4096 (now tones) ⌝ }
+    requires { ⌜ Below mostTones (now tones) ⌝ }
     ensures { λ _. ⌜ now (seen .exit) ≡ marked (now (seen .entry)) (now (tones .entry)) ⌝ }
 {
     let mut i = 0;
@@ -68,7 +88,7 @@ fn mark_tones(tones: &[u16], seen: &mut [bool; 4096])
 
 // How many are marked?
 fn count_marks(seen: &[bool; 4096]) -> usize
-    requires { ⌜ length (now seen) ≡ 4096 ⌝ }
+    requires { ⌜ length (now seen) ≡ mostTones ⌝ }
     ensures { λ r. ⌜ r ≡ trues (now (seen .entry)) ⌝ }
 {
     let mut n: u16 = 0;
@@ -80,19 +100,16 @@ fn count_marks(seen: &[bool; 4096]) -> usize
     n as usize
 }
 
-// The first place in t where 2 TONE or 3 TWICE applies. Marks each entry that it passes.
-fn first_place_fault(g: usize, tones: &[u16], seen: &mut [bool; 4096]) -> Found
-    requires clear { ⌜ now seen ≡ replicate 4096 false ⌝ }
-    requires size { ⌜ g ≤ 4096 ⌝ }
-    ensures { λ r. ⌜ Passed g (now (tones .entry)) r (now (seen .exit)) ⌝ }
+// The first place in t whose entry equals an earlier one. Marks each entry that it passes.
+fn first_repeat(tones: &[u16], seen: &mut [bool; 4096]) -> Found
+    requires clear { ⌜ now seen ≡ replicate mostTones false ⌝ }
+    requires below { ⌜ Below mostTones (now tones) ⌝ }
+    ensures { λ r. ⌜ r ≡ first (twiceTest (now (tones .entry))) (length (now (tones .entry))) ⌝ }
 {
     let mut i = 0;
     while i < tones.len() {
         let k = tone_at(tones, Place(i));
         let at = k.0;
-        if g <= at {
-            return Found::At(i);
-        }
         if seen[at] {
             return Found::At(i);
         }
@@ -102,37 +119,19 @@ fn first_place_fault(g: usize, tones: &[u16], seen: &mut [bool; 4096]) -> Found
     Found::Nothing
 }
 
-// The first place in t where 2 TONE or 3 TWICE applies; where neither does, every entry is marked. As many marks as entries say
-// that no entry comes twice, and only otherwise is a place looked for.
-fn pass_tones(g: usize, tones: &[u16], seen: &mut [bool; 4096]) -> Found
-    requires clear { ⌜ now seen ≡ replicate 4096 false ⌝ }
-    requires size { ⌜ g ≤ 4096 ⌝ }
-    ensures { λ r. ⌜ Passed g (now (tones .entry)) r (now (seen .exit)) ⌝ }
+// 3 TWICE: the first place whose entry equals an earlier one. Marks every entry: as many marks as entries say that none comes
+// twice, and only otherwise is a place looked for.
+fn first_twice(tones: &[u16], seen: &mut [bool; 4096]) -> Found
+    requires clear { ⌜ now seen ≡ replicate mostTones false ⌝ }
+    requires below { ⌜ Below mostTones (now tones) ⌝ }
+    ensures { λ r. ⌜ (r ≡ first (twiceTest (now (tones .entry))) (length (now (tones .entry)))) × Marks (now (tones .entry)) (now (seen .exit)) ⌝ }
 {
-    if any_tone_fault(g, tones) {
-        return first_place_fault(g, tones, seen);
-    }
     mark_tones(tones, seen);
     if count_marks(seen) == tones.len() {
         return Found::Nothing;
     }
     let mut again = [false; 4096];
-    first_place_fault(g, tones, &mut again)
-}
-
-// 2 TONE: the first place whose entry is G or more.
-fn first_tone(g: usize, tones: &[u16]) -> Found
-    ensures { λ r. ⌜ r ≡ first (toneTest g (now (tones .entry))) (length (now (tones .entry))) ⌝ }
-{
-    let mut i = 0;
-    while i < tones.len() {
-        let k = tone_at(tones, Place(i));
-        if g <= k.0 {
-            return Found::At(i);
-        }
-        i += 1;
-    }
-    Found::Nothing
+    first_repeat(tones, &mut again)
 }
 
 // 5 STRAY, of one index.
@@ -159,7 +158,7 @@ fn is_fault(seen: bool, bits: u8, gain: u16) -> bool
 // Does 4 BITS, 5 STRAY or 6 GAIN apply to any index? `seen` marks the members of t. No early exit and no `if`, so that the
 // compiler takes many entries at a time.
 fn any_index_fault(bits: &[u8], gains: &[u16], tones: &[u16], seen: &[bool; 4096]) -> bool
-    requires size { ⌜ length (now bits) ≤ 4096 ⌝ }
+    requires size { ⌜ length (now bits) ≤ mostTones ⌝ }
     requires gains { ⌜ length (now gains) ≡ length (now bits) ⌝ }
     requires marks { ⌜ Marks (now tones) (now seen) ⌝ }
     ensures { λ r. ⌜ r ≡ anyBelow (indexFault (now (bits .entry)) (now (gains .entry)) (now (tones .entry))) (length (now (bits .entry))) ⌝ }
@@ -193,7 +192,7 @@ fn breaks(rule: Rule, seen: bool, bits: u8, gain: u16) -> bool
 
 // The smallest index to which the rule applies. `seen` marks the members of t.
 fn first_index(rule: Rule, bits: &[u8], gains: &[u16], tones: &[u16], seen: &[bool; 4096]) -> Found
-    requires size { ⌜ length (now bits) ≤ 4096 ⌝ }
+    requires size { ⌜ length (now bits) ≤ mostTones ⌝ }
     requires marks { ⌜ Marks (now tones) (now seen) ⌝ }
     ensures { λ r. ⌜ r ≡ first (ruleTest rule (now (bits .entry)) (now (gains .entry)) (now (tones .entry))) (length (now (bits .entry))) ⌝ }
 {
@@ -208,31 +207,41 @@ fn first_index(rule: Rule, bits: &[u8], gains: &[u16], tones: &[u16], seen: &[bo
     Found::Nothing
 }
 
-// Refusals 1 to 6. Passes over all of t and over all indices accept; which number applies is looked for only after that.
+// Refusals 4 to 6. A pass over all indices accepts; which number applies is looked for only after that. `seen` marks the members of t.
+fn check_indices(bits: &[u8], gains: &[u16], tones: &[u16], seen: &[bool; 4096]) -> Checked
+    requires size { ⌜ length (now bits) ≤ mostTones ⌝ }
+    requires gains { ⌜ length (now gains) ≡ length (now bits) ⌝ }
+    requires marks { ⌜ Marks (now tones) (now seen) ⌝ }
+    ensures { λ r. ⌜ verdictOf r ≡ indexVerdict (now (bits .entry)) (now (gains .entry)) (now (tones .entry)) ⌝ }
+{
+    if !any_index_fault(bits, gains, tones, seen) {
+        return Checked::Accepted(0);
+    }
+    if let Found::At(k) = first_index(Rule::Bits, bits, gains, tones, seen) {
+        return Checked::Refused(Refusal::Bits(Subcarrier(k)));
+    }
+    if let Found::At(k) = first_index(Rule::Stray, bits, gains, tones, seen) {
+        return Checked::Refused(Refusal::Stray(Subcarrier(k)));
+    }
+    if let Found::At(k) = first_index(Rule::Gain, bits, gains, tones, seen) {
+        return Checked::Refused(Refusal::Gain(Subcarrier(k)));
+    }
+    Checked::Accepted(0)
+}
+
+// Refusals 1 to 6.
 pub fn check_lists(bits: &[u8], gains: &[u16], tones: &[u16]) -> Checked
     ensures { λ r. ⌜ verdictOf r ≡ listVerdict (now (bits .entry)) (now (gains .entry)) (now (tones .entry)) ⌝ }
 {
     if wrong_size(bits.len(), gains.len(), tones.len()) {
         return Checked::Refused(Refusal::Size);
     }
+    if let Found::At(p) = first_tone(bits.len(), tones) {
+        return Checked::Refused(Refusal::Tone(Place(p)));
+    }
     let mut seen = [false; 4096];
-    if let Found::At(twice) = pass_tones(bits.len(), tones, &mut seen) {
-        if let Found::At(p) = first_tone(bits.len(), tones) {
-            return Checked::Refused(Refusal::Tone(Place(p)));
-        }
-        return Checked::Refused(Refusal::Twice(Place(twice)));
+    if let Found::At(p) = first_twice(tones, &mut seen) {
+        return Checked::Refused(Refusal::Twice(Place(p)));
     }
-    if !any_index_fault(bits, gains, tones, &seen) {
-        return Checked::Accepted(0);
-    }
-    if let Found::At(k) = first_index(Rule::Bits, bits, gains, tones, &seen) {
-        return Checked::Refused(Refusal::Bits(Subcarrier(k)));
-    }
-    if let Found::At(k) = first_index(Rule::Stray, bits, gains, tones, &seen) {
-        return Checked::Refused(Refusal::Stray(Subcarrier(k)));
-    }
-    if let Found::At(k) = first_index(Rule::Gain, bits, gains, tones, &seen) {
-        return Checked::Refused(Refusal::Gain(Subcarrier(k)));
-    }
-    Checked::Accepted(0)
+    check_indices(bits, gains, tones, &seen)
 }

@@ -10,12 +10,12 @@ use Rattle.frame.proofs.Labels.{labels-set, within-set}
 use Rattle.frame.specs.Labels.{bitsOfLabels}
 use Rattle.g9932.specs.Bits.{bits}
 use Rattle.g9932.specs.Order.{pair, inTwos, pairsOf}
-use Rattle.g9932.specs.Sizes.{unpack}
+use Rattle.g9932.specs.Sizes.{unpack, mostBytes}
 use Rattle.g9932.specs.Trellis.{taken, sentBits, zeroState, takenTotal}
 use Rattle.trellis.specs.Coding.{codedWord, firstCoder, CodesPair, CodeNeeds, CodesFrom, CodesFrame, FrameNeeds}
 use Rattle.trellis.specs.declared.PairCode.{PairCode}
 use Rattle.trellis.proofs.CodeLoop.{encode-step}
-use Rattle.trellis.proofs.Entries.{whole-pairs, padded-pairs, not-forced}
+use Rattle.trellis.proofs.Entries.{whole-pairs, padded-pairs, not-forced, padded-taken}
 
 module _ (frame : List ℕ) (start : ℕ) (es labels : List ℕ) (needs : FrameNeeds frame start es) (same : length labels ≡ length es) where
   -- an even count
@@ -37,9 +37,9 @@ module _ (frame : List ℕ) (start : ℕ) (es labels : List ℕ) (needs : FrameN
   -- an odd count: the first pair has x = 0
   module _ (y : ℕ) (odd : length es % 2 ≡ 1) (hy : y ≡ getD es 0 0) where
     taken-first : takenTotal (pairsOf es) ≡ taken false (pair 0 y) + takenTotal (inTwos (drop 1 es))
-    taken-first = rw (padded-pairs es y (needs .few) odd hy, ← (not-forced es (needs .few) odd))
+    taken-first = padded-taken es y (needs .few) odd hy
 
-    pub first-needs : (2 ≤ y) × (y ≤ 15) × (start + y ≤ 8 * length frame + 1) × (length frame ≤ 7680)
+    pub first-needs : (2 ≤ y) × (y ≤ 15) × (start + y ≤ 8 * length frame + 1) × (length frame ≤ mostBytes)
     first-needs =
         let a = needs .wide 0 (omega (arith, needs .few)) in
         let t = taken-first in

@@ -2,7 +2,7 @@
 use mathlib.Core.Path.{_≡_, refl, sym, ap, _∙_}
 use mathlib.Core.Bool.{Bool, true, false}
 use mathlib.Core.List.{List, _∷_, _++_, append-assoc}
-use Prim.Native.Nat.{ℕ, suc, _+_, _-_, _%_, _^_, _≤_, _<_}
+use Prim.Native.Nat.{ℕ, suc, _+_, _-_, _%_, _≤_}
 use native.Mathlib.Nat.{zero-add}
 use native.Mathlib.Omega.{arith}
 use lib.ListN.{length, take, drop, getD}
@@ -22,8 +22,8 @@ use Rattle.frame.specs.declared.BitWriter.{BitWriter}
 use Rattle.trellis.specs.Reading.{firstReader, decodedIn, PairNeeds, ReadsPair, ReadNeeds, onward, readingFrom, ReadsFrom, readingOfAll, ReadsLabels, LabelNeeds}
 use Rattle.trellis.specs.declared.read.PairRead.{PairRead}
 use Rattle.trellis.specs.declared.read.PairsRead.{PairsRead}
-use Rattle.trellis.proofs.Entries.{whole-pairs, padded-pairs, not-forced}
-use Rattle.trellis.proofs.DecodeLoop.{found-not}
+use Rattle.trellis.proofs.Entries.{whole-pairs, padded-pairs, not-forced, padded-taken}
+use Rattle.g9932.proofs.Search.{found-not}
 use Rattle.trellis.proofs.DecodePair.{first-takes}
 
 onward-zero : (f : Found) → onward 0 f ≡ f
@@ -69,7 +69,7 @@ module _ (w : BitWriter) (es labels out : List ℕ) (needs : LabelNeeds w es lab
     forced-not = not-forced es (needs .few) odd
 
     taken-first : takenTotal (pairsOf es) ≡ taken false (pair 0 y) + takenTotal (inTwos (drop 1 es))
-    taken-first = rw (padded, ← forced-not)
+    taken-first = padded-taken es y (needs .few) odd hy
 
     module _ (l : ℕ) (hl : l ≡ getD labels 0 0) where
       pub first-needs : (2 ≤ y) × (y ≤ 15) × PairNeeds (firstReader w) (pair 0 y) 0 l out

@@ -16,7 +16,6 @@ use Rattle.g9932.proofs.Words.{length-bits}
 use Rattle.g9932.specs.Bits.{bits}
 use Rattle.g9932.specs.Order.{Pair, pair, inTwos}
 use Rattle.g9932.specs.Trellis.{Word, Reading, frame, breaks, after as after', lastTwo, taken, width, decodedWord, decodedAt, obeysCode, takenBits, nextOf, readPairs, takenTotal}
-use Rattle.g9932.specs.declared.Found.{Found}
 use Rattle.g9932.specs.declared.Found.the-variants.{At, Nothing}
 use Rattle.trellis.specs.Coding.{Wide}
 use Rattle.trellis.specs.Reading.{decodedIn, PairNeeds, ReadsPair, ReadNeeds, readingFrom, ReadsFrom}
@@ -24,6 +23,7 @@ use Rattle.trellis.specs.declared.read.Reader.{Reader}
 use Rattle.trellis.specs.declared.read.PairRead.{PairRead}
 use Rattle.trellis.proofs.Entries.{cut-pair, pair-wide, inTwos-short, forced-is}
 use Rattle.trellis.proofs.DecodePair.{length-takes}
+use Rattle.g9932.proofs.Search.{found-not}
 
 -- a reading with n pairs before it, whose frame bits are b
 abbrev afterPairs : ℕ → List Bool → Reading → Reading
@@ -38,14 +38,11 @@ after-one : (n : ℕ) (b x : List Bool) (r : Reading) → afterPairs n b (after'
 after-one n b x (frame f) = ap frame (sym (append-assoc b x f))
 after-one n b x (breaks k) = ap breaks (let e : n + suc k ≡ n + 1 + k = omega arith in e)
 
-pub found-not : {n : ℕ} → _≡_ {A = Found} (At n) Nothing → ⊥
-found-not z = let q : _≡_ {A = ℕ} 0 1 = cc in omega arith
-
 pub record Decoding (c k : Reader) (es labels out₀ out : List ℕ) (from i : ℕ) : Type 0 where
   pub kept : length out ≡ length out₀
   pub needs : ReadNeeds k es i labels out
   pub pairs : ℕ
-  pub numbered : pairs + (from + 1) / 2 ≡ (i + 1) / 2
+  numbered : pairs + (from + 1) / 2 ≡ (i + 1) / 2
   pub done : List Bool
   pub soFar : written (k .writer) out ≡ written (c .writer) out₀ ++ done
   pub rest : readingFrom c es from labels ≡ afterPairs pairs done (readingFrom k es i labels)

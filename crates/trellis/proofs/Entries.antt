@@ -10,7 +10,7 @@ use lib.Dec.{ltb}
 use lib.ListN.{length, drop, getD, length-drop}
 use lib.Seq.{drop-cons}
 use Rattle.g9932.specs.Order.{pair, inTwos, pairsOf}
-use Rattle.g9932.specs.Trellis.{lastTwo}
+use Rattle.g9932.specs.Trellis.{lastTwo, taken, takenTotal}
 use Rattle.trellis.specs.Coding.{Wide}
 
 drop-two : (es : List ℕ) (i : ℕ) → i + 1 < length es → drop i es ≡ getD es i 0 ∷ getD es (i + 1) 0 ∷ drop (i + 2) es
@@ -66,3 +66,8 @@ padded-pairs es y few odd hy =
 -- the pair with the 0 is not among the last two
 pub not-forced : (es : List ℕ) → 4 ≤ length es → length es % 2 ≡ 1 → false ≡ lastTwo (inTwos (drop 1 es))
 not-forced es few odd = sym (lastTwo-length (drop 1 es) ∙ le-ltb (length (drop 1 es)) 4 (simp length-drop (omega arith)))
+
+-- and the bits that the pairs take, with the 0 in front
+pub padded-taken : (es : List ℕ) (y : ℕ) → 4 ≤ length es → length es % 2 ≡ 1 → y ≡ getD es 0 0
+    → takenTotal (pairsOf es) ≡ taken false (pair 0 y) + takenTotal (inTwos (drop 1 es))
+padded-taken es y few odd hy = rw (padded-pairs es y few odd hy, ← (not-forced es few odd))

@@ -109,7 +109,7 @@ pub record FirstCoded (s : TrellisState) (y : ℕ) (f : List Bool) (sent : ℕ) 
 first-number : (a b h : ℕ) → a + 2 * (b + 2 * h) ≡ a + 2 * b + 4 * h
 first-number a b h = omega arith
 
-pub first-coded : (s : TrellisState) (y : ℕ) (f : List Bool) (low : LowBits) (sent : ℕ) → 2 ≤ y → length f ≡ y - 1
+first-coded : (s : TrellisState) (y : ℕ) (f : List Bool) (low : LowBits) (sent : ℕ) → 2 ≤ y → length f ≡ y - 1
     → low ≡ lowBits (s .s0) false (odd (num f)) false → sent ≡ labelNumber (low .w0) (low .w1) (num f / 2) → FirstCoded s y f sent
 unfolding wordOf sentBits num
 first-coded s y f low sent h hf hl hs =

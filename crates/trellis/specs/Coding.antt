@@ -7,7 +7,7 @@ use lib.ListN.{length, take, drop, getD}
 use Rattle.frame.specs.Labels.{bitsOfLabels, Within}
 use Rattle.g9932.specs.Bits.{_⊕_, weight, odd, bits}
 use Rattle.g9932.specs.Order.{inTwos, pairsOf, Pair}
-use Rattle.g9932.specs.Sizes.{unpack}
+use Rattle.g9932.specs.Sizes.{unpack, mostBytes, mostTones}
 use Rattle.g9932.specs.Trellis.{Word, taken, wordOf, sentBits, nextOf, zeroState, encodePairs, takenTotal}
 use Rattle.g9932.specs.declared.TrellisState.{TrellisState}
 use Rattle.trellis.specs.declared.Coder.{Coder}
@@ -30,7 +30,7 @@ codedWord c forced p frame = wordOf forced (c .state) (p .x) (take (taken forced
 
 pub record PairNeeds (c : Coder) (forced : Bool) (p : Pair) (frame : List ℕ) : Type 0 where
   pub bits : c .at + taken forced p ≤ 8 * length frame
-  pub small : length frame ≤ 7680
+  pub small : length frame ≤ mostBytes
 
 -- the labels v and w spell the pair's sent bits
 pub record CodesPair (c : Coder) (forced : Bool) (p : Pair) (frame : List ℕ) (r : PairCode) : Type 0 where
@@ -54,7 +54,7 @@ pub record CodeNeeds (c : Coder) (es : List ℕ) (i : ℕ) (frame labels : List 
   pub inside : i ≤ length es
   pub even : (length es - i) % 2 ≡ 0
   pub bits : c .at + takenTotal (inTwos (drop i es)) ≤ 8 * length frame
-  pub small : length frame ≤ 7680
+  pub small : length frame ≤ mostBytes
   pub places : length es ≤ length labels
   pub within : Within es labels i
 
@@ -72,6 +72,6 @@ pub record CodesFrame (frame : List ℕ) (start : ℕ) (es after : List ℕ) : T
 pub record FrameNeeds (frame : List ℕ) (start : ℕ) (es : List ℕ) : Type 0 where
   pub wide : Wide es
   pub few : 4 ≤ length es
-  pub many : length es ≤ 4096
+  pub many : length es ≤ mostTones
   pub bits : start + takenTotal (pairsOf es) ≤ 8 * length frame
-  pub small : length frame ≤ 7680
+  pub small : length frame ≤ mostBytes

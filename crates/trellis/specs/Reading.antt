@@ -7,6 +7,7 @@ use lib.ListN.{length, drop}
 use Rattle.frame.specs.Labels.{bitsOfLabels, Within}
 use Rattle.frame.specs.Written.{written, Waits, count, Put}
 use Rattle.frame.specs.declared.BitWriter.{BitWriter}
+use Rattle.g9932.specs.Sizes.{mostTones}
 use Rattle.g9932.specs.Answers.{breakIn, frameIn}
 use Rattle.g9932.specs.Bits.{_⊕_, weight, odd, bits}
 use Rattle.g9932.specs.Order.{inTwos, pairsOf, Pair}
@@ -96,7 +97,7 @@ pub record ReadsLabels (w : BitWriter) (es labels before : List ℕ) (r : PairsR
 pub record LabelNeeds (w : BitWriter) (es labels frame : List ℕ) : Type 0 where
   pub wide : Wide es
   pub few : 4 ≤ length es
-  pub many : length es ≤ 4096
+  pub many : length es ≤ mostTones
   pub within : Within es labels (length es)
   pub bytes : count w + takenTotal (pairsOf es) + 64 ≤ 8 * length frame
   pub waits : Waits w

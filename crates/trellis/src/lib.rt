@@ -8,7 +8,7 @@ ghost use lib.ListN.{length, take, drop, getD, set};
 ghost use Rattle.frame.specs.Labels.{labelsAt, Rising, Placed};
 ghost use Rattle.g9932.specs.Bits.{weight as weightOf, bits};
 ghost use Rattle.g9932.specs.Order.{pair, pairsOf};
-ghost use Rattle.g9932.specs.Sizes.{unpack};
+ghost use Rattle.g9932.specs.Sizes.{unpack, mostTones, mostBytes};
 ghost use Rattle.g9932.specs.Trellis.{taken, zeroState, encodePairs};
 ghost use Rattle.trellis.specs.Coding.{inputsOf, labelNumber, PairNeeds, CodesPair, CodeNeeds, CodesFrom, Wide, FrameNeeds, CodesFrame, firstCoder};
 use frame::by_place::place_at;
@@ -157,7 +157,7 @@ fn code_from(
     from: usize,
     labels: &mut [u16],
 )
-    requires { ⌜ Wide (now entries) × (length (now entries) ≤ 4096) × Placed (now entries) (now places) (now labels) × CodeNeeds c (now entries) from (now frame) (labelsAt (now places) (now labels)) ⌝ }
+    requires { ⌜ Wide (now entries) × (length (now entries) ≤ mostTones) × Placed (now entries) (now places) (now labels) × CodeNeeds c (now entries) from (now frame) (labelsAt (now places) (now labels)) ⌝ }
     ensures { λ _. ⌜ CodesFrom c (now (entries .entry)) from (now (frame .entry)) (labelsAt (now (places .entry)) (now (labels .entry))) (labelsAt (now (places .entry)) (now (labels .exit))) ⌝ }
 {
     let mut k = c;
@@ -174,7 +174,7 @@ fn code_from(
 
 // Codes a first pair with x = 0: its bits are u2 and u4 upward, and v isn't sent.
 fn code_first(frame: &[u8], start: usize, y: usize) -> PairCode
-    requires { ⌜ (2 ≤ y) × (y ≤ 15) × (start + y ≤ 8 * length (now frame) + 1) × (length (now frame) ≤ 7680) ⌝ }
+    requires { ⌜ (2 ≤ y) × (y ≤ 15) × (start + y ≤ 8 * length (now frame) + 1) × (length (now frame) ≤ mostBytes) ⌝ }
     ensures { λ r. ⌜ CodesPair (firstCoder start) false (pair 0 y) (now (frame .entry)) r ⌝ }
 {
     let f = frame::get(frame, start, y - 1);

@@ -4,6 +4,7 @@ ghost use mathlib.Core.Bool.{true, false};
 ghost use Prim.Native.Nat.{ℕ, _+_, _-_, _*_, _^_, _≤_, _<_};
 ghost use lib.ListN.{length, getD};
 ghost use Rattle.frame.specs.Labels.{labelsAt, Placed, Rising};
+ghost use Rattle.g9932.specs.Sizes.{mostTones};
 ghost use Rattle.g9932.specs.Order.{pair};
 ghost use Rattle.g9932.specs.Trellis.{obeysCode};
 ghost use Rattle.trellis.specs.Coding.{Wide};
@@ -151,7 +152,7 @@ fn read_from(
     from: usize,
     frame: &mut [u8],
 ) -> PairsRead
-    requires { ⌜ Wide (now entries) × (length (now entries) ≤ 4096) × Placed (now entries) (now places) (now labels) × ReadNeeds c (now entries) from (labelsAt (now places) (now labels)) (now frame) ⌝ }
+    requires { ⌜ Wide (now entries) × (length (now entries) ≤ mostTones) × Placed (now entries) (now places) (now labels) × ReadNeeds c (now entries) from (labelsAt (now places) (now labels)) (now frame) ⌝ }
     ensures { λ r. ⌜ ReadsFrom c (now (entries .entry)) from (labelsAt (now (places .entry)) (now (labels .entry))) (now (frame .entry)) r (now (frame .exit)) ⌝ }
 {
     let mut k = c;

@@ -12,7 +12,7 @@ use Rattle.g9932.specs.Bits.{num, bits}
 use Rattle.constellation.specs.Widened.{pairs as pairsOf, signWeight, interleaved}
 use Rattle.constellation.specs.Reading.{Steps, topSix, inGrid}
 use Rattle.constellation.proofs.Grid.{six-lt, six-few}
-use Rattle.constellation.proofs.Reading.{interleaved-word, test, sought-law}
+use Rattle.constellation.proofs.Reading.{interleaved-word, test, found-label-law}
 use Rattle.constellation.proofs.Sizes.{word-16, half-le}
 use borrow.Author.Needs.{needs}
 use Rattle.constellation.proofs.label_of.Statement.{statement}
@@ -109,7 +109,7 @@ returns c =
     let ex = c .before .before .before .before .before .cut .ensures ∙ ap (λ (i : ℕ). u .result / 2 % i) e in
     let ey = c .before .before .before .before .cut2 .ensures ∙ ap (λ (i : ℕ). v .result / 2 % i) e in
     let f = c .in-grid .ensures ∙ ap (λ (i : ℕ). inGrid b (topSix i (w .result))) (h .before .pairs .ensures) in
-    sought-law b (s .args .x) (s .args .y) (u .result) (v .result) (w .result) (n .result) (s .pre .0) (s .pre .1) ux vy
+    found-label-law b (s .args .x) (s .args .y) (u .result) (v .result) (w .result) (n .result) (s .pre .0) (s .pre .1) ux vy
     (w .ensures ∙ ap₂ (λ (i j : ℕ). num (interleaved (bits 8 i) (bits 8 j))) ex ey) (rw (h .before .pairs .ensures) at (n .ensures)) _ _
     (ap₂ _&&_ f (ap₂ (λ (i j : ℕ). eqb (2 * i + 65536) (u .result) && eqb (2 * j + 65536) (v .result)) ex ey)) (c .before .own-label .ensures)
 

@@ -8,13 +8,13 @@ use mir.ValLaws.{toZ-ofZ}
 use Rattle.g9932.specs.Sizes.{point}
 use Rattle.g9932.specs.Points.{labelOf, isLabel}
 use Rattle.g9932.specs.Answers.{readPoint, toneDone}
-use Rattle.constellation.specs.Reading.{SoughtIs}
+use Rattle.constellation.specs.Reading.{FoundLabelIs}
 use Rattle.constellation.proofs.Reading.{label-found, label-none}
 use borrow.Author.Needs.{needs}
 use Rattle.constellation.proofs.read_point.Statement.{statement}
 use Rattle.constellation.proofs.read_point.Tie as tie
 
-sought : (c : tie.After-label-of) → SoughtIs (c .label-of .result) (labelOf (c .before .before .before .args .bits) (point (c .before .before .before .args .x) (c .before .before .before .args .y)))
+sought : (c : tie.After-label-of) → FoundLabelIs (c .label-of .result) (labelOf (c .before .before .before .args .bits) (point (c .before .before .before .args .x) (c .before .before .before .args .y)))
 sought c =
     let s = c .before .before .before in
     rw (toZ-ofZ w16 (s .args .x) (s .fits .x), toZ-ofZ w16 (s .args .y) (s .fits .y)) at (c .label-of .ensures)

@@ -14,7 +14,7 @@ mul-t5 : tie.Need-mul-t5
 mul-t5 c = search needs
 
 add-t4 : tie.Need-add-t4
-add-t4 c = record { fits = feed-fits (c .args .register) (search needs) }
+add-t4 c = record { fits = feed-fits (c .args .register) _ (search needs) }
 
 returns : tie.Need-returns
 unfolding odd drawOf

@@ -1,6 +1,6 @@
 -- `tables::gain_at` meets its contract: past the end the entry is 0.
-use denote.Ref.{now}
 use mathlib.Core.Path.{sym}
+use denote.Ref.{now}
 use lib.ListN.{List·getD-eq-default}
 use borrow.Author.Needs.{needs}
 use Rattle.tables.proofs.gain_at.Statement.{statement}

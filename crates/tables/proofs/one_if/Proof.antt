@@ -1,8 +1,8 @@
 -- `tables::one_if` meets its contract, by its two values.
 use mathlib.Core.Bool.{Bool, true, false}
 use mathlib.Core.Path.{_≡_, refl}
-use native.Mathlib.Omega.{arith}
 use Prim.Native.Nat.{_≤_}
+use native.Mathlib.Omega.{arith}
 use mir.Val.{boolByte}
 use Rattle.g9932.specs.Bits.{weight}
 use borrow.Author.Needs.{needs}

@@ -1,7 +1,7 @@
 -- `tables::tone_at` meets its contract: past the end the entry is 0.
+use mathlib.Core.Path.{sym}
 use native.Mathlib.Omega.{arith}
 use denote.Ref.{now}
-use mathlib.Core.Path.{sym}
 use lib.ListN.{List·getD-eq-default}
 use borrow.Author.Needs.{needs}
 use Rattle.tables.proofs.tone_at.Statement.{statement}

@@ -1,7 +1,7 @@
 -- `tables::tone_of_place` meets its contract: the tone of the two entries at the sub-carrier that was looked up.
-use denote.Ref.{now}
 use mathlib.Core.Path.{_∙_, ap}
 use Prim.Native.Nat.{ℕ}
+use denote.Ref.{now}
 use Rattle.g9932.specs.Sizes.{entry, toneOf}
 use borrow.Author.Needs.{needs}
 use Rattle.tables.proofs.tone_of_place.Statement.{statement}

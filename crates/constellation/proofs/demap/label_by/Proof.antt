@@ -1,5 +1,5 @@
 -- `constellation::demap::label_by` meets its contract: one label is left, and the grid tells whether it is the point's.
-use Rattle.constellation.proofs.DemapByLayout.{in-width, seen-law}
+use Rattle.constellation.proofs.DemapByLayout.{in-width, demaps-law}
 use mir.ValLaws.{toZ-ofZ}
 use mir.Syntax.{w16}
 use borrow.Author.Needs.{needs}
@@ -40,7 +40,7 @@ returns c =
     let a = c .before .before .before .before .before .before .before .before .before .axis-bits .result in
     let b = c .before .before .before .before .before .before .before .before .axis-bits2 .result in
     let t = c .before .before .before .before .before .before .top-of .result in
-    seen-law (s .args .layout) x y (a .bits) (b .bits) (c .before .before .before .before .before .before .before .word-of .result) (t .three) (c .before .before .before .before .before .label-below .result) (a .on) (b .on) (t .on)
+    demaps-law (s .args .layout) x y (a .bits) (b .bits) (c .before .before .before .before .before .before .before .word-of .result) (t .three) (c .before .before .before .before .before .label-below .result) (a .on) (b .on) (t .on)
     (c .before .is-origin .result) ax ay (c .before .before .before .before .before .before .before .word-of .ensures) (c .before .before .before .before .before .before .top-of .ensures) (c .before .before .before .before .before .label-below .ensures) o (c .pick .result) (c .pick .ensures)
 
 pub label-by-spec : {M : Type 1} → statement M

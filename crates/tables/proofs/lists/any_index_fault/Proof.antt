@@ -1,15 +1,15 @@
 -- `tables::lists::any_index_fault` meets its contract. The invariant: `any` tells of the indices before i. The measure is what is
 -- left.
-use borrow.Author.Needs.{needs}
-use native.Mathlib.Omega.{arith}
 use mathlib.Core.Bool.{Bool}
 use mathlib.Core.Path.{_≡_, sym, ap, _∙_}
 use Prim.Native.Nat.{_-_, _≤_}
+use native.Mathlib.Omega.{arith}
 use lib.ListN.{length}
 use denote.Ref.{now}
 use Rattle.g9932.specs.Sizes.{entry}
 use Rattle.tables.specs.Checks.{anyBelow, indexBy, indexFault}
 use Rattle.tables.proofs.Scans.{any-none, any-more, any-end}
+use borrow.Author.Needs.{needs}
 use Rattle.tables.proofs.lists.any_index_fault.Statement.{statement}
 use Rattle.tables.proofs.lists.any_index_fault.Tie as tie
 

@@ -1,13 +1,13 @@
 -- `tables::lists::any_tone_fault` meets its contract. The invariant: `any` tells of the places before i. The measure is what is
 -- left of t.
-use borrow.Author.Needs.{needs}
-use native.Mathlib.Omega.{arith}
 use mathlib.Core.Path.{_≡_, refl}
 use Prim.Native.Nat.{_-_, _≤_}
+use native.Mathlib.Omega.{arith}
 use lib.ListN.{length}
 use Rattle.g9932.specs.Refusals.{toneTest}
 use Rattle.tables.specs.Checks.{anyBelow}
 use Rattle.tables.proofs.Scans.{any-none, any-more, any-end}
+use borrow.Author.Needs.{needs}
 use Rattle.tables.proofs.lists.any_tone_fault.Statement.{statement}
 use Rattle.tables.proofs.lists.any_tone_fault.Tie as tie
 

@@ -1,24 +1,25 @@
 -- `tables::lists::count_marks` meets its contract. The invariant: the marks so far with those from i on are all. The measure is what
 -- is left.
-use borrow.Author.Needs.{needs}
-use native.Mathlib.Numerals.{add-one}
-use native.Mathlib.Omega.{arith}
 use mathlib.Core.Bool.{false}
 use mathlib.Core.List.{_∷_}
 use mathlib.Core.Path.{_≡_, ap}
 use Prim.Native.Nat.{_+_, _-_, _≤_}
+use native.Mathlib.Numerals.{add-one}
+use native.Mathlib.Omega.{arith}
 use lib.ListN.{getD, drop, drop-of-length-le}
 use lib.Seq.{drop-cons}
 use denote.Ref.{now}
 use Rattle.tables.specs.Checks.{trues}
+use Rattle.g9932.specs.Sizes.{mostTones}
+use borrow.Author.Needs.{needs}
 use Rattle.tables.proofs.lists.count_marks.Statement.{statement}
 use Rattle.tables.proofs.lists.count_marks.Tie as tie
 
 abbrev Inv-loop : tie.InvT-loop
-Inv-loop seen n₀ i₀ n i = (i ≤ 4096) × (n + trues (drop i seen) ≡ trues seen) × (n ≤ i)
+Inv-loop seen n₀ i₀ n i = (i ≤ mostTones) × (n + trues (drop i seen) ≡ trues seen) × (n ≤ i)
 
 abbrev μ-loop : tie.MeasureT-loop
-μ-loop seen n₀ i₀ n i = 4096 - i
+μ-loop seen n₀ i₀ n i = mostTones - i
 
 loop-holds : tie.Need-loop-holds Inv-loop μ-loop
 loop-holds c = omega arith

@@ -1,9 +1,8 @@
 -- `tables::lists::first_index` meets its contract. The invariant: the rule applies to no index before i. The measure is what is
 -- left.
-use borrow.Author.Needs.{needs}
-use native.Mathlib.Omega.{arith}
 use mathlib.Core.Path.{_≡_, _∙_}
 use Prim.Native.Nat.{_-_, _≤_}
+use native.Mathlib.Omega.{arith}
 use lib.ListN.{length}
 use denote.Ref.{now}
 use Rattle.g9932.specs.Bits.{first}
@@ -11,6 +10,7 @@ use Rattle.tables.specs.Checks.{ruleBy, ruleTest}
 use Rattle.g9932.specs.declared.Found.the-variants.{Nothing}
 use Rattle.g9932.proofs.Search.{first-none, first-more, first-at, first-end}
 use Rattle.tables.proofs.Faults.{test-at}
+use borrow.Author.Needs.{needs}
 use Rattle.tables.proofs.lists.first_index.Statement.{statement}
 use Rattle.tables.proofs.lists.first_index.Tie as tie
 

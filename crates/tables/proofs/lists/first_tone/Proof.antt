@@ -1,16 +1,17 @@
 -- `tables::lists::first_tone` meets its contract. The invariant: no entry before place i is G or more. The measure is what is
 -- left of t.
-use borrow.Author.Needs.{needs}
-use native.Mathlib.Omega.{arith}
 use mathlib.Core.Path.{_≡_, _∙_, ap, sym}
 use Prim.Native.Nat.{_-_, _≤_}
+use native.Mathlib.Omega.{arith}
 use lib.ListN.{length}
 use lib.Dec.{leb}
-use borrow.Author.Tests.{le-leb, lt-leb}
+use borrow.Author.Tests.{le-leb, lt-leb, not-true}
+use Rattle.tables.proofs.Scans.{any-nothing}
 use Rattle.g9932.specs.Bits.{first}
 use Rattle.g9932.specs.Refusals.{toneTest}
 use Rattle.g9932.specs.declared.Found.the-variants.{Nothing}
 use Rattle.g9932.proofs.Search.{first-none, first-more, first-at, first-end}
+use borrow.Author.Needs.{needs}
 use Rattle.tables.proofs.lists.first_tone.Statement.{statement}
 use Rattle.tables.proofs.lists.first_tone.Tie as tie
 
@@ -20,14 +21,20 @@ Inv-loop g tones i₀ i = (i ≤ length tones) × (first (toneTest g tones) i �
 abbrev μ-loop : tie.MeasureT-loop
 μ-loop g tones i₀ i = length tones - i
 
+any-tone-fault-requires : tie.Need-any-tone-fault-requires Inv-loop μ-loop
+any-tone-fault-requires c κs = search needs
+
+returns : tie.Need-returns Inv-loop μ-loop
+returns c = sym (any-nothing _ _ (sym (c .before .any-tone-fault .ensures) ∙ not-true _ (c .if1 .taken)))
+
 loop-holds : tie.Need-loop-holds Inv-loop μ-loop
 loop-holds c = (omega arith, first-none _)
 
 tone-at-requires : tie.Need-tone-at-requires Inv-loop μ-loop
 tone-at-requires c κs = search needs
 
-returns : tie.Need-returns Inv-loop μ-loop
-returns c = first-at _ _ _ (c .before .before .before .before .loop .inv .1) (ap (leb (c .before .before .before .before .before .before .args .g)) (sym (c .before .before .tone-at .ensures)) ∙ le-leb _ _ (c .if1 .taken)) (omega arith)
+returns-2 : tie.Need-returns-2 Inv-loop μ-loop
+returns-2 c = first-at _ _ _ (c .before .before .before .before .loop .inv .1) (ap (leb (c .before .before .before .before .before .before .before .before .args .g)) (sym (c .before .before .tone-at .ensures)) ∙ le-leb _ _ (c .if2 .taken)) (omega arith)
 
 add-i : tie.Need-add-i Inv-loop μ-loop
 add-i c = search needs
@@ -36,10 +43,10 @@ loop-less : tie.Need-loop-less Inv-loop μ-loop
 loop-less c = search needs
 
 loop-again : tie.Need-loop-again Inv-loop μ-loop
-loop-again c = (omega arith, first-more _ _ (c .before .before .before .before .loop .inv .1) (ap (leb (c .before .before .before .before .before .before .args .g)) (sym (c .before .before .tone-at .ensures)) ∙ lt-leb _ _ (c .if1 .left)))
+loop-again c = (omega arith, first-more _ _ (c .before .before .before .before .loop .inv .1) (ap (leb (c .before .before .before .before .before .before .before .before .args .g)) (sym (c .before .before .tone-at .ensures)) ∙ lt-leb _ _ (c .if2 .left)))
 
-returns-2 : tie.Need-returns-2 Inv-loop μ-loop
-returns-2 c = first-end _ _ _ (c .before .loop .inv .1) (omega arith) (omega arith)
+returns-3 : tie.Need-returns-3 Inv-loop μ-loop
+returns-3 c = first-end _ _ _ (c .before .loop .inv .1) (omega arith) (omega arith)
 
 pub first-tone-spec : {M : Type 1} → statement M
 first-tone-spec =
@@ -47,10 +54,12 @@ first-tone-spec =
     (tie.spec
     Inv-loop
     μ-loop
+    any-tone-fault-requires
+    returns
     loop-holds
     tone-at-requires
-    returns
+    returns-2
     add-i
     loop-less
     loop-again
-    returns-2)
+    returns-3)

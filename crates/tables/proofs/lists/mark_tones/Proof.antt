@@ -1,14 +1,14 @@
 -- `tables::lists::mark_tones` meets its contract. The invariant: marking what is left of t gives what marking all of it gives. The
 -- measure is what is left of t.
-use borrow.Author.Needs.{needs}
-use native.Mathlib.Omega.{arith}
 use mathlib.Core.Path.{_≡_, refl}
 use Prim.Native.Nat.{_-_, _≤_}
+use native.Mathlib.Omega.{arith}
 use lib.ListN.{length, drop, drop-of-length-le}
 use denote.Ref.{now}
 use Rattle.tables.specs.Checks.{marked}
-use Rattle.tables.proofs.Counts.{tones-next}
+use Rattle.tables.proofs.Counting.{tones-next}
 use Rattle.tables.proofs.Marks.{marked-step, marked-done}
+use borrow.Author.Needs.{needs}
 use Rattle.tables.proofs.lists.mark_tones.Statement.{statement}
 use Rattle.tables.proofs.lists.mark_tones.Tie as tie
 

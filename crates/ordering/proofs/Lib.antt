@@ -1,0 +1,5 @@
+pub mod Runs
+pub mod Placing
+pub mod Pairs
+pub mod Written
+pub mod Answers

@@ -1,0 +1,76 @@
+-- `ordering::order::place_ones` meets its contract. The invariant: writing the 1-bit tones left from the cursor gives what writing
+-- them all gives from the start. The measure is what is left of t.
+use Prim.Native.Nat.{_-_, _<_}
+use mathlib.Core.Path.{_≡_, refl, _∙_}
+use lib.ListN.{length}
+use denote.Ref.{now}
+use native.Mathlib.Omega.{arith}
+use Rattle.ordering.proofs.Placing.{OnesLeft, ones-start, ones-end, one-room, one-more, one-past}
+use borrow.Author.Needs.{needs}
+use Rattle.ordering.proofs.order.place_ones.Statement.{statement}
+use Rattle.ordering.proofs.order.place_ones.Tie as tie
+
+abbrev Inv-loop : tie.InvT-loop
+Inv-loop bits tones behind reordered-tones₀ one₀ i₀ reordered-tones one i = (length reordered-tones ≡ length reordered-tones₀) × OnesLeft bits tones behind reordered-tones₀ reordered-tones one i
+
+abbrev μ-loop : tie.MeasureT-loop
+μ-loop bits tones behind reordered-tones₀ one₀ i₀ reordered-tones one i = length tones - i
+
+-- there is room for a 1-bit tone at place i
+room : (c : tie.After-bits-at Inv-loop μ-loop) → c .bits-at .result ≡ 1 → c .before .before .before .loop .one < length (now (c .before .before .before .before .before .before .before .args .reordered-tones))
+room c e = omega (arith, one-room (c .before .before .before .loop .inv .1) (c .before .tone-at .ensures) (c .bits-at .ensures) (omega arith) e, c .before .before .before .before .before .before .before .pre)
+
+loop-holds : tie.Need-loop-holds Inv-loop μ-loop
+loop-holds c = (refl, ones-start)
+
+tone-at-requires : tie.Need-tone-at-requires Inv-loop μ-loop
+tone-at-requires c κs = search needs
+
+bits-at-requires : tie.Need-bits-at-requires Inv-loop μ-loop
+bits-at-requires c κs = search needs
+
+add-i : tie.Need-add-i Inv-loop μ-loop
+add-i c = search needs
+
+put-tone-requires : tie.Need-put-tone-requires Inv-loop μ-loop
+put-tone-requires c κs = (omega (arith, room (c .before .before) (c .before .if1 .taken)), omega (arith, c .before .before .before .tone-at .ensures, c .before .before .before .before .before .before .before .shared-slice-known2 .given (c .before .before .before .before .before .loop .i)))
+
+add-one : tie.Need-add-one Inv-loop μ-loop
+add-one c = omega (arith, room (c .before .before .before .before .before) (c .before .before .before .before .if1 .taken), c .before .before .before .before .before .before .before .before .before .before .before .before .good)
+
+loop-less : tie.Need-loop-less Inv-loop μ-loop
+loop-less c = omega arith
+
+loop-again : tie.Need-loop-again Inv-loop μ-loop
+loop-again c = (c .before .before .put-tone .kept .0 ∙ c .before .before .before .before .before .before .before .before .loop .inv .0, one-more (c .before .before .before .before .before .before .before .before .loop .inv .1) (c .before .before .before .before .before .before .tone-at .ensures) (c .before .before .before .before .before .bits-at .ensures) (omega arith) (c .before .before .before .before .if1 .taken) (c .before .before .put-tone .ensures))
+
+loop-less-2 : tie.Need-loop-less-2 Inv-loop μ-loop
+loop-less-2 c = omega arith
+
+loop-again-2 : tie.Need-loop-again-2 Inv-loop μ-loop
+loop-again-2 c = (c .before .before .before .before .loop .inv .0, one-past (c .before .before .before .before .loop .inv .1) (c .before .before .tone-at .ensures) (c .before .bits-at .ensures) (omega arith) (c .if1 .left))
+
+same-length : tie.Need-same-length Inv-loop μ-loop
+same-length c = search needs
+
+returns : tie.Need-returns Inv-loop μ-loop
+returns c = ones-end (c .before .loop .inv .1) (omega arith)
+
+pub place-ones-spec : {M : Type 1} → statement M
+place-ones-spec =
+    tie.close
+    (tie.spec
+    Inv-loop
+    μ-loop
+    loop-holds
+    tone-at-requires
+    bits-at-requires
+    add-i
+    put-tone-requires
+    add-one
+    loop-less
+    loop-again
+    loop-less-2
+    loop-again-2
+    same-length
+    returns)

@@ -1,0 +1,124 @@
+-- `ordering::order::place_others` meets its contract. The invariant: writing the two lists of the tones left, each from its
+-- cursor, gives what the whole lists give from the start. The measure is what is left of t.
+use Prim.Native.Nat.{ℕ, zero, suc, _-_, _<_, _≤_}
+use mathlib.Core.Path.{_≡_, refl, _∙_}
+use lib.ListN.{length, length-set}
+use denote.Ref.{now}
+use native.Mathlib.Omega.{arith}
+use Rattle.ordering.proofs.Placing.{Ahead, ahead-start, ahead-end, other-room, big-room, ahead-one, ahead-big, ahead-zero}
+use borrow.Author.Needs.{needs}
+use Rattle.ordering.proofs.order.place_others.Statement.{statement}
+use Rattle.ordering.proofs.order.place_others.Tie as tie
+
+abbrev Inv-loop : tie.InvT-loop
+Inv-loop bits tones from reordered-tones₀ reordered-bits₀ other₀ at₀ i₀ reordered-tones reordered-bits other at i = (length reordered-tones ≡ length reordered-tones₀) × (length reordered-bits ≡ length reordered-bits₀) × Ahead bits tones from reordered-tones₀ reordered-bits₀ reordered-tones reordered-bits other at i
+
+abbrev μ-loop : tie.MeasureT-loop
+μ-loop bits tones from reordered-tones₀ reordered-bits₀ other₀ at₀ i₀ reordered-tones reordered-bits other at i = length tones - i
+
+-- there is room for the tone at place i, where it has not 1 bit,
+front-room : (c : tie.After-bits-of Inv-loop μ-loop) → (c .bits-of .result ≡ 1 → ⊥) → c .before .before .before .loop .other < length (now (c .before .before .before .before .before .before .before .before .args .reordered-tones))
+front-room c e = omega (arith, other-room (c .before .before .before .loop .inv .2) (c .before .tone-at .ensures) (c .bits-of .ensures) (omega arith) e, c .before .before .before .before .before .before .before .before .pre .tonesFit)
+
+-- and for its bits, where there are at least 2
+bits-room : (c : tie.After-bits-of Inv-loop μ-loop) → 2 ≤ c .bits-of .result → c .before .before .before .loop .at < length (now (c .before .before .before .before .before .before .before .before .args .reordered-bits))
+bits-room c e = omega (arith, big-room (c .before .before .before .loop .inv .2) (c .before .tone-at .ensures) (c .bits-of .ensures) (omega arith) e, c .before .before .before .before .before .before .before .before .pre .bitsFit)
+
+-- else it has 1 bit
+single : (n : ℕ) → n < 2 → (n ≡ 0 → ⊥) → n ≡ 1
+single zero h e = absurd (e refl)
+single (suc zero) h e = refl
+single (suc (suc n)) h e = absurd (omega arith)
+
+loop-holds : tie.Need-loop-holds Inv-loop μ-loop
+loop-holds c = (refl, refl, ahead-start)
+
+tone-at-requires : tie.Need-tone-at-requires Inv-loop μ-loop
+tone-at-requires c κs = search needs
+
+bits-of-requires : tie.Need-bits-of-requires Inv-loop μ-loop
+bits-of-requires c κs = omega (arith, c .tone-at .ensures, c .before .before .before .before .before .before .before .pre .below (c .before .before .loop .i) (omega arith))
+
+add-i : tie.Need-add-i Inv-loop μ-loop
+add-i c = search needs
+
+put-tone-requires : tie.Need-put-tone-requires Inv-loop μ-loop
+put-tone-requires c κs = (omega (arith, front-room (c .before .before) (λ e. omega (arith, c .before .if1 .taken))), omega (arith, c .before .before .before .tone-at .ensures, c .before .before .before .before .before .before .before .before .shared-slice-known2 .given (c .before .before .before .before .before .loop .i)))
+
+add-other : tie.Need-add-other Inv-loop μ-loop
+add-other c = omega (arith, front-room (c .before .before .before .before .before) (λ e. omega (arith, c .before .before .before .before .if1 .taken)), c .before .before .before .before .before .before .before .before .before .before .before .before .before .good)
+
+slice-write-reordered-bits : tie.Need-slice-write-reordered-bits Inv-loop μ-loop
+slice-write-reordered-bits c = omega (arith, bits-room (c .before .before .before .before .before) (c .before .before .before .before .if1 .taken))
+
+add-at : tie.Need-add-at Inv-loop μ-loop
+add-at c = omega (arith, bits-room (c .before .before .before .before .before) (c .before .before .before .before .if1 .taken), c .before .before .before .before .before .before .before .before .before .before .before .before .before .good)
+
+loop-less : tie.Need-loop-less Inv-loop μ-loop
+loop-less c = omega arith
+
+loop-again : tie.Need-loop-again Inv-loop μ-loop
+loop-again c =
+    let l = c .before .before .before .before .before .before .before .before .loop in
+    let p = c .before .before .put-tone in
+    let v = c .before .before .before .before .before .bits-of in
+    (p .kept .0 ∙ l .inv .0, length-set (l .reordered-bits) (l .at) (v .result) ∙ l .inv .1, ahead-big (l .inv .2) (c .before .before .before .before .before .before .tone-at .ensures) (v .ensures) (omega arith) (λ e. omega (arith, c .before .before .before .before .if1 .taken)) (p .ensures) (c .before .before .before .before .if1 .taken))
+
+put-tone-requires-2 : tie.Need-put-tone-requires-2 Inv-loop μ-loop
+put-tone-requires-2 c κs = (omega (arith, front-room (c .before .before .before) (λ e. omega (arith, c .before .if2 .taken))), omega (arith, c .before .before .before .before .tone-at .ensures, c .before .before .before .before .before .before .before .before .before .shared-slice-known2 .given (c .before .before .before .before .before .before .loop .i)))
+
+add-other-2 : tie.Need-add-other-2 Inv-loop μ-loop
+add-other-2 c = omega (arith, front-room (c .before .before .before .before .before .before) (λ e. omega (arith, c .before .before .before .before .if2 .taken)), c .before .before .before .before .before .before .before .before .before .before .before .before .before .before .good)
+
+loop-less-2 : tie.Need-loop-less-2 Inv-loop μ-loop
+loop-less-2 c = omega arith
+
+loop-again-2 : tie.Need-loop-again-2 Inv-loop μ-loop
+loop-again-2 c =
+    let l = c .before .before .before .before .before .before .before .before .before .loop in
+    let p = c .before .before .put-tone2 in
+    (p .kept .0 ∙ l .inv .0, l .inv .1, ahead-zero (l .inv .2) (c .before .before .before .before .before .before .before .tone-at .ensures) (c .before .before .before .before .before .before .bits-of .ensures) (omega arith) (λ e. omega (arith, c .before .before .before .before .if2 .taken)) (p .ensures) (c .before .before .before .before .before .if1 .left))
+
+loop-less-3 : tie.Need-loop-less-3 Inv-loop μ-loop
+loop-less-3 c = omega arith
+
+loop-again-3 : tie.Need-loop-again-3 Inv-loop μ-loop
+loop-again-3 c =
+    let l = c .before .before .before .before .before .loop in
+    let e : c .before .before .bits-of .result ≡ 1 = single _ (c .before .if1 .left) (c .if2 .left) in
+    (l .inv .0, l .inv .1, ahead-one (l .inv .2) (c .before .before .before .tone-at .ensures) (c .before .before .bits-of .ensures) (omega arith) e)
+
+same-length : tie.Need-same-length Inv-loop μ-loop
+same-length c = search needs
+
+same-length-2 : tie.Need-same-length-2 Inv-loop μ-loop
+same-length-2 c = search needs
+
+returns : tie.Need-returns Inv-loop μ-loop
+returns c = ahead-end (c .before .loop .inv .2) (omega arith)
+
+pub place-others-spec : {M : Type 1} → statement M
+place-others-spec =
+    tie.close
+    (tie.spec
+    Inv-loop
+    μ-loop
+    loop-holds
+    tone-at-requires
+    bits-of-requires
+    add-i
+    put-tone-requires
+    add-other
+    slice-write-reordered-bits
+    add-at
+    loop-less
+    loop-again
+    put-tone-requires-2
+    add-other-2
+    loop-less-2
+    loop-again-2
+    loop-less-3
+    loop-again-3
+    same-length
+    same-length-2
+    returns)
