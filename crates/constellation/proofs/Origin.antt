@@ -12,7 +12,7 @@ use Rattle.g9932.specs.Sizes.{Point, point, origin}
 zero-bits : (x : ℤ) → SFits w16 x → ofZ w16 x ≡ 0 → x ≡ pos 0
 zero-bits x h e = sym (toZ-ofZ w16 x h) ∙ ap (toZ w16) e
 
-differs : (p q : Point) → (p ≡ q → ⊥) → samePoint p q ≡ false
+pub differs : (p q : Point) → (p ≡ q → ⊥) → samePoint p q ≡ false
 differs p q h = go (samePoint p q) refl
   where
     go : (c : Bool) → samePoint p q ≡ c → samePoint p q ≡ false

@@ -7,8 +7,8 @@ use borrow.Author.Tests.{eqb-true, eqb-false}
 use lib.Dec.{eqb}
 use lib.ListN.{length}
 use Rattle.constellation.proofs.Origin.{differs}
-use Rattle.constellation.specs.Reading.{SoughtIs}
-use Rattle.constellation.specs.declared.Sought.{Sought}
+use Rattle.constellation.specs.Reading.{FoundLabelIs}
+use Rattle.constellation.specs.declared.FoundLabel.{FoundLabel}
 use Rattle.g9932.proofs.Constellations.{samePoint-self, point-inj}
 use Rattle.g9932.proofs.Labels.{label-point, label-back}
 use Rattle.g9932.proofs.Words.{num-lt, num-inj, bits-num}
@@ -18,7 +18,7 @@ use Rattle.g9932.specs.Points.{pointOf, samePoint, labelOf, isLabel, labelBits}
 use Rattle.g9932.specs.Sizes.{Point}
 
 -- the label found is the tone's bits
-pub label-read : (b : ℕ) (p : Point) (s : Sought) → SoughtIs s (labelOf b p) → isLabel (labelOf b p) ≡ true
+pub label-read : (b : ℕ) (p : Point) (s : FoundLabel) → FoundLabelIs s (labelOf b p) → isLabel (labelOf b p) ≡ true
     → (bits b (s .label) ≡ labelBits (labelOf b p)) × (s .label < 2 ^ b)
 label-read b p s is on =
     let v : List Bool = labelBits (labelOf b p) in
@@ -27,7 +27,7 @@ label-read b p s is on =
     (rw e (ap (λ (m : ℕ). bits m (num v)) (sym n) ∙ bits-num v), rw e (rw n at (num-lt v)))
 
 -- a point is the filler's where its label is
-pub filler-read : (r label : ℕ) (p : Point) (s : Sought) → SoughtIs s (labelOf 2 p) → label ≡ num (drawn 2 r)
+pub filler-read : (r label : ℕ) (p : Point) (s : FoundLabel) → FoundLabelIs s (labelOf 2 p) → label ≡ num (drawn 2 r)
     → s .found && eqb (s .label) label ≡ samePoint p (pointOf 2 (drawn 2 r))
 filler-read r label p s is e = go (isLabel (labelOf 2 p)) refl
   where

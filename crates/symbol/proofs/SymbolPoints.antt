@@ -11,7 +11,7 @@ use lib.Seq.{take-at, drop-at, take-length, ext-getD}
 use Rattle.constellation.specs.DemapByLayout.{Demaps}
 use Rattle.constellation.specs.Layouts.{layoutOf, classLayout, ToneLayout, carries, nothing}
 use Rattle.constellation.specs.MapByLayout.{Mappable, label, silent, MapsTo}
-use Rattle.constellation.specs.Reading.{SoughtIs}
+use Rattle.constellation.specs.Reading.{FoundLabelIs}
 use Rattle.frame.specs.Labels.{bitsOfLabels}
 use Rattle.g9932.proofs.Search.{first-all, first-at}
 use Rattle.g9932.proofs.Words.{num-lt, bits-num, length-bits}
@@ -63,7 +63,7 @@ mapped Silent r l p h s m = m .silent refl
 
 -- ---- reading
 
-sought-on : (n : ℕ) (p : Point) (l : ℕ) → 1 ≤ n → n ≤ 15 → LabelIs (layoutOf n) p l → SoughtIs (record { found = true; label = l }) (labelOf n p)
+sought-on : (n : ℕ) (p : Point) (l : ℕ) → 1 ≤ n → n ≤ 15 → LabelIs (layoutOf n) p l → FoundLabelIs (record { found = true; label = l }) (labelOf n p)
 sought-on n p l h k d = d .sought n h k refl
 
 -- the label of a point in a tone's constellation has the tone's bits
