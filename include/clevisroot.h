@@ -110,7 +110,7 @@ extern "C" {
 #define CLEVISROOT_MAX_FRAME 7680
 
 /* The most bytes of stack that a call takes, its own frame and those below. Measured, not proved. */
-#define CLEVISROOT_STACK 49152
+#define CLEVISROOT_STACK 57344
 
 /* The numbers of the answers; clevisroot_names.h has their names for logs. */
 enum {
