@@ -125,10 +125,7 @@ fn turned(tables_name: &str, tables: &Tables) -> Vec<String> {
     let written = read_back(tables, &points);
     let turned = read_back(tables, &half_turn(&points));
     let answer = match turned.number {
-        0 => format!(
-            "read as {}, the turn is not detected",
-            frame_line(&turned)
-        ),
+        0 => format!("read as {}, the turn is not detected", frame_line(&turned)),
         15 => format!("refused 15 {} at pair {}", name(15), turned.place),
         number => format!(
             "refused {number} {} at place {}",
