@@ -29,7 +29,7 @@ answerOf v reg = record { number = v .number; place = v .place; size = v .size; 
 abbrev pub reported : Report → SymbolAnswer
 reported a = answerOf (a .verdict) (a .register)
 
--- what a C answer has room for
+-- bounds that a C answer has room for
 pub record Small (v : Verdict) : Type 0 where
   pub placeMost : v .place ≤ 8192
   pub sizeMost : v .number ≡ 0 → v .size ≤ 61_440

@@ -20,7 +20,7 @@ labels-more [] (a ∷ ls) e l h = absurd (omega arith)
 labels-more (d ∷ es) [] e l h = absurd (omega arith)
 labels-more (d ∷ es) (a ∷ ls) e l h = ap (λ t. bits d a ++ t) (labels-more es ls e l (omega arith)) ∙ sym (append-assoc (bits d a) (bitsOfLabels es ls) (bits e l))
 
--- labels past the last count spell nothing
+-- labels past the last count add no bits
 pub labels-take : (es ls : List ℕ) → bitsOfLabels es (take (length es) ls) ≡ bitsOfLabels es ls
 labels-take [] ls = refl
 labels-take (e ∷ es) [] = refl

@@ -142,13 +142,13 @@ module _ (T : Tables) (ok : AcceptedTables T) where
 
 -- ---- which bits go where
 
--- The lowest bits of a word, in all 16 rows of Table 10-2.
+-- The lowest label bits of a word, in all 16 rows of Table 10-2.
 pub table-10-2 : (u3 u2 u1 u0 : Bool)
     → lowBits u0 u1 u2 u3 .w0 ∷ lowBits u0 u1 u2 u3 .w1 ∷ lowBits u0 u1 u2 u3 .v0 ∷ lowBits u0 u1 u2 u3 .v1 ∷ []
     ≡ bits 4 (getD table10-2 (num (u3 ∷ u2 ∷ u1 ∷ u0 ∷ [])) 0)
 table-10-2 = Coded.table-10-2
 
--- Sent bits go v then w, lowest first;
+-- The two lowest bits of v are sent first, those of w right after v's x bits;
 pub sent-low : (x y : ℕ) (u : Word) → 2 ≤ x → length (u .high) ≡ x + y - 4 → 2 ≤ y
     → (take 2 (sentBits x u) ≡ lowBitsOf u .v0 ∷ lowBitsOf u .v1 ∷ []) × (take 2 (drop x (sentBits x u)) ≡ lowBitsOf u .w0 ∷ lowBitsOf u .w1 ∷ [])
 sent-low = Coded.sent-low
@@ -159,7 +159,7 @@ sent-low-alone = Coded.sent-low-alone
 
 -- In accepted tables, coded, with an accepted frame:
 module _ (T : Tables) (ok : AcceptedTables T) (m : T .mode ≡ Coded) (f : List ℕ) (a : AcceptedFrame T f) where
-  -- the label of each entry of b' begins with v0 v1 of its pair's word, or with w0 w1 where it is the second of its pair,
+  -- the label of each of the N entries begins with v0 v1 of its pair's word, or with w0 w1 where it is the second of its pair,
   pub entries-low : map (take 2) (labelsOf (entries (T .bits) (T .tones)) (sentIn T f)) ≡ lowest (pairsIn T) (wordsIn T f)
   entries-low = Coded.entries-low T ok m f a
 

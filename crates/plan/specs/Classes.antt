@@ -12,7 +12,8 @@ use Rattle.g9932.specs.declared.Class.{Class}
 use Rattle.g9932.specs.declared.Class.the-variants.{Data, Silent}
 use Rattle.plan.specs.Plan.{Carries, placesWhere, everySecond}
 
--- The tones before place `from` have entries of their own, from `least` bits on; from there on two by two share one.
+-- The tones before place `from` have entries of their own, from `least` bits on, and none of them has fewer but 0; from there on two by
+-- two share one.
 pub record PlanOf (cs : List Class) (from : ℕ) (es ps ms layouts : List ℕ) : Type 0 where
   pub own : List Class
   pub shared : ℕ

@@ -25,7 +25,7 @@ use Rattle.plan.specs.declared.filing.Cursors.{Cursors}
 
 -- ---- the plan of accepted tables
 
--- the bits from which on a tone has an entry of b' of its own; coded, two tones of 1 bit share one
+-- the bits from which on a tone has a non-zero entry of b' of its own; coded, two tones of 1 bit share one
 abbrev pub leastOwn : Mode → ℕ
 leastOwn Uncoded = 1
 leastOwn Coded = 2
@@ -53,7 +53,7 @@ layoutsIn T = map classLayout (classesOf T)
 abbrev pub sharedFrom : Tables → ℕ
 sharedFrom T = length (T .tones) - sharing (T .mode) (T .bits) (T .tones)
 
--- by entry of b' past its zeros: its bits, and the place of its tone, of two that share it the first
+-- by non-zero entry of b': its bits, and the place of its tone, of two that share it the first
 abbrev pub entriesIn : Tables → List ℕ
 entriesIn T = filter (leb (leastOwn (T .mode))) (map load (classesOf T)) ++ replicate (sharing (T .mode) (T .bits) (T .tones) / 2) 2
 
@@ -83,7 +83,7 @@ abbrev pub Made : Tables → Planned → List ℕ → List ℕ → List ℕ → 
 Made T (Ready p) layouts entries places monitored = PlanIs T p layouts entries places monitored
 Made T (Refused x) layouts entries places monitored = Unit {0}
 
--- by the verdict of the refusals that are still open, and by that of all
+-- by the verdict of refusals 7 to 9 alone, or of 1 to 9
 pub record PlansBy (v : Verdict) (T : Tables) (r : Planned) (layouts entries places monitored : List ℕ) : Type 0 where
   pub answer : plannedVerdict r ≡ v
   pub made : Made T r layouts entries places monitored
@@ -107,7 +107,7 @@ pub record SizesFrame (m : Mode) (b t : List ℕ) (r : Sized) : Type 0 where
 
 -- ---- filing the tones
 
--- the four lists, in arrays that hold any
+-- the four lists, in arrays long enough for any tables
 pub record Arrays (layouts entries places monitored : List ℕ) : Type 0 where
   pub layoutsLength : length layouts ≡ mostTones
   pub entriesLength : length entries ≡ mostTones

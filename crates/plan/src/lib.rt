@@ -1,5 +1,5 @@
 // The plan of a symbol: what its passes need of the tables, made once. By place in t' it has the layout of the tone there; by entry of
-// b' past its zeros, the entry's bits and the place of its tone; and the monitored places.
+// b' that is not 0, the entry's bits and the place of its tone; and the monitored places.
 mod filing;
 
 ghost use mathlib.Core.Path.{_≡_};

@@ -48,7 +48,7 @@ unfolding sentBits
 sent-parts u zero h = absurd (omega arith)
 sent-parts u (suc a) h = refl
 
--- a number that is that of a list is spelled by it
+-- a number that is that of a list has its bits
 labels : (n v : ℕ) (l : List Bool) → v ≡ num l → length l ≡ n → (bits n v ≡ l) × (v < 2 ^ n)
 labels n v l e m = (rw (e, ← m) (bits-num l), rw (e, ← m) (num-lt l))
 

@@ -32,7 +32,7 @@ pub record PairNeeds (c : Coder) (forced : Bool) (p : Pair) (frame : List ℕ) :
   pub bits : c .at + taken forced p ≤ 8 * length frame
   pub small : length frame ≤ mostBytes
 
--- the labels v and w spell the pair's sent bits
+-- the bits of v, then of w, are the pair's sent bits
 pub record CodesPair (c : Coder) (forced : Bool) (p : Pair) (frame : List ℕ) (r : PairCode) : Type 0 where
   pub state : r .coder .state ≡ nextOf (c .state) (codedWord c forced p frame)
   pub at : r .coder .at ≡ c .at + taken forced p

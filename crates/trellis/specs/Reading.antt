@@ -1,4 +1,4 @@
--- Reading labels: a heard word as numbers, and what the reader asks and does.
+-- Reading labels: a decoded word as numbers, and what the reader asks and does.
 use Prim.Native.Nat.{ℕ, _+_, _-_, _*_, _/_, _^_, _≤_, _<_}
 use mathlib.Core.Bool.{Bool, true, false}
 use mathlib.Core.List.{List, [], _++_}

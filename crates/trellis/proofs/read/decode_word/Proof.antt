@@ -1,4 +1,4 @@
--- `trellis::read::hear` meets its contract: u4 upward fits.
+-- `trellis::read::decode_word` meets its contract: u4 upward fits.
 use native.Mathlib.Omega.{arith}
 use Rattle.g9932.specs.Bits.{odd}
 use Rattle.trellis.specs.Reading.{decodedOf}
