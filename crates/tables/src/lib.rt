@@ -84,7 +84,7 @@ pub struct Counts {
 }
 
 // The counts over all tones. Only tones have bits, so that they are the counts over the bit table. The sums fit 16 bits, and there
-// is no `if`, so that the compiler takes many entries at a time.
+// is no `if`, so that the compiler takes many entries at a time. Called by proved code only.
 pub fn count_tones(bits: &[u8], tones: &[u16]) -> Counts
     requires { ⌜ Medley (now bits) (now tones) ⌝ }
     ensures { λ r. ⌜ CountsAre r (now (bits .entry)) (now (tones .entry)) ⌝ }
