@@ -5,10 +5,10 @@ use mathlib.Core.List.{List, [], _∷_, _++_, map, map-append, append-nil, appen
 use mathlib.Core.Path.{_≡_, refl, sym, ap, _∙_}
 use native.Mathlib.Numerals.{add-one}
 use native.Mathlib.Omega.{arith}
-use borrow.Author.Tests.{ltb-true}
+use borrow.Author.Tests.{lt-ltb, ltb-true, ltb-false}
 use lib.Dec.{ltb, leb}
 use lib.ListN.{length, take, set, replicate, length-set, length-append, length-map}
-use lib.Seq.{take-suc, take-suc-set, take-set-le}
+use lib.Seq.{take-suc, take-suc-set}
 use Rattle.constellation.specs.Layouts.{classLayout}
 use Rattle.g9932.proofs.Counts.{filter-append}
 use Rattle.g9932.proofs.Words.{weight-le}
@@ -18,11 +18,10 @@ use Rattle.g9932.specs.Sizes.{entry, toneOf, classBy}
 use Rattle.g9932.specs.Symbol.{load, isMonitored}
 use Rattle.g9932.specs.declared.Class.{Class}
 use Rattle.g9932.specs.declared.Class.the-variants.{Data, Monitored, Silent}
-use Rattle.plan.specs.Plan.{Carries, classesBy, isPlaced, only, placesWhere, everySecond, Files, Filing, Shares}
+use Rattle.plan.specs.Plan.{Carries, classesBy, isPlaced, only, placesWhere, everySecond, FilesTone, Filing, Shares}
 use Rattle.plan.specs.declared.filing.Cursors.{Cursors}
-use Rattle.plan.specs.declared.filing.Filed.{Filed}
 
--- the class of a tone with at most 15 bits
+-- the class of a tone, by its bits
 pub carried : (b g : ℕ) → b ≤ 15 → Carries (toneOf b g .class)
 carried b g h = go (ltb 0 b) (ltb 0 g) refl
   where
@@ -31,13 +30,16 @@ carried b g h = go (ltb 0 b) (ltb 0 g) refl
     go false true e = tt
     go false false e = tt
 
--- each tone adds at most one to a list
-pub files-one : {least : ℕ} {c : Class} {f : Filed} → Files least c f → (f .place ≤ 1) × (f .entry ≤ 1) × (f .monitored ≤ 1)
-files-one {least = least} {c = c} w =
-    let p = weight-le (isPlaced least c) in
-    let e = weight-le (leb least (load c)) in
-    let m = weight-le (isMonitored c) in
-    (omega (arith, w .placeIs), omega (arith, w .entryIs), omega (arith, w .monitoredIs))
+pub load-class : (b g : ℕ) → load (toneOf b g .class) ≡ b
+load-class b g = go (ltb 0 b) (ltb 0 g) refl
+  where
+    go : (p q : Bool) → ltb 0 b ≡ p → load (classBy p (Data b) (classBy q Monitored Silent)) ≡ b
+    go true q e = refl
+    go false true e = omega (arith, ltb-false 0 b e)
+    go false false e = omega (arith, ltb-false 0 b e)
+
+pub data-class : (b g : ℕ) → 1 ≤ b → toneOf b g .class ≡ Data b
+data-class b g h = rw (lt-ltb 0 b h)
 
 -- ---- lists in two parts
 
@@ -61,44 +63,101 @@ only-append p (a ∷ l) m = go (p a) (only-append p l m)
 
 -- ---- a list that is filled up to a cursor
 
-advance : (l : List ℕ) (e x : ℕ) (b : Bool) → e < length l → take (e + weight b) (set l e x) ≡ take e l ++ consIf b x []
-unfolding weight
-advance l e x true h = rw add-one (take-suc-set l e x h)
-advance l e x false h = let z : e + 0 ≡ e = omega arith in rw z (take-set-le e l e x (omega arith) ∙ sym (append-nil (take e l)))
+pub more : (l : List ℕ) (e x : ℕ) → e < length l → take (e + 1) (set l e x) ≡ take e l ++ (x ∷ [])
+more l e x h = rw add-one (take-suc-set l e x h)
+
+pub no-more : (l : List ℕ) (e : ℕ) → take e l ≡ take e l ++ []
+no-more l e = sym (append-nil (take e l))
+
+-- ---- what one tone adds
+
+module _ (least : ℕ) (at : Cursors) (layouts entries places monitored : List ℕ) where
+  pub files-data : (b x : ℕ) → leb least b ≡ true → x ≡ classLayout (Data b) → at .place < length layouts → at .entry < length entries → at .entry < length places
+      → FilesTone least (Data b) at layouts entries places monitored (record { place = at .place + 1; entry = at .entry + 1; monitored = at .monitored })
+      (set layouts (at .place) x) (set entries (at .entry) b) (set places (at .entry) (at .place)) monitored
+  unfolding weight
+  files-data b x own is lt et pt =
+      record {
+        placeIs = rw own;
+        entryIs = rw own;
+        monitoredIs = omega arith;
+        layoutsAre = rw (own, is) (more layouts (at .place) (classLayout (Data b)) lt);
+        entriesAre = rw own (more entries (at .entry) b et);
+        placesAre = rw own (more places (at .entry) (at .place) pt);
+        monitoredAre = no-more monitored (at .monitored);
+      }
+
+  -- a tone that shares
+  pub files-none : (b : ℕ) → leb least b ≡ false → FilesTone least (Data b) at layouts entries places monitored at layouts entries places monitored
+  unfolding weight
+  files-none b not =
+      record {
+        placeIs = rw not (omega arith);
+        entryIs = rw not (omega arith);
+        monitoredIs = omega arith;
+        layoutsAre = rw not (no-more layouts (at .place));
+        entriesAre = rw not (no-more entries (at .entry));
+        placesAre = rw not (no-more places (at .entry));
+        monitoredAre = no-more monitored (at .monitored);
+      }
+
+  pub files-monitored : (x : ℕ) → leb least 0 ≡ false → x ≡ classLayout Monitored → at .place < length layouts → at .monitored < length monitored
+      → FilesTone least Monitored at layouts entries places monitored (record { place = at .place + 1; entry = at .entry; monitored = at .monitored + 1 })
+      (set layouts (at .place) x) entries places (set monitored (at .monitored) (at .place))
+  unfolding weight
+  files-monitored x not is lt mt =
+      record {
+        placeIs = refl;
+        entryIs = rw not (omega arith);
+        monitoredIs = refl;
+        layoutsAre = rw is (more layouts (at .place) (classLayout Monitored) lt);
+        entriesAre = rw not (no-more entries (at .entry));
+        placesAre = rw not (no-more places (at .entry));
+        monitoredAre = more monitored (at .monitored) (at .place) mt;
+      }
+
+  pub files-silent : (x : ℕ) → leb least 0 ≡ false → x ≡ classLayout Silent → at .place < length layouts
+      → FilesTone least Silent at layouts entries places monitored (record { place = at .place + 1; entry = at .entry; monitored = at .monitored }) (set layouts (at .place) x) entries places monitored
+  unfolding weight
+  files-silent x not is lt =
+      record {
+        placeIs = refl;
+        entryIs = rw not (omega arith);
+        monitoredIs = omega arith;
+        layoutsAre = rw is (more layouts (at .place) (classLayout Silent) lt);
+        entriesAre = rw not (no-more entries (at .entry));
+        placesAre = rw not (no-more places (at .entry));
+        monitoredAre = no-more monitored (at .monitored);
+      }
 
 -- ---- a tone more
 
--- the four lists with their cursors
-module _ (least : ℕ) (cs : List Class) (at : Cursors) (layouts entries places monitored : List ℕ) (f : Filing least cs at layouts entries places monitored)
-    (lt : at .place < length layouts) (et : at .entry < length entries) (pt : at .entry < length places) (mt : at .monitored < length monitored) where
+module _ (least : ℕ) (cs : List Class) {at r : Cursors} {layouts entries places monitored layoutsAfter entriesAfter placesAfter monitoredAfter : List ℕ} (c : Class)
+    (f : Filing least cs at layouts entries places monitored)
+    (w : FilesTone least c at layouts entries places monitored r layoutsAfter entriesAfter placesAfter monitoredAfter) where
   -- at a place of its own
-  placed : (c : Class) (x : Filed) → Files least c x → isPlaced least c ≡ true
-      → Filing least (cs ++ (c ∷ [])) (record { place = at .place + x .place; entry = at .entry + x .entry; monitored = at .monitored + x .monitored })
-      (set layouts (at .place) (x .layout)) (set entries (at .entry) (x .bits)) (set places (at .entry) (at .place)) (set monitored (at .monitored) (at .place))
+  placed : isPlaced least c ≡ true → Filing least (cs ++ (c ∷ [])) r layoutsAfter entriesAfter placesAfter monitoredAfter
   unfolding weight
-  placed c x w here =
+  placed here =
+      let one : r .place ≡ at .place + 1 = w .placeIs ∙ ap (λ (b : Bool). at .place + weight b) here in
       let n : 0 + length (map load cs) ≡ at .place = omega (arith, length-map cs load, f .placeIs) in
       let m : 0 + length cs ≡ at .place = omega (arith, f .placeIs) in
-      let one : x .place ≡ 1 = w .placeIs ∙ ap weight here in
       let z : map load (cs ++ (c ∷ [])) ≡ map load cs ++ (load c ∷ []) = map-append load cs (c ∷ []) in
       record {
         placeIs = sym (length-append cs (c ∷ []) ∙ omega (arith, f .placeIs));
-        layoutsAre = rw (w .placeIs, here, w .layoutIs) (advance layouts (at .place) (classLayout c) true lt ∙ ap (λ (l : List ℕ). l ++ (classLayout c ∷ [])) (f .layoutsAre) ∙ sym (map-append classLayout cs (c ∷ [])));
+        layoutsAre = w .layoutsAre ∙ rw here (ap (λ (l : List ℕ). l ++ (classLayout c ∷ [])) (f .layoutsAre)) ∙ sym (map-append classLayout cs (c ∷ []));
         entriesAre =
-            rw (w .entryIs, w .bitsIs)
-            (advance entries (at .entry) (load c) (leb least (load c)) et
+            w .entriesAre
             ∙ ap (λ (l : List ℕ). l ++ consIf (leb least (load c)) (load c) []) (f .entriesAre)
-            ∙ sym (ap (filter (leb least)) z ∙ filter-append (leb least) (map load cs) (load c ∷ [])));
+            ∙ sym (ap (filter (leb least)) z ∙ filter-append (leb least) (map load cs) (load c ∷ []));
         placesAre =
-            rw (w .entryIs)
-            (advance places (at .entry) (at .place) (leb least (load c)) pt
+            w .placesAre
             ∙ ap (λ (l : List ℕ). l ++ consIf (leb least (load c)) (at .place) []) (f .placesAre)
-            ∙ sym (ap (placesWhere (leb least) 0) z ∙ places-append (leb least) 0 (map load cs) (load c ∷ []) ∙ rw n));
+            ∙ sym (ap (placesWhere (leb least) 0) z ∙ places-append (leb least) 0 (map load cs) (load c ∷ []) ∙ rw n);
         monitoredAre =
-            rw (w .monitoredIs)
-            (advance monitored (at .monitored) (at .place) (isMonitored c) mt
+            w .monitoredAre
             ∙ ap (λ (l : List ℕ). l ++ consIf (isMonitored c) (at .place) []) (f .monitoredAre)
-            ∙ sym (places-append isMonitored 0 cs (c ∷ []) ∙ rw m));
+            ∙ sym (places-append isMonitored 0 cs (c ∷ []) ∙ rw m);
         entryMost = omega (arith, f .entryMost, w .entryIs, weight-le (leb least (load c)));
         monitoredMost = omega (arith, f .monitoredMost, w .monitoredIs, weight-le (isMonitored c));
       }
@@ -109,38 +168,33 @@ module _ (least : ℕ) (cs : List Class) (at : Cursors) (layouts entries places 
   passed Monitored e = let z : _≡_ {A = ℕ} 0 1 = cc in absurd (omega arith)
   passed Silent e = let z : _≡_ {A = ℕ} 0 1 = cc in absurd (omega arith)
 
-  same : (l : List ℕ) (e x : ℕ) → e < length l → take (e + 0) (set l e x) ≡ take e l
-  same l e x h = let z : e + 0 ≡ e = omega arith in rw z (take-set-le e l e x (omega arith))
-
-  skipped : (c : Class) (x : Filed) → Files least c x → isPlaced least c ≡ false
-      → Filing least cs (record { place = at .place + x .place; entry = at .entry + x .entry; monitored = at .monitored + x .monitored })
-      (set layouts (at .place) (x .layout)) (set entries (at .entry) (x .bits)) (set places (at .entry) (at .place)) (set monitored (at .monitored) (at .place))
+  skipped : isPlaced least c ≡ false → Filing least cs r layoutsAfter entriesAfter placesAfter monitoredAfter
   unfolding weight
-  skipped c x w not =
+  skipped not =
       let q = passed c not in
-      let a : x .place ≡ 0 = w .placeIs ∙ ap weight not in
-      let b : x .entry ≡ 0 = w .entryIs ∙ ap weight (q .0) in
-      let d : x .monitored ≡ 0 = w .monitoredIs ∙ ap weight (q .1) in
+      let a : r .place ≡ at .place + 0 = w .placeIs ∙ ap (λ (b : Bool). at .place + weight b) not in
+      let b : r .entry ≡ at .entry + 0 = w .entryIs ∙ ap (λ (b : Bool). at .entry + weight b) (q .0) in
+      let d : r .monitored ≡ at .monitored + 0 = w .monitoredIs ∙ ap (λ (b : Bool). at .monitored + weight b) (q .1) in
       record {
         placeIs = omega (arith, f .placeIs);
-        layoutsAre = rw a (same layouts (at .place) (x .layout) lt ∙ f .layoutsAre);
-        entriesAre = rw b (same entries (at .entry) (x .bits) et ∙ f .entriesAre);
-        placesAre = rw b (same places (at .entry) (at .place) pt ∙ f .placesAre);
-        monitoredAre = rw d (same monitored (at .monitored) (at .place) mt ∙ f .monitoredAre);
+        layoutsAre = w .layoutsAre ∙ rw not (append-nil (take (at .place) layouts)) ∙ f .layoutsAre;
+        entriesAre = w .entriesAre ∙ rw (q .0) (append-nil (take (at .entry) entries)) ∙ f .entriesAre;
+        placesAre = w .placesAre ∙ rw (q .0) (append-nil (take (at .entry) places)) ∙ f .placesAre;
+        monitoredAre = w .monitoredAre ∙ rw (q .1) (append-nil (take (at .monitored) monitored)) ∙ f .monitoredAre;
         entryMost = omega (arith, f .entryMost);
         monitoredMost = omega (arith, f .monitoredMost);
       }
 
-  pub tone-more : (c : Class) (x : Filed) → Files least c x
-      → Filing least (cs ++ only (isPlaced least) (c ∷ [])) (record { place = at .place + x .place; entry = at .entry + x .entry; monitored = at .monitored + x .monitored })
-      (set layouts (at .place) (x .layout)) (set entries (at .entry) (x .bits)) (set places (at .entry) (at .place)) (set monitored (at .monitored) (at .place))
-  tone-more c x w = go (isPlaced least c) refl
+  pub tone-more : Filing least (cs ++ only (isPlaced least) (c ∷ [])) r layoutsAfter entriesAfter placesAfter monitoredAfter
+  tone-more = go (isPlaced least c) refl
     where
-      go : (b : Bool) → isPlaced least c ≡ b
-          → Filing least (cs ++ cond b (c ∷ []) []) (record { place = at .place + x .place; entry = at .entry + x .entry; monitored = at .monitored + x .monitored })
-          (set layouts (at .place) (x .layout)) (set entries (at .entry) (x .bits)) (set places (at .entry) (at .place)) (set monitored (at .monitored) (at .place))
-      go true e = placed c x w e
-      go false e = rw (append-nil cs) (skipped c x w e)
+      go : (b : Bool) → isPlaced least c ≡ b → Filing least (cs ++ cond b (c ∷ []) []) r layoutsAfter entriesAfter placesAfter monitoredAfter
+      go true e = placed e
+      go false e = rw (append-nil cs) (skipped e)
+
+  -- each tone adds at most one place
+  pub one-place : r .place ≤ at .place + 1
+  one-place = omega (arith, w .placeIs, weight-le (isPlaced least c))
 
 -- the tones before place i of t, and the one there
 pub classes-more : (least : ℕ) (b g t : List ℕ) (i : ℕ) → i < length t
@@ -155,10 +209,6 @@ classes-more least b g t i h =
 
 -- ---- a shared entry more
 
--- of a list that is filled up to a cursor
-more : (l : List ℕ) (e x : ℕ) → e < length l → take (e + 1) (set l e x) ≡ take e l ++ (x ∷ [])
-more l e x h = rw add-one (take-suc-set l e x h)
-
 replicate-more : (n x : ℕ) → replicate n x ++ (x ∷ []) ≡ replicate (suc n) x
 replicate-more zero x = refl
 replicate-more (suc n) x = ap (λ (l : List ℕ). x ∷ l) (replicate-more n x)
@@ -169,21 +219,21 @@ second-more p (suc h) =
     let e : p + 2 * suc h ≡ suc (suc p) + 2 * h = omega arith in
     ap (λ (l : List ℕ). p ∷ l) (ap (λ (n : ℕ). everySecond (suc (suc p)) h ++ (n ∷ [])) e ∙ second-more (suc (suc p)) h)
 
-module _ {one from h at : ℕ} {layouts₀ entries₀ places₀ layouts entries places : List ℕ} (s : Shares one from h at layouts₀ entries₀ places₀ layouts entries places) where
+module _ {layout from h at : ℕ} {layouts₀ entries₀ places₀ layouts entries places : List ℕ} (s : Shares layout from h at layouts₀ entries₀ places₀ layouts entries places) where
   pub share-more : from + 2 * h + 1 < length layouts → at + h < length entries → at + h < length places
-      → Shares one from (h + 1) at layouts₀ entries₀ places₀ (set (set layouts (from + 2 * h) one) (from + 2 * h + 1) one) (set entries (at + h) 2) (set places (at + h) (from + 2 * h))
+      → Shares layout from (h + 1) at layouts₀ entries₀ places₀ (set (set layouts (from + 2 * h) layout) (from + 2 * h + 1) layout) (set entries (at + h) 2) (set places (at + h) (from + 2 * h))
   share-more lt et pt =
       let two : from + 2 * (h + 1) ≡ from + 2 * h + 1 + 1 = omega arith in
       let n : at + (h + 1) ≡ at + h + 1 = omega arith in
       let r : 2 * (h + 1) ≡ suc (suc (2 * h)) = omega arith in
-      let k = length-set layouts (from + 2 * h) one in
+      let k = length-set layouts (from + 2 * h) layout in
       record {
         layoutsAre =
             rw (two, r)
-            (more (set layouts (from + 2 * h) one) (from + 2 * h + 1) one (omega arith)
-            ∙ ap (λ (l : List ℕ). l ++ (one ∷ [])) (more layouts (from + 2 * h) one (omega arith) ∙ ap (λ (l : List ℕ). l ++ (one ∷ [])) (s .layoutsAre) ∙ append-assoc (take from layouts₀) (replicate (2 * h) one) (one ∷ []) ∙ ap (λ (l : List ℕ). take from layouts₀ ++ l) (replicate-more (2 * h) one))
-            ∙ append-assoc (take from layouts₀) (replicate (suc (2 * h)) one) (one ∷ [])
-            ∙ ap (λ (l : List ℕ). take from layouts₀ ++ l) (replicate-more (suc (2 * h)) one));
+            (more (set layouts (from + 2 * h) layout) (from + 2 * h + 1) layout (omega arith)
+            ∙ ap (λ (l : List ℕ). l ++ (layout ∷ [])) (more layouts (from + 2 * h) layout (omega arith) ∙ ap (λ (l : List ℕ). l ++ (layout ∷ [])) (s .layoutsAre) ∙ append-assoc (take from layouts₀) (replicate (2 * h) layout) (layout ∷ []) ∙ ap (λ (l : List ℕ). take from layouts₀ ++ l) (replicate-more (2 * h) layout))
+            ∙ append-assoc (take from layouts₀) (replicate (suc (2 * h)) layout) (layout ∷ [])
+            ∙ ap (λ (l : List ℕ). take from layouts₀ ++ l) (replicate-more (suc (2 * h)) layout));
         entriesAre =
             rw (n, add-one h)
             (more entries (at + h) 2 et
@@ -198,7 +248,7 @@ module _ {one from h at : ℕ} {layouts₀ entries₀ places₀ layouts entries 
             ∙ ap (λ (l : List ℕ). take at places₀ ++ l) (second-more from h));
       }
 
-pub share-none : {one from at : ℕ} {layouts entries places : List ℕ} → Shares one from 0 at layouts entries places layouts entries places
+pub share-none : {layout from at : ℕ} {layouts entries places : List ℕ} → Shares layout from 0 at layouts entries places layouts entries places
 share-none {from = from} {at = at} {layouts = layouts} {entries = entries} {places = places} =
     let e : from + 0 ≡ from = omega arith in
     let n : at + 0 ≡ at = omega arith in

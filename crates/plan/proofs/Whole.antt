@@ -4,32 +4,23 @@ use mathlib.Core.Bool.{Bool, true, false, not, cond}
 use mathlib.Core.List.{List, [], _∷_, _++_, map, map-append, append-nil}
 use mathlib.Core.Path.{_≡_, refl, sym, ap, ap₂, _∙_}
 use native.Mathlib.Omega.{arith}
-use borrow.Author.Tests.{eqb-true, ltb-true, ltb-false, le-leb}
+use borrow.Author.Tests.{eqb-true, ltb-true, le-leb}
 use lib.Dec.{ltb, leb}
 use lib.ListN.{length, take, replicate, length-append, length-replicate, length-map}
 use Rattle.constellation.specs.Layouts.{layoutOf, classLayout}
 use Rattle.g9932.proofs.Counts.{filter-append, filter-small, two-big, two-loaded, two-not-one}
 use Rattle.g9932.proofs.Reordering.{length-order}
 use Rattle.g9932.specs.Bits.{weight}
-use Rattle.g9932.specs.Order.{consIf, filter, isOne, bitsOf, oneBit, others, singles, ones, reorderedTones, entries}
+use Rattle.g9932.specs.Order.{consIf, filter, isOne, bitsOf, oneBit, others, singles, ones, reorderedTones}
 use Rattle.g9932.specs.Sizes.{tables, entry, toneOf, classBy}
 use Rattle.g9932.specs.Symbol.{load, isMonitored}
 use Rattle.g9932.specs.declared.Class.{Class}
 use Rattle.g9932.specs.declared.Class.the-variants.{Data, Monitored, Silent}
 use Rattle.g9932.specs.declared.Mode.{Mode}
 use Rattle.g9932.specs.declared.Mode.the-variants.{Uncoded, Coded}
-use Rattle.plan.specs.Plan.{leastOwn, sharing, placesWhere, everySecond, sharedFrom, entriesIn, PlanIs, classesBy, isPlaced, only, Filing, Shares}
+use Rattle.plan.specs.Plan.{leastOwn, sharing, placesWhere, everySecond, sharedFrom, PlanIs, classesBy, isPlaced, only, Filing, Shares}
 use Rattle.plan.specs.declared.filing.Cursors.{Cursors}
-use Rattle.plan.proofs.Steps.{places-append}
-
--- the class of a tone, by its bits
-load-class : (b g : ℕ) → load (toneOf b g .class) ≡ b
-load-class b g = go (ltb 0 b) (ltb 0 g) refl
-  where
-    go : (p q : Bool) → ltb 0 b ≡ p → load (classBy p (Data b) (classBy q Monitored Silent)) ≡ b
-    go true q e = refl
-    go false true e = omega (arith, ltb-false 0 b e)
-    go false false e = omega (arith, ltb-false 0 b e)
+use Rattle.plan.proofs.Steps.{load-class, places-append}
 
 pub loads-by : (b g t : List ℕ) → map load (classesBy b g t) ≡ bitsOf b t
 loads-by b g [] = refl
@@ -155,14 +146,14 @@ module _ (m : Mode) (b g t : List ℕ) where
       ∙ rw (places-tail isMonitored (Data 1) refl (sharing m b t) (0 + length cs)) (append-nil (placesWhere isMonitored 0 cs))
 
   -- the lists as filed, with the shared entries behind them
-  pub plan-is : (one size : ℕ) (at : Cursors) (layouts entries places monitored layoutsAfter entriesAfter placesAfter : List ℕ)
-      → one ≡ sharing m b t → one % 2 ≡ 0 → Filing (leastOwn m) cs at layouts entries places monitored
-      → Shares (layoutOf 1) (at .place) (one / 2) (at .entry) layouts entries places layoutsAfter entriesAfter placesAfter
-      → PlanIs (tables m b g t) (record { size = size; entries = at .entry + one / 2; shared = at .place; monitored = at .monitored }) layoutsAfter entriesAfter placesAfter monitored
-  plan-is one size at layouts entries places monitored layoutsAfter entriesAfter placesAfter o even f s =
+  pub plan-is : (sharers size : ℕ) (at : Cursors) (layouts entries places monitored layoutsAfter entriesAfter placesAfter : List ℕ)
+      → sharers ≡ sharing m b t → sharers % 2 ≡ 0 → Filing (leastOwn m) cs at layouts entries places monitored
+      → Shares (layoutOf 1) (at .place) (sharers / 2) (at .entry) layouts entries places layoutsAfter entriesAfter placesAfter
+      → PlanIs (tables m b g t) (record { size = size; entries = at .entry + sharers / 2; shared = at .place; monitored = at .monitored }) layoutsAfter entriesAfter placesAfter monitored
+  plan-is sharers size at layouts entries places monitored layoutsAfter entriesAfter placesAfter o even f s =
       let n = placed-count in
-      let two : 2 * (one / 2) ≡ sharing m b t = omega arith in
-      let all : at .place + 2 * (one / 2) ≡ length t = omega (arith, f .placeIs) in
+      let two : 2 * (sharers / 2) ≡ sharing m b t = omega arith in
+      let all : at .place + 2 * (sharers / 2) ≡ length t = omega (arith, f .placeIs) in
       let from : at .place ≡ sharedFrom (tables m b g t) = omega (arith, f .placeIs) in
       record {
         layoutsAre = ap (λ (n : ℕ). take n layoutsAfter) (sym all) ∙ s .layoutsAre ∙ ap₂ (λ (k l : List ℕ). k ++ l) (f .layoutsAre) (ap (λ (n : ℕ). replicate n (layoutOf 1)) two) ∙ sym plan-layouts;
@@ -173,10 +164,6 @@ module _ (m : Mode) (b g t : List ℕ) where
         entriesMost = omega (arith, f .entryMost, f .placeIs);
         monitoredMost = omega (arith, f .monitoredMost, f .placeIs);
       }
-
--- coded, the entries are document 01's
-pub coded-entries : (b g t : List ℕ) → entriesIn (tables Coded b g t) ≡ entries b t
-coded-entries b g t = ap (λ (l : List ℕ). filter (leb 2) l ++ replicate (ones b t / 2) 2) (loads-by b g (reorderedTones Coded b t))
 
 pub least-own : (m : Mode) → 1 ≤ leastOwn m
 least-own Uncoded = omega arith

@@ -1,5 +1,5 @@
 -- The plan of a symbol: what its passes need of the tables, by place in t' and by entry of b'.
-use Prim.Native.Nat.{ℕ, zero, suc, _+_, _-_, _*_, _/_, _%_, _≤_}
+use Prim.Native.Nat.{ℕ, zero, suc, _+_, _-_, _*_, _/_, _%_, _≤_, _<_}
 use mathlib.Core.Bool.{Bool, true, cond}
 use mathlib.Core.List.{List, [], _∷_, _++_, map}
 use mathlib.Core.Path.{_≡_}
@@ -15,12 +15,12 @@ use Rattle.g9932.specs.declared.Class.{Class}
 use Rattle.g9932.specs.declared.Class.the-variants.{Data, Monitored, Silent}
 use Rattle.g9932.specs.declared.Mode.{Mode}
 use Rattle.g9932.specs.declared.Mode.the-variants.{Uncoded, Coded}
+use Rattle.tables.specs.Counted.{Medley}
 use Rattle.plan.specs.declared.Planned.{Planned}
 use Rattle.plan.specs.declared.Planned.the-variants.{Ready, Refused}
 use Rattle.plan.specs.declared.Sizes.{Sizes}
 use Rattle.plan.specs.declared.Sized.{Sized}
 use Rattle.plan.specs.declared.Sized.the-variants.{Frame, Refused as Unsized}
-use Rattle.plan.specs.declared.filing.Filed.{Filed}
 use Rattle.plan.specs.declared.filing.Cursors.{Cursors}
 
 -- ---- the plan of accepted tables
@@ -94,11 +94,11 @@ Plans T r layouts entries places monitored = PlansBy (tableVerdict T) T r layout
 -- ---- what the mode makes of the tones
 
 abbrev pub sizedVerdict : Sized → Verdict
-sizedVerdict (Frame size one) = accepted size
+sizedVerdict (Frame size sharers) = accepted size
 sizedVerdict (Unsized x) = refused (numberOf x) (placeOf x)
 
 abbrev pub Sharing : Mode → List ℕ → List ℕ → Sized → Type 0
-Sharing m b t (Frame size one) = (one ≡ sharing m b t) × (one % 2 ≡ 0)
+Sharing m b t (Frame size sharers) = (sharers ≡ sharing m b t) × (sharers % 2 ≡ 0)
 Sharing m b t (Unsized x) = Unit {0}
 
 pub record SizesFrame (m : Mode) (b t : List ℕ) (r : Sized) : Type 0 where
@@ -114,12 +114,13 @@ pub record Arrays (layouts entries places monitored : List ℕ) : Type 0 where
   pub placesLength : length places ≡ mostTones
   pub monitoredLength : length monitored ≡ mostTones
 
-pub record PlanNeeds (m : Mode) (one : ℕ) (b t layouts entries places monitored : List ℕ) : Type 0 where
+pub record PlanNeeds (m : Mode) (sharers : ℕ) (b g t layouts entries places monitored : List ℕ) : Type 0 where
   pub arrays : Arrays layouts entries places monitored
+  pub medley : Medley b t
+  pub gains : length g ≡ length b
   pub most : length t ≤ mostTones
-  pub bitsMost : (k : ℕ) → entry b k ≤ 15
-  pub onesIs : one ≡ sharing m b t
-  pub even : one % 2 ≡ 0
+  pub sharersAre : sharers ≡ sharing m b t
+  pub even : sharers % 2 ≡ 0
 
 -- the classes of a list of tones
 abbrev pub classesBy : List ℕ → List ℕ → List ℕ → List Class
@@ -141,13 +142,25 @@ abbrev pub only : {A : Type 0} → (A → Bool) → List A → List A
 only p [] = []
 only p (a ∷ l) = cond (p a) (a ∷ only p l) (only p l)
 
--- what one tone adds to the lists
-pub record Files (least : ℕ) (c : Class) (f : Filed) : Type 0 where
-  pub layoutIs : f .layout ≡ classLayout c
-  pub bitsIs : f .bits ≡ load c
-  pub placeIs : f .place ≡ weight (isPlaced least c)
-  pub entryIs : f .entry ≡ weight (leb least (load c))
-  pub monitoredIs : f .monitored ≡ weight (isMonitored c)
+-- what filing one tone asks: the lists have room for it
+pub record ToneNeeds (b least : ℕ) (at : Cursors) (layouts entries places monitored : List ℕ) : Type 0 where
+  pub arrays : Arrays layouts entries places monitored
+  pub bitsMost : b ≤ 15
+  pub leastIs : 1 ≤ least
+  pub placeMost : at .place < mostTones
+  pub entryMost : at .entry ≤ at .place
+  pub monitoredMost : at .monitored ≤ at .place
+
+-- what one tone adds to the lists, up to the cursors
+pub record FilesTone (least : ℕ) (c : Class) (at : Cursors) (layouts entries places monitored : List ℕ)
+    (r : Cursors) (layoutsAfter entriesAfter placesAfter monitoredAfter : List ℕ) : Type 0 where
+  pub placeIs : r .place ≡ at .place + weight (isPlaced least c)
+  pub entryIs : r .entry ≡ at .entry + weight (leb least (load c))
+  pub monitoredIs : r .monitored ≡ at .monitored + weight (isMonitored c)
+  pub layoutsAre : take (r .place) layoutsAfter ≡ take (at .place) layouts ++ consIf (isPlaced least c) (classLayout c) []
+  pub entriesAre : take (r .entry) entriesAfter ≡ take (at .entry) entries ++ consIf (leb least (load c)) (load c) []
+  pub placesAre : take (r .entry) placesAfter ≡ take (at .entry) places ++ consIf (leb least (load c)) (at .place) []
+  pub monitoredAre : take (r .monitored) monitoredAfter ≡ take (at .monitored) monitored ++ consIf (isMonitored c) (at .place) []
 
 -- the lists of classes in the order of their places, up to the cursors
 pub record Filing (least : ℕ) (cs : List Class) (at : Cursors) (layouts entries places monitored : List ℕ) : Type 0 where
@@ -159,10 +172,11 @@ pub record Filing (least : ℕ) (cs : List Class) (at : Cursors) (layouts entrie
   pub entryMost : at .entry ≤ at .place
   pub monitoredMost : at .monitored ≤ at .place
 
-pub record FileNeeds (least : ℕ) (b t layouts entries places monitored : List ℕ) : Type 0 where
+pub record FileNeeds (least : ℕ) (b g t layouts entries places monitored : List ℕ) : Type 0 where
   pub arrays : Arrays layouts entries places monitored
+  pub medley : Medley b t
+  pub gains : length g ≡ length b
   pub most : length t ≤ mostTones
-  pub bitsMost : (k : ℕ) → entry b k ≤ 15
   pub leastIs : 1 ≤ least
 
 -- entries that two tones share, behind the others
@@ -173,7 +187,7 @@ pub record ShareNeeds (h from at : ℕ) (layouts entries places : List ℕ) : Ty
   pub most : from + 2 * h ≤ mostTones
   pub atMost : at ≤ from
 
-pub record Shares (one from h at : ℕ) (layouts entries places layoutsAfter entriesAfter placesAfter : List ℕ) : Type 0 where
-  pub layoutsAre : take (from + 2 * h) layoutsAfter ≡ take from layouts ++ replicate (2 * h) one
+pub record Shares (layout from h at : ℕ) (layouts entries places layoutsAfter entriesAfter placesAfter : List ℕ) : Type 0 where
+  pub layoutsAre : take (from + 2 * h) layoutsAfter ≡ take from layouts ++ replicate (2 * h) layout
   pub entriesAre : take (at + h) entriesAfter ≡ take at entries ++ replicate h 2
   pub placesAre : take (at + h) placesAfter ≡ take at places ++ everySecond from h

@@ -1,22 +1,13 @@
 // Filing the tones of t by place and by entry. Called by proved code only.
 ghost use mathlib.Core.Path.{_≡_};
-ghost use Prim.Native.Nat.{_≤_};
+ghost use Prim.Native.Nat.{_<_};
+ghost use lib.ListN.{length};
+ghost use Rattle.g9932.specs.Sizes.{entry, toneOf};
 ghost use Rattle.constellation.specs.Layouts.{layoutList};
-ghost use Rattle.plan.specs.Plan.{Carries, classesBy, isPlaced, only, Files, Filing, FileNeeds, ShareNeeds, Shares};
+ghost use Rattle.plan.specs.Plan.{classesBy, isPlaced, only, ToneNeeds, FilesTone, Filing, FileNeeds, ShareNeeds, Shares};
 use g9932::Class;
 use g9932::Place;
-use g9932::Tone;
-use tables::one_if;
-
-// What one tone adds to the lists: its layout, its bits, and whether it has a place before those that share, an entry of its own, and
-// filler bits, each 0 or 1.
-pub struct Filed {
-    pub layout: u16,
-    pub bits: u8,
-    pub place: usize,
-    pub entry: usize,
-    pub monitored: usize,
-}
+use g9932::Subcarrier;
 
 // Where the next tone goes in each list.
 pub struct Cursors {
@@ -25,42 +16,79 @@ pub struct Cursors {
     pub monitored: usize,
 }
 
-// What a tone adds. It has an entry of its own from `least` bits on.
-fn file_tone(tone: Tone, least: u8, table: &[u16; 16]) -> Filed
-    requires { ⌜ Carries (tone .class) × (1 ≤ least) × (now table ≡ layoutList) ⌝ }
-    ensures { λ r. ⌜ Files least (tone .class) r ⌝ }
+// The bits of a sub-carrier of the tables.
+fn bits_of(bits: &[u8], k: Subcarrier) -> u8
+    requires { ⌜ k .0 < length (now bits) ⌝ }
+    ensures { λ r. ⌜ r ≡ entry (now (bits .entry)) (k .0) ⌝ }
 {
+    let at = k.0;
+    bits[at]
+}
+
+// Its gain.
+fn gain_of(gains: &[u16], k: Subcarrier) -> u16
+    requires { ⌜ k .0 < length (now gains) ⌝ }
+    ensures { λ r. ⌜ r ≡ entry (now (gains .entry)) (k .0) ⌝ }
+{
+    let at = k.0;
+    gains[at]
+}
+
+// Files one tone. From `least` bits on it has a place and an entry of its own; with fewer it shares, and is left out here; without
+// data it has a place, and in the list of monitored places that place if it is monitored.
+fn file_tone(
+    bits: u8,
+    gain: u16,
+    least: u8,
+    at: Cursors,
+    table: &[u16; 16],
+    layouts: &mut [u16],
+    entries: &mut [u8],
+    places: &mut [u16],
+    monitored: &mut [u16],
+) -> Cursors
+    requires { ⌜ ToneNeeds bits least at (now layouts) (now entries) (now places) (now monitored) × (now table ≡ layoutList) ⌝ }
+    ensures { λ r. ⌜ FilesTone least (toneOf bits gain .class) at (now (layouts .entry)) (now (entries .entry)) (now (places .entry)) (now (monitored .entry)) r (now (layouts .exit)) (now (entries .exit)) (now (places .exit)) (now (monitored .exit)) ⌝ }
+{
+    let place = at.place;
+    let entry = at.entry;
+    let next = at.monitored;
+    if least <= bits {
+        let b = bits as usize;
+        layouts[place] = table[b];
+        entries[entry] = bits;
+        places[entry] = place as u16;
+        return Cursors {
+            place: place + 1,
+            entry: entry + 1,
+            monitored: next,
+        };
+    }
+    let tone = tables::tone_of(bits, gain);
     let class = tone.class;
     match class {
-        Class::Data(b) => {
-            let n = b as usize;
-            let own = one_if(least <= b) as usize;
-            Filed {
-                layout: table[n],
-                bits: b,
-                place: own,
-                entry: own,
-                monitored: 0,
+        Class::Data(_) => at,
+        Class::Monitored => {
+            layouts[place] = table[2];
+            monitored[next] = place as u16;
+            Cursors {
+                place: place + 1,
+                entry,
+                monitored: next + 1,
             }
         }
-        Class::Monitored => Filed {
-            layout: table[2],
-            bits: 0,
-            place: 1,
-            entry: 0,
-            monitored: 1,
-        },
-        Class::Silent => Filed {
-            layout: table[0],
-            bits: 0,
-            place: 1,
-            entry: 0,
-            monitored: 0,
-        },
+        Class::Silent => {
+            layouts[place] = table[0];
+            Cursors {
+                place: place + 1,
+                entry,
+                monitored: next,
+            }
+        }
     }
 }
 
-// Files the tones of t. A tone that adds nothing to a list is written over by the next one.
+// Files the tones of t, all but those that share.
 pub fn file_tones(
     least: u8,
     bits: &[u8],
@@ -72,35 +100,33 @@ pub fn file_tones(
     places: &mut [u16],
     monitored: &mut [u16],
 ) -> Cursors
-    requires { ⌜ FileNeeds least (now bits) (now tones) (now layouts) (now entries) (now places) (now monitored) × (now table ≡ layoutList) ⌝ }
+    requires { ⌜ FileNeeds least (now bits) (now gains) (now tones) (now layouts) (now entries) (now places) (now monitored) × (now table ≡ layoutList) ⌝ }
     ensures { λ r. ⌜ Filing least (only (isPlaced least) (classesBy (now (bits .entry)) (now (gains .entry)) (now (tones .entry)))) r (now (layouts .exit)) (now (entries .exit)) (now (places .exit)) (now (monitored .exit)) ⌝ }
 {
-    let mut place: usize = 0;
-    let mut entry: usize = 0;
-    let mut monitor: usize = 0;
+    let mut at = Cursors {
+        place: 0,
+        entry: 0,
+        monitored: 0,
+    };
     let mut i = 0;
     while i < tones.len() {
-        let f = file_tone(
-            tables::tone_of_place(bits, gains, tones, Place(i)),
+        let k = tables::tone_at(tones, Place(i));
+        let b = bits_of(bits, k);
+        let gain = gain_of(gains, k);
+        at = file_tone(
+            b,
+            gain,
             least,
+            at,
             table,
+            layouts,
+            entries,
+            places,
+            monitored,
         );
-        let layout = f.layout;
-        let b = f.bits;
-        layouts[place] = layout;
-        entries[entry] = b;
-        places[entry] = place as u16;
-        monitored[monitor] = place as u16;
-        place += f.place;
-        entry += f.entry;
-        monitor += f.monitored;
         i += 1;
     }
-    Cursors {
-        place,
-        entry,
-        monitored: monitor,
-    }
+    at
 }
 
 // Adds `count` entries of 2 bits, each shared by two tones of 1 bit: from place `from` on, and from entry `at` on.
@@ -108,19 +134,19 @@ pub fn share_entries(
     count: usize,
     from: usize,
     at: usize,
-    one: u16,
+    layout: u16,
     layouts: &mut [u16],
     entries: &mut [u8],
     places: &mut [u16],
 )
     requires { ⌜ ShareNeeds count from at (now layouts) (now entries) (now places) ⌝ }
-    ensures { λ _. ⌜ Shares one from count at (now (layouts .entry)) (now (entries .entry)) (now (places .entry)) (now (layouts .exit)) (now (entries .exit)) (now (places .exit)) ⌝ }
+    ensures { λ _. ⌜ Shares layout from count at (now (layouts .entry)) (now (entries .entry)) (now (places .entry)) (now (layouts .exit)) (now (entries .exit)) (now (places .exit)) ⌝ }
 {
     let mut j: usize = 0;
     while j < count {
         let p = from + 2 * j;
-        layouts[p] = one;
-        layouts[p + 1] = one;
+        layouts[p] = layout;
+        layouts[p + 1] = layout;
         entries[at + j] = 2;
         places[at + j] = p as u16;
         j += 1;

@@ -37,10 +37,10 @@ fn least_own(mode: Mode) -> u8
     }
 }
 
-// Makes the lists of a plan. Of the tones `ones` share entries, and L is `size`. Its caller shows that refusals 1 to 8 do not apply.
+// Makes the lists of a plan. Of the tones `sharers` share entries, and L is `size`. Its caller shows that refusals 1 to 8 do not apply.
 fn file_plan(
     mode: Mode,
-    ones: usize,
+    sharers: usize,
     size: usize,
     bits: &[u8],
     gains: &[u16],
@@ -50,7 +50,7 @@ fn file_plan(
     places: &mut [u16],
     monitored: &mut [u16],
 ) -> Sizes
-    requires { ⌜ PlanNeeds mode ones (now bits) (now tones) (now layouts) (now entries) (now places) (now monitored) ⌝ }
+    requires { ⌜ PlanNeeds mode sharers (now bits) (now gains) (now tones) (now layouts) (now entries) (now places) (now monitored) ⌝ }
     ensures { λ r. ⌜ PlanIs (tables mode (now (bits .entry)) (now (gains .entry)) (now (tones .entry))) r (now (layouts .exit)) (now (entries .exit)) (now (places .exit)) (now (monitored .exit)) × (r .size ≡ size) ⌝ }
 {
     let table = constellation::layout_table();
@@ -68,10 +68,18 @@ fn file_plan(
     );
     let place = at.place;
     let entry = at.entry;
-    filing::share_entries(ones / 2, place, entry, table[1], layouts, entries, places);
+    filing::share_entries(
+        sharers / 2,
+        place,
+        entry,
+        table[1],
+        layouts,
+        entries,
+        places,
+    );
     Sizes {
         size,
-        entries: entry + ones / 2,
+        entries: entry + sharers / 2,
         shared: place,
         monitored: at.monitored,
     }
@@ -79,7 +87,7 @@ fn file_plan(
 
 // What the mode makes of the tones: L and how many of them share entries, or a refusal.
 pub enum Sized {
-    Frame { size: usize, ones: usize },
+    Frame { size: usize, sharers: usize },
     Refused(Refusal),
 }
 
@@ -93,7 +101,7 @@ fn size_frame(mode: Mode, bits: &[u8], tones: &[u16]) -> Sized
     match mode {
         Mode::Uncoded => Sized::Frame {
             size: c.sum,
-            ones: 0,
+            sharers: 0,
         },
         Mode::Coded => {
             if c.ones % 2 == 1 {
@@ -105,7 +113,7 @@ fn size_frame(mode: Mode, bits: &[u8], tones: &[u16]) -> Sized
             }
             Sized::Frame {
                 size: c.sum - (n + 1) / 2 - 4,
-                ones: c.ones,
+                sharers: c.ones,
             }
         }
     }
@@ -123,16 +131,16 @@ fn plan_by(
     monitored: &mut [u16],
 ) -> Planned
     requires arrays { ⌜ Arrays (now layouts) (now entries) (now places) (now monitored) ⌝ }
-    requires medley { ⌜ Medley (now bits) (now tones) × (length (now tones) ≤ mostTones) ⌝ }
+    requires medley { ⌜ Medley (now bits) (now tones) × (length (now gains) ≡ length (now bits)) × (length (now tones) ≤ mostTones) ⌝ }
     ensures { λ r. ⌜ PlansBy (modeVerdict mode (now (bits .entry)) (now (tones .entry))) (tables mode (now (bits .entry)) (now (gains .entry)) (now (tones .entry))) r (now (layouts .exit)) (now (entries .exit)) (now (places .exit)) (now (monitored .exit)) ⌝ }
 {
     let s = size_frame(mode, bits, tones);
     match s {
         Sized::Refused(x) => Planned::Refused(x),
-        Sized::Frame { size, ones } => {
+        Sized::Frame { size, sharers } => {
             let p = file_plan(
                 mode,
-                ones,
+                sharers,
                 size,
                 bits,
                 gains,

@@ -28,6 +28,11 @@ pub lists-fit : (b g t : List ℕ) {l : ℕ} → accepted l ≡ listVerdict b g 
 unfolding listVerdict
 lists-fit b g t e = let z = size-facts (length b) (length g) (length t) (test-none 0 _ _ (number-none e) .0) in omega arith
 
+-- and as many gains as bits
+pub lists-gains : (b g t : List ℕ) {l : ℕ} → accepted l ≡ listVerdict b g t → length g ≡ length b
+unfolding listVerdict
+lists-gains b g t e = let z = size-facts (length b) (length g) (length t) (test-none 0 _ _ (number-none e) .0) in omega arith
+
 -- t without a repeat
 lists-once : (b g t : List ℕ) {l : ℕ} → accepted l ≡ listVerdict b g t → (k : ℕ) → k < length t → twiceTest t k ≡ false
 unfolding listVerdict

@@ -15,7 +15,7 @@ least-own-requires c κs = search needs
 file-tones-requires : tie.Need-file-tones-requires
 file-tones-requires c κs =
     let s = c .before .before .before .before .before .before .before .before .before .before .before .before .before .before in
-    (record { arrays = s .pre .arrays; most = s .pre .most; bitsMost = s .pre .bitsMost; leastIs = rw (c .before .before .before .before .before .least-own .ensures) (least-own (s .args .mode)) }, c .before .before .before .before .before .before .layout-table .ensures)
+    (record { arrays = s .pre .arrays; medley = s .pre .medley; gains = s .pre .gains; most = s .pre .most; leastIs = rw (c .before .before .before .before .before .least-own .ensures) (least-own (s .args .mode)) }, c .before .before .before .before .before .before .layout-table .ensures)
 
 array-read-share-entries : tie.Need-array-read-share-entries
 array-read-share-entries c = search needs
@@ -31,7 +31,7 @@ share-entries-requires c κs =
       layoutsLength = f .kept .1 .1 .1 .1 .1 .0 ∙ s .pre .arrays .layoutsLength;
       entriesLength = f .kept .1 .1 .1 .1 .1 .1 .0 ∙ s .pre .arrays .entriesLength;
       placesLength = f .kept .1 .1 .1 .1 .1 .1 .1 .0 ∙ s .pre .arrays .placesLength;
-      most = omega (arith, g .placeIs, s .pre .onesIs, s .pre .most);
+      most = omega (arith, g .placeIs, s .pre .sharersAre, s .pre .most);
       atMost = g .entryMost;
     }
 
@@ -42,7 +42,7 @@ add-t37 c =
     let f = c .before .before .before .before .before .before .before .before .before .before .before .before .before .before .before .before .before .before .file-tones in
     let g = rw (c .before .before .before .before .before .before .before .before .before .before .before .before .before .before .before .before .before .before .before .before .before .before .before .before .least-own .ensures) at (f .ensures) in
     let n = placed-count (a .mode) (a .bits .now) (a .gains .now) (a .tones .now) in
-    omega (arith, g .placeIs, g .entryMost, s .pre .onesIs, s .pre .most)
+    omega (arith, g .placeIs, g .entryMost, s .pre .sharersAre, s .pre .most)
 
 same-length : tie.Need-same-length
 same-length c = search needs
@@ -64,8 +64,8 @@ returns c =
     let h = c .before .before .before .before .before .before .share-entries in
     let g = rw (c .before .before .before .before .before .before .before .before .before .before .before .before .before .before .before .before .before .before .before .before .before .before .before .before .least-own .ensures) at (f .ensures) in
     let t = c .before .before .before .before .before .before .before .before .before .before .before .before .before .before .before .before .before .before .before .before .before .before .before .before .before .layout-table .ensures in (
-      plan-is (a .mode) (a .bits .now) (a .gains .now) (a .tones .now) (a .ones) (a .size) (f .result) (f .last .1 .1 .1 .1 .1 .0) (f .last .1 .1 .1 .1 .1 .1 .0) (f .last .1 .1 .1 .1 .1 .1 .1 .0) (f .last .1 .1 .1 .1 .1 .1 .1 .1 .0)
-          (h .last .1 .1 .1 .1 .0) (h .last .1 .1 .1 .1 .1 .0) (h .last .1 .1 .1 .1 .1 .1 .0) (s .pre .onesIs) (s .pre .even) g (rw t at (h .ensures)),
+      plan-is (a .mode) (a .bits .now) (a .gains .now) (a .tones .now) (a .sharers) (a .size) (f .result) (f .last .1 .1 .1 .1 .1 .0) (f .last .1 .1 .1 .1 .1 .1 .0) (f .last .1 .1 .1 .1 .1 .1 .1 .0) (f .last .1 .1 .1 .1 .1 .1 .1 .1 .0)
+          (h .last .1 .1 .1 .1 .0) (h .last .1 .1 .1 .1 .1 .0) (h .last .1 .1 .1 .1 .1 .1 .0) (s .pre .sharersAre) (s .pre .even) g (rw t at (h .ensures)),
       refl,
     )
 

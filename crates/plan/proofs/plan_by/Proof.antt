@@ -21,7 +21,7 @@ file-plan-requires c κs =
     let a = s .args in
     let z = c .before .before .before .before .before .before .before .size-frame in
     let h = rw (c .before .before .before .before .before .s2 .given .1) at (z .ensures .shares) in
-    record { arrays = s .pre .0; most = s .pre .1 .1; bitsMost = s .pre .1 .0 .bitsMost; onesIs = h .0; even = h .1 }
+    record { arrays = s .pre .0; medley = s .pre .1 .0; gains = s .pre .1 .1; most = s .pre .1 .2; sharersAre = h .0; even = h .1 }
 
 returns : tie.Need-returns
 returns c =

@@ -1,6 +1,6 @@
 -- `plan::plan_tables` meets its contract: refusals 1 to 6, and then those of the mode.
 use mathlib.Core.Path.{sym, ap, _∙_}
-use Rattle.tables.proofs.Answers.{lists-fit, lists-medley, lists-refused}
+use Rattle.tables.proofs.Answers.{lists-fit, lists-gains, lists-medley, lists-refused}
 use Rattle.g9932.proofs.Verdicts.{and-accepted}
 use Rattle.g9932.specs.Answers.{verdictOf}
 use Rattle.g9932.specs.Refusals.{tableVerdict}
@@ -21,7 +21,7 @@ plan-by-requires : tie.Need-plan-by-requires
 plan-by-requires c κs =
     let s = c .before .before .before .before .before .before .before .before .before .before .before .before .before .before in
     let e = ap verdictOf (sym (c .before .before .before .before .enum-told .given .1)) ∙ c .before .before .before .before .before .before .check-lists .ensures in
-    (s .pre, (lists-medley _ _ _ e, lists-fit _ _ _ e))
+    (s .pre, (lists-medley _ _ _ e, lists-gains _ _ _ e, lists-fit _ _ _ e))
 
 returns : tie.Need-returns
 returns c =

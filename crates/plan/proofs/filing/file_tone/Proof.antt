@@ -1,105 +1,189 @@
--- `plan::filing::file_tone` meets its contract, by the class.
+-- `plan::filing::file_tone` meets its contract: by its bits, and without data by its class.
 use mathlib.Core.Bool.{false}
-use mathlib.Core.Path.{_≡_}
-use Prim.Native.Nat.{_≤_, _<_}
+use mathlib.Core.Path.{_≡_, sym, ap, _∙_}
+use Prim.Native.Nat.{_≤_}
 use lib.Dec.{leb}
-use borrow.Author.Tests.{lt-leb}
+use borrow.Author.Tests.{le-leb, lt-leb}
 use native.Mathlib.Omega.{arith}
-use Rattle.g9932.specs.Bits.{weight}
 use Rattle.constellation.proofs.Layouts.{layout-at}
+use Rattle.g9932.specs.Symbol.{load}
+use Rattle.plan.proofs.Steps.{data-class, load-class, files-data, files-none, files-monitored, files-silent}
 use borrow.Author.Needs.{needs}
 use Rattle.plan.proofs.filing.file_tone.Statement.{statement}
 use Rattle.plan.proofs.filing.file_tone.Tie as tie
 
-enum-known-class : tie.Need-enum-known-class
-enum-known-class c = search needs
+mul-layouts : tie.Need-mul-layouts
+mul-layouts c = search needs
 
-cast-n : tie.Need-cast-n
-cast-n c = search needs
+element-copy-out-layouts : tie.Need-element-copy-out-layouts
+element-copy-out-layouts c = search needs
 
-one-if-requires : tie.Need-one-if-requires
-one-if-requires c κs = search needs
+mul-layouts-2 : tie.Need-mul-layouts-2
+mul-layouts-2 c = search needs
 
-cast-own : tie.Need-cast-own
-cast-own c = search needs
+slice-write-layouts : tie.Need-slice-write-layouts
+slice-write-layouts c = search needs
 
-mul-t11 : tie.Need-mul-t11
-mul-t11 c = search needs
+slice-write-entries : tie.Need-slice-write-entries
+slice-write-entries c = search needs
 
-element-copy-out-t9 : tie.Need-element-copy-out-t9
-element-copy-out-t9 c =
-    let b = c .before .before .class .given .0 .0 in
-    let h : (1 ≤ b) × (b ≤ 15) = rw (c .before .before .class .given .1) at (c .before .before .before .before .pre .0) in
-    let k : b < 16 = omega arith in
-    k
+cast-places : tie.Need-cast-places
+cast-places c = search needs
+
+mul-places : tie.Need-mul-places
+mul-places c = search needs
+
+slice-write-places : tie.Need-slice-write-places
+slice-write-places c = search needs
+
+add-t21 : tie.Need-add-t21
+add-t21 c = search needs
+
+add-t17 : tie.Need-add-t17
+add-t17 c = search needs
+
+same-length : tie.Need-same-length
+same-length c = search needs
+
+same-length-2 : tie.Need-same-length-2
+same-length-2 c = search needs
+
+same-length-3 : tie.Need-same-length-3
+same-length-3 c = search needs
+
+returns : tie.Need-returns
+returns c =
+    let s = c .before .before .before .before .before .before in
+    let a = s .args in
+    let n = s .pre .0 in
+    let own : a .least ≤ a .bits = c .before .if1 .taken in
+    let here : 1 ≤ a .bits = omega (arith, n .leastIs) in
+    rw (data-class (a .bits) (a .gain) here)
+    (files-data (a .least) (a .at) (a .layouts .now) (a .entries .now) (a .places .now) (a .monitored .now) (a .bits) _ (le-leb (a .least) (a .bits) own)
+    (rw (s .pre .1) (layout-at (a .bits) here (n .bitsMost)))
+    (omega (arith, n .placeMost, n .arrays .layoutsLength)) (omega (arith, n .placeMost, n .entryMost, n .arrays .entriesLength)) (omega (arith, n .placeMost, n .entryMost, n .arrays .placesLength)))
+
+tone-of-requires : tie.Need-tone-of-requires
+tone-of-requires c κs = search needs
 
 enum-told : tie.Need-enum-told
 enum-told c = search needs
 
-element-copy-out-t16 : tie.Need-element-copy-out-t16
-element-copy-out-t16 c = search needs
-
 enum-told-2 : tie.Need-enum-told-2
 enum-told-2 c = search needs
 
-element-copy-out-t19 : tie.Need-element-copy-out-t19
-element-copy-out-t19 c = search needs
+element-copy-out-layouts-2 : tie.Need-element-copy-out-layouts-2
+element-copy-out-layouts-2 c = search needs
 
-returns : tie.Need-returns
-unfolding weight
-returns c =
-    let s = c .before .before .before .before .before in
-    let b = c .before .before .before .class .given .0 .0 in
-    let h : (1 ≤ b) × (b ≤ 15) = rw (c .before .before .before .class .given .1) at (s .pre .0) in
-    let o = c .before .one-if in
-    record {
-      layoutIs = rw (c .before .before .before .class .given .1, s .pre .2) (layout-at b (h .0) (h .1));
-      bitsIs = rw (c .before .before .before .class .given .1);
-      placeIs = rw (c .before .before .before .class .given .1) (o .ensures .0);
-      entryIs = rw (c .before .before .before .class .given .1) (o .ensures .0);
-      monitoredIs = rw (c .before .before .before .class .given .1);
-    }
+mul-layouts-3 : tie.Need-mul-layouts-3
+mul-layouts-3 c = search needs
+
+slice-write-layouts-2 : tie.Need-slice-write-layouts-2
+slice-write-layouts-2 c = search needs
+
+cast-monitored : tie.Need-cast-monitored
+cast-monitored c = search needs
+
+mul-monitored : tie.Need-mul-monitored
+mul-monitored c = search needs
+
+slice-write-monitored : tie.Need-slice-write-monitored
+slice-write-monitored c = search needs
+
+add-t29 : tie.Need-add-t29
+add-t29 c = search needs
+
+add-t32 : tie.Need-add-t32
+add-t32 c = search needs
+
+enum-told-3 : tie.Need-enum-told-3
+enum-told-3 c = search needs
+
+element-copy-out-layouts-3 : tie.Need-element-copy-out-layouts-3
+element-copy-out-layouts-3 c = search needs
+
+mul-layouts-4 : tie.Need-mul-layouts-4
+mul-layouts-4 c = search needs
+
+slice-write-layouts-3 : tie.Need-slice-write-layouts-3
+slice-write-layouts-3 c = search needs
+
+add-t36 : tie.Need-add-t36
+add-t36 c = search needs
 
 returns-2 : tie.Need-returns-2
-unfolding weight
 returns-2 c =
-    let s = c .before .before .before in
-    let z : leb (s .args .least) 0 ≡ false = lt-leb (s .args .least) 0 (s .pre .1) in
-    record {
-      layoutIs = rw (c .before .enum-told .given .1, s .pre .2);
-      bitsIs = rw (c .before .enum-told .given .1);
-      placeIs = rw (c .before .enum-told .given .1);
-      entryIs = rw (c .before .enum-told .given .1, z);
-      monitoredIs = rw (c .before .enum-told .given .1);
-    }
+    let s = c .before .before .before .before .before .before .before .before in
+    let a = s .args in
+    let e = ap (λ t. t .class) (sym (c .before .before .tone-of .ensures)) ∙ c .enum-told .given .1 in
+    let few : leb (a .least) (a .bits) ≡ false = lt-leb (a .least) (a .bits) (omega (arith, c .before .before .before .if1 .left)) in
+    rw e (files-none (a .least) (a .at) (a .layouts .now) (a .entries .now) (a .places .now) (a .monitored .now) _ (rw (sym (load-class (a .bits) (a .gain)) ∙ ap load e) at few))
+
+same-length-4 : tie.Need-same-length-4
+same-length-4 c = search needs
+
+same-length-5 : tie.Need-same-length-5
+same-length-5 c = search needs
 
 returns-3 : tie.Need-returns-3
-unfolding weight
 returns-3 c =
-    let s = c .before .before .before in
-    let z : leb (s .args .least) 0 ≡ false = lt-leb (s .args .least) 0 (s .pre .1) in
-    record {
-      layoutIs = rw (c .before .enum-told2 .given .1, s .pre .2);
-      bitsIs = rw (c .before .enum-told2 .given .1);
-      placeIs = rw (c .before .enum-told2 .given .1);
-      entryIs = rw (c .before .enum-told2 .given .1, z);
-      monitoredIs = rw (c .before .enum-told2 .given .1);
-    }
+    let s = c .before .before .before .before .before .before .before .before .before in
+    let a = s .args in
+    let n = s .pre .0 in
+    let e = ap (λ t. t .class) (sym (c .before .before .before .tone-of .ensures)) ∙ c .before .enum-told2 .given .1 in
+    rw e
+    (files-monitored (a .least) (a .at) (a .layouts .now) (a .entries .now) (a .places .now) (a .monitored .now) _ (lt-leb (a .least) 0 (n .leastIs)) (rw (s .pre .1))
+    (omega (arith, n .placeMost, n .arrays .layoutsLength)) (omega (arith, n .placeMost, n .monitoredMost, n .arrays .monitoredLength)))
+
+same-length-6 : tie.Need-same-length-6
+same-length-6 c = search needs
+
+returns-4 : tie.Need-returns-4
+returns-4 c =
+    let s = c .before .before .before .before .before .before .before .before .before in
+    let a = s .args in
+    let n = s .pre .0 in
+    let e = ap (λ t. t .class) (sym (c .before .before .before .tone-of .ensures)) ∙ c .before .enum-told3 .given .1 in
+    rw e
+    (files-silent (a .least) (a .at) (a .layouts .now) (a .entries .now) (a .places .now) (a .monitored .now) _ (lt-leb (a .least) 0 (n .leastIs)) (rw (s .pre .1)) (omega (arith, n .placeMost, n .arrays .layoutsLength)))
 
 pub file-tone-spec : {M : Type 1} → statement M
 file-tone-spec =
     tie.close
     (tie.spec
-    enum-known-class
-    cast-n
-    one-if-requires
-    cast-own
-    mul-t11
-    element-copy-out-t9
-    enum-told
-    element-copy-out-t16
-    enum-told-2
-    element-copy-out-t19
+    mul-layouts
+    element-copy-out-layouts
+    mul-layouts-2
+    slice-write-layouts
+    slice-write-entries
+    cast-places
+    mul-places
+    slice-write-places
+    add-t21
+    add-t17
+    same-length
+    same-length-2
+    same-length-3
     returns
+    tone-of-requires
+    enum-told
+    enum-told-2
+    element-copy-out-layouts-2
+    mul-layouts-3
+    slice-write-layouts-2
+    cast-monitored
+    mul-monitored
+    slice-write-monitored
+    add-t29
+    add-t32
+    enum-told-3
+    element-copy-out-layouts-3
+    mul-layouts-4
+    slice-write-layouts-3
+    add-t36
     returns-2
-    returns-3)
+    same-length-4
+    same-length-5
+    returns-3
+    same-length-6
+    returns-4)

@@ -11,12 +11,12 @@ use Rattle.plan.proofs.filing.share_entries.Statement.{statement}
 use Rattle.plan.proofs.filing.share_entries.Tie as tie
 
 abbrev Inv-loop : tie.InvT-loop
-Inv-loop count from at one layouts₀ entries₀ places₀ j₀ layouts entries places j =
-    (j ≤ count) × Shares one from j at layouts₀ entries₀ places₀ layouts entries places
+Inv-loop count from at layout layouts₀ entries₀ places₀ j₀ layouts entries places j =
+    (j ≤ count) × Shares layout from j at layouts₀ entries₀ places₀ layouts entries places
     × (length layouts ≡ length layouts₀) × (length entries ≡ length entries₀) × (length places ≡ length places₀)
 
 abbrev μ-loop : tie.MeasureT-loop
-μ-loop count from at one layouts₀ entries₀ places₀ j₀ layouts entries places j = count - j
+μ-loop count from at layout layouts₀ entries₀ places₀ j₀ layouts entries places j = count - j
 
 loop-holds : tie.Need-loop-holds Inv-loop μ-loop
 loop-holds c = (omega arith, share-none, refl, refl, refl)
@@ -42,7 +42,7 @@ mul-layouts-2 c = search needs
 slice-write-layouts-2 : tie.Need-slice-write-layouts-2 Inv-loop μ-loop
 slice-write-layouts-2 c =
     let l = c .before .loop in
-    omega (arith, c .before .before .pre .most, c .before .before .pre .layoutsLength, l .inv .2, length-set (l .layouts) (c .before .before .args .from + 2 * l .j) (c .before .before .args .one))
+    omega (arith, c .before .before .pre .most, c .before .before .pre .layoutsLength, l .inv .2, length-set (l .layouts) (c .before .before .args .from + 2 * l .j) (c .before .before .args .layout))
 
 add-entries : tie.Need-add-entries Inv-loop μ-loop
 add-entries c = omega (arith, c .before .before .pre .most, c .before .before .pre .atMost)
@@ -74,10 +74,10 @@ loop-again c =
     let a = s .args in
     let l = c .before .loop in
     let p = a .from + 2 * l .j in
-    let k = length-set (l .layouts) p (a .one) in (
+    let k = length-set (l .layouts) p (a .layout) in (
       omega arith,
       share-more (l .inv .1) (omega (arith, s .pre .most, s .pre .layoutsLength, l .inv .2)) (omega (arith, s .pre .most, s .pre .atMost, s .pre .entriesLength, l .inv .3)) (omega (arith, s .pre .most, s .pre .atMost, s .pre .placesLength, l .inv .4)),
-      length-set (set (l .layouts) p (a .one)) (p + 1) (a .one) ∙ k ∙ l .inv .2,
+      length-set (set (l .layouts) p (a .layout)) (p + 1) (a .layout) ∙ k ∙ l .inv .2,
       length-set (l .entries) (a .at + l .j) 2 ∙ l .inv .3,
       length-set (l .places) (a .at + l .j) p ∙ l .inv .4,
     )
