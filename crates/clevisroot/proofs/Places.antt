@@ -1,18 +1,17 @@
 -- A C answer has room for every place and for every L.
--- ---- a place is found inside what is searched
 use Prim.Native.Nat.{ℕ, zero, suc, _+_, _/_, _≤_}
-use mathlib.Core.Bool.{Bool, true, false, cond, not, _||_}
+use mathlib.Core.Bool.{Bool, true, false, cond}
 use mathlib.Core.List.{List, [], _∷_}
 use mathlib.Core.Path.{_≡_, refl}
 use native.Mathlib.Omega.{arith}
-use borrow.Author.Tests.{ltb-false, eqb-true, eqb-false}
-use lib.Dec.{eqb, ltb, leb}
+use borrow.Author.Tests.{eqb-true, eqb-false}
+use lib.Dec.{eqb, leb}
 use lib.IntN.{ℤ}
 use lib.ListN.{length, drop, length-append, length-map, length-replicate, replicate}
-use Rattle.g9932.specs.Bits.{weight, orAt, first}
-use Rattle.g9932.specs.Sizes.{Tables, entry, Point, points}
+use Rattle.g9932.specs.Bits.{orAt, first}
+use Rattle.g9932.specs.Sizes.{Tables, entry, mostTones, mostBits, Point, points}
 use Rattle.g9932.specs.Refusals.{Verdict, refuseIf, refuseAt, verdictBy, andThen, sizeTest, listVerdict, modeVerdict, tableVerdict}
-use Rattle.g9932.specs.Order.{consIf, count, filter, isOne, bitsOf, ones, entries, reorderedTones, codedPairs}
+use Rattle.g9932.specs.Order.{consIf, filter, isOne, bitsOf, ones, entries, reorderedTones, codedPairs}
 use Rattle.g9932.specs.Trellis.{Reading, frame, breaks, after, zeroState, readPairs, readingOf, obeysCode, lastTwo, decodedAt, nextOf, takenBits, width}
 use Rattle.g9932.specs.Symbol.{classesOf, pairsIn, sizeOf, gatherBits, readingIn}
 use Rattle.g9932.specs.Answers.{breakIn, orderVerdict, encodeInputs, encodeVerdict, pointsVerdict, readInputs, readVerdict}
@@ -23,11 +22,13 @@ use Rattle.g9932.specs.declared.Mode.the-variants.{Uncoded, Coded}
 use Rattle.g9932.specs.declared.TrellisState.{TrellisState}
 use Rattle.g9932.specs.Order.{Pair}
 use Rattle.g9932.proofs.Verdicts.{test-none}
-use Rattle.g9932.proofs.Accepted.{accepted-tables}
+use Rattle.g9932.proofs.Accepted.{accepted-tables, size-facts}
+use Rattle.g9932.proofs.Counts.{count-most}
 use Rattle.g9932.proofs.Formed.{length-pairsOf}
-use Rattle.g9932.proofs.Identities.{or-false}
 use Rattle.g9932.proofs.Reordering.{length-order}
 use Rattle.clevisroot.specs.CAnswers.{Small}
+
+-- ---- a place is found inside what is searched
 
 index : Found → ℕ
 index (At k) = k
@@ -84,15 +85,6 @@ module _ (m : ℕ) where
 
 -- ---- the tables
 
-weight-most : (b : Bool) → weight b ≤ 1
-unfolding weight
-weight-most true = omega arith
-weight-most false = omega arith
-
-count-most : (p : ℕ → Bool) (l : List ℕ) → count p l ≤ length l
-count-most p [] = omega arith
-count-most p (n ∷ l) = omega (arith, count-most p l, weight-most (p n))
-
 filter-most : (p : ℕ → Bool) (l : List ℕ) → length (filter p l) ≤ length l
 filter-most p [] = omega arith
 filter-most p (n ∷ l) = go (p n) (filter-most p l)
@@ -111,46 +103,36 @@ entries-most b t =
     let r = length-replicate {A = ℕ} (ones b t / 2) 2 in
     rw (length-append (filter (leb 2) (bitsOf b (reorderedTones Coded b t))) (replicate (ones b t / 2) 2)) (omega arith)
 
-pairs-most : (m : Mode) (b t : List ℕ) → length t ≤ 4096 → length (codedPairs m b t) ≤ 4096
+pairs-most : (m : Mode) (b t : List ℕ) → length t ≤ mostTones → length (codedPairs m b t) ≤ mostTones
 unfolding codedPairs
 pairs-most Uncoded b t h = omega arith
 pairs-most Coded b t h = let e = entries-most b t in rw (length-pairsOf (entries b t)) (omega arith)
 
-sizes-most : (G gains nsc : ℕ) → sizeTest G gains nsc ≡ false → (G ≤ 4096) × (nsc ≤ 4096)
-sizes-most G gains nsc e =
-    let h5 = or-false (ltb G 1 || ltb 4096 G || not (eqb gains G) || ltb nsc 1) (ltb G nsc) e in
-    let h4 = or-false (ltb G 1 || ltb 4096 G || not (eqb gains G)) (ltb nsc 1) (h5 .0) in
-    let h3 = or-false (ltb G 1 || ltb 4096 G) (not (eqb gains G)) (h4 .0) in
-    let h2 = or-false (ltb G 1) (ltb 4096 G) (h3 .0) in
-    let g = ltb-false 4096 G (h2 .1) in
-    let n = ltb-false G nsc (h5 .1) in
-    (omega arith, omega arith)
-
-table-place : (T : Tables) → tableVerdict T .place ≤ 8192
+table-place : (T : Tables) → tableVerdict T .place ≤ mostTones
 unfolding tableVerdict listVerdict modeVerdict
 table-place T =
     let b = T .bits in
     let g = T .gains in
     let t = T .tones in
-    place-and 8192 (listVerdict b g t) (modeVerdict (T .mode) b t)
-    (place-unless 8192 1 (sizeTest (length b) (length g) (length t)) _ (λ e.
-    let s = sizes-most (length b) (length g) (length t) e in
-    place-first 8192 2 _ (length t) _ (omega (arith, s .1))
-    (place-first 8192 3 _ (length t) _ (omega (arith, s .1))
-    (place-first 8192 4 _ (length b) _ (omega (arith, s .0))
-    (place-first 8192 5 _ (length b) _ (omega (arith, s .0))
-    (place-first 8192 6 _ (length b) _ (omega (arith, s .0))
+    place-and mostTones (listVerdict b g t) (modeVerdict (T .mode) b t)
+    (place-unless mostTones 1 (sizeTest (length b) (length g) (length t)) _ (λ e.
+    let s = size-facts (length b) (length g) (length t) e in
+    place-first mostTones 2 _ (length t) _ (omega (arith, s .most, s .tonesFit))
+    (place-first mostTones 3 _ (length t) _ (omega (arith, s .most, s .tonesFit))
+    (place-first mostTones 4 _ (length b) _ (s .most)
+    (place-first mostTones 5 _ (length b) _ (s .most)
+    (place-first mostTones 6 _ (length b) _ (s .most)
     (omega arith)))))))
     (λ e.
-    let s = sizes-most (length b) (length g) (length t) (test-none 0 (sizeTest (length b) (length g) (length t)) _ e .0) in
-    place-if 8192 7 _ _
-    (place-if 8192 8 _ _
-    (place-first 8192 9 _ (length (codedPairs (T .mode) b t)) _ (omega (arith, pairs-most (T .mode) b t (s .1)))
+    let s = size-facts (length b) (length g) (length t) (test-none 0 (sizeTest (length b) (length g) (length t)) _ e .0) in
+    place-if mostTones 7 _ _
+    (place-if mostTones 8 _ _
+    (place-first mostTones 9 _ (length (codedPairs (T .mode) b t)) _ (pairs-most (T .mode) b t (omega (arith, s .most, s .tonesFit)))
     (omega arith))))
 
 -- ---- every call
 
-size-most : (T : Tables) → tableVerdict T .number ≡ 0 → sizeOf T ≤ 61_440
+size-most : (T : Tables) → tableVerdict T .number ≡ 0 → sizeOf T ≤ mostBits
 size-most T e = accepted-tables T e .sizeMost
 
 pub small-table : (T : Tables) → Small (tableVerdict T)
@@ -161,15 +143,15 @@ small-table T =
     }
 
 -- a verdict of the tables, then one that has L where it refuses nothing
-small-then : (T : Tables) (w : Verdict) → (tableVerdict T .number ≡ 0 → w .place ≤ 8192) → (w .number ≡ 0 → w .size ≡ sizeOf T) → Small (andThen (tableVerdict T) w)
+small-then : (T : Tables) (w : Verdict) → (tableVerdict T .number ≡ 0 → w .place ≤ mostTones) → (w .number ≡ 0 → w .size ≡ sizeOf T) → Small (andThen (tableVerdict T) w)
 unfolding andThen
 small-then T w p s =
     record {
-      placeMost = place-and 8192 (tableVerdict T) w (table-place T) p;
+      placeMost = place-and mostTones (tableVerdict T) w (table-place T) p;
       sizeMost = λ e. go (eqb (tableVerdict T .number) 0) refl e;
     }
   where
-    go : (b : Bool) → eqb (tableVerdict T .number) 0 ≡ b → verdictBy b w (tableVerdict T) .number ≡ 0 → verdictBy b w (tableVerdict T) .size ≤ 61_440
+    go : (b : Bool) → eqb (tableVerdict T .number) 0 ≡ b → verdictBy b w (tableVerdict T) .number ≡ 0 → verdictBy b w (tableVerdict T) .size ≤ mostBits
     go true z e = rw (s e) (size-most T (eqb-true (tableVerdict T .number) 0 z))
     go false z e = small-table T .sizeMost e
 
@@ -193,12 +175,12 @@ size-then v w l h e = go (eqb (v .number) 0) refl e
 
 pub small-order : (T : Tables) (a b : ℕ) → Small (orderVerdict T a b)
 unfolding orderVerdict
-small-order T a b = small-then T _ (λ _. place-if 8192 10 _ _ (omega arith)) (size-if 9 _ _ (sizeOf T) (λ _. refl))
+small-order T a b = small-then T _ (λ _. place-if mostTones 10 _ _ (omega arith)) (size-if 9 _ _ (sizeOf T) (λ _. refl))
 
 pub small-encode : (T : Tables) (f : List ℕ) (r a b : ℕ) → Small (encodeVerdict T f r a b)
 unfolding encodeVerdict encodeInputs
 small-encode T f r a b =
-    small-then T _ (λ _. place-if 8192 10 _ _ (place-if 8192 11 _ _ (place-if 8192 12 _ _ (omega arith))))
+    small-then T _ (λ _. place-if mostTones 10 _ _ (place-if mostTones 11 _ _ (place-if mostTones 12 _ _ (omega arith))))
     (size-if 9 _ _ (sizeOf T) (size-if 10 _ _ (sizeOf T) (size-if 11 _ _ (sizeOf T) (λ _. refl))))
 
 break-inside : (T : Tables) (q : List Point) → index (breakIn (readingIn T q)) ≤ length (pairsIn T)
@@ -217,12 +199,12 @@ small-read T xs ys r a =
     small-then T (andThen inputs (pointsVerdict T q r))
     (λ e.
     let k = accepted-tables T e in
-    let n : length (T .tones) ≤ 4096 = omega (arith, k .tonesMost, k .tableMost) in
+    let n : length (T .tones) ≤ mostTones = omega (arith, k .tonesMost, k .tableMost) in
     let i = break-inside T (points xs ys) in
     let c = pairs-most (T .mode) (T .bits) (T .tones) n in
-    place-and 8192 inputs (pointsVerdict T q r)
-    (place-if 8192 10 _ _ (place-if 8192 12 _ _ (omega arith)))
-    (λ _. place-first 8192 13 _ (length (T .tones)) _ (omega arith)
-    (place-first 8192 14 _ (length (T .tones)) _ (omega arith)
-    (place-at 8192 15 _ _ (omega arith) (omega arith)))))
+    place-and mostTones inputs (pointsVerdict T q r)
+    (place-if mostTones 10 _ _ (place-if mostTones 12 _ _ (omega arith)))
+    (λ _. place-first mostTones 13 _ (length (T .tones)) _ (omega arith)
+    (place-first mostTones 14 _ (length (T .tones)) _ (omega arith)
+    (place-at mostTones 15 _ _ (omega arith) (omega arith)))))
     (size-then inputs (pointsVerdict T q r) (sizeOf T) (size-at 12 _ _ (sizeOf T) (size-at 13 _ _ (sizeOf T) (size-at 14 _ _ (sizeOf T) (λ _. refl)))))

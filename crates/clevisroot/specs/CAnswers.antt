@@ -6,7 +6,7 @@ use mathlib.Core.Option.{Option, none, some}
 use mathlib.Core.Path.{_≡_}
 use lib.IntN.{ℤ}
 use Rattle.g9932.specs.Bits.{weight}
-use Rattle.g9932.specs.Sizes.{Tables, Point, origin}
+use Rattle.g9932.specs.Sizes.{Tables, mostTones, mostBits, Point, origin}
 use Rattle.g9932.specs.Refusals.{Verdict}
 use Rattle.g9932.specs.Answers.{Report, OneTone, Draw, reorderOf, encodeOf, readOf}
 use Rattle.g9932.specs.declared.Mode.{Mode}
@@ -31,8 +31,8 @@ reported a = answerOf (a .verdict) (a .register)
 
 -- bounds that a C answer has room for
 pub record Small (v : Verdict) : Type 0 where
-  pub placeMost : v .place ≤ 8192
-  pub sizeMost : v .number ≡ 0 → v .size ≤ 61_440
+  pub placeMost : v .place ≤ mostTones
+  pub sizeMost : v .number ≡ 0 → v .size ≤ mostBits
 
 pub record Reordering (T : Tables) (tones bits : List ℕ) (a : SymbolAnswer) (tonesAfter bitsAfter : List ℕ) : Type 0 where
   pub answer : a ≡ answerOf (reorderOf T tones bits .verdict) 0

@@ -1,7 +1,7 @@
 // The library for C. include/clevisroot.h says in a person's words what each function does.
 ghost use mathlib.Core.Path.{_≡_};
 ghost use Prim.Native.Nat.{_≤_};
-ghost use Rattle.g9932.specs.Sizes.{tables, point};
+ghost use Rattle.g9932.specs.Sizes.{tables, mostTones, point};
 ghost use Rattle.g9932.specs.Refusals.{numberOf, placeOf, refused, tableVerdict};
 ghost use Rattle.g9932.specs.Answers.{verdictOf, reportOf, mapLabel, readPoint, drawAnswer};
 ghost use Rattle.clevisroot.specs.CAnswers.{modeOf, answerOf, reported, pointAnswered, labelAnswered, drawAnswered, Small, Reordering, Encoding, Reading};
@@ -59,7 +59,7 @@ fn mode_of(coded: u8) -> Mode
 
 // A refusal, with the register as it came.
 fn refuse(refusal: Refusal, reg: u32) -> SymbolAnswer
-    requires { ⌜ placeOf refusal ≤ 8192 ⌝ }
+    requires { ⌜ placeOf refusal ≤ mostTones ⌝ }
     ensures { λ r. ⌜ r ≡ answerOf (refused (numberOf refusal) (placeOf refusal)) reg ⌝ }
 {
     SymbolAnswer {
@@ -120,12 +120,12 @@ pub extern "C" fn clevisroot_reorder(
     bits: &[u8],
     gains: &[u16],
     tones: &[u16],
-    order: &mut [u16],
-    entries: &mut [u8],
+    reordered_tones: &mut [u16],
+    reordered_bits: &mut [u8],
 ) -> SymbolAnswer
-    ensures { λ r. ⌜ Reordering (tables (modeOf coded) (now (bits .entry)) (now (gains .entry)) (now (tones .entry))) (now (order .entry)) (now (entries .entry)) r (now (order .exit)) (now (entries .exit)) ⌝ }
+    ensures { λ r. ⌜ Reordering (tables (modeOf coded) (now (bits .entry)) (now (gains .entry)) (now (tones .entry))) (now (reordered_tones .entry)) (now (reordered_bits .entry)) r (now (reordered_tones .exit)) (now (reordered_bits .exit)) ⌝ }
 {
-    checked(ordering::reorder(mode_of(coded), bits, gains, tones, order, entries))
+    checked(ordering::reorder(mode_of(coded), bits, gains, tones, reordered_tones, reordered_bits))
 }
 
 #[no_mangle]

@@ -11,7 +11,7 @@ use lib.ListN.{length, take, drop, getD}
 use Rattle.g9932.specs.Bits.{_⊕_, bits, bit, num, odd}
 use Rattle.g9932.specs.Sizes.{Tables, unpack, Point, origin}
 use Rattle.g9932.specs.Refusals.{accepted, refused, tableVerdict}
-use Rattle.g9932.specs.Order.{sum, count, bitsOf, entryCount, entries, pairCount}
+use Rattle.g9932.specs.Order.{sum, count, filter, oneBit, bitsOf, entryCount, entries, pairCount}
 use Rattle.g9932.specs.Trellis.{Word, zeroState, lowBits, lowBitsOf, sentBits}
 use Rattle.g9932.specs.Points.{pointOf, negated}
 use Rattle.g9932.specs.Filler.{nextRegister, drawn, registerAfter}
@@ -89,9 +89,9 @@ module _ (T : Tables) (r : ℕ) (xs ys : List ℤ) (f₀ : List ℕ) (ready : Re
 -- ---- refusals
 
 -- Whatever the inputs, what is refused returns the given register, leaves every lent buffer as it came, and reports L as 0: reading,
-pub refused-kept : (T : Tables) (X Y : List ℤ) (r : ℕ) (f₀ : List ℕ) → readOf T X Y r f₀ .report .verdict .number ≢ 0
+pub refused-reading : (T : Tables) (X Y : List ℤ) (r : ℕ) (f₀ : List ℕ) → readOf T X Y r f₀ .report .verdict .number ≢ 0
     → (readOf T X Y r f₀ .report .register ≡ r) × (readOf T X Y r f₀ .frame ≡ f₀) × (readOf T X Y r f₀ .report .verdict .size ≡ 0)
-refused-kept = Operations.refused-reading
+refused-reading = Operations.refused-reading
 
 -- encoding,
 pub refused-encoding : (T : Tables) (f : List ℕ) (r : ℕ) (xs ys : List ℤ) → encodeOf T f r xs ys .report .verdict .number ≢ 0
@@ -123,10 +123,21 @@ module _ (T : Tables) (ok : AcceptedTables T) where
   pub bits-sent : (f : List ℕ) → AcceptedFrame T f → length (sentIn T f) ≡ sum (bitsOf (T .bits) (orderOf T))
   bits-sent = Totals.bits-sent T ok
 
-  -- t' is a re-arrangement of t, and b' sums to the bits of b
+  -- t' is a re-arrangement of t
   pub rearranged : (k : ℕ) → count (eqb k) (orderOf T) ≡ count (eqb k) (T .tones)
   rearranged k = Reordering.count-order (T .bits) (T .tones) (T .mode) (eqb k)
 
+  -- 1-bit tones stay in t order among themselves, and so do the others; coded, no 1-bit tone stands before another tone
+  pub singles-in-order : filter (oneBit (T .bits)) (orderOf T) ≡ filter (oneBit (T .bits)) (T .tones)
+  singles-in-order = Reordering.singles-kept (T .bits) (T .tones) (T .mode)
+
+  pub others-in-order : filter (λ k. not (oneBit (T .bits) k)) (orderOf T) ≡ filter (λ k. not (oneBit (T .bits) k)) (T .tones)
+  others-in-order = Reordering.others-kept (T .bits) (T .tones) (T .mode)
+
+  pub singles-last : T .mode ≡ Coded → count (oneBit (T .bits)) (take (length (T .tones) - oneBitTones T) (orderOf T)) ≡ 0
+  singles-last m = rw m (Reordering.singles-last (T .bits) (T .tones))
+
+  -- b' sums to the bits of b
   pub bits-kept : sum (bitsIn T) ≡ sum (T .bits)
   bits-kept = Totals.bits-kept T ok
 

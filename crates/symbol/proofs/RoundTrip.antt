@@ -149,7 +149,7 @@ module _ (T : Tables) (f : List ℕ) (r : ℕ) (xs ys : List ℤ) (l s : ℕ) (X
       kept : (b : Answer) → reportOf b ≡ read .report → read .report .verdict .number ≢ 0 → (x : Refusal) × (b ≡ NotDone x r) × (g ≡ f₀)
       kept (Done k n) is some = absurd (some (ap (λ (p : Report). p .verdict .number) (sym is)))
       kept (NotDone x n) is some =
-          let k = Guarantees.refused-kept T _ _ r f₀ some in
+          let k = Guarantees.refused-reading T _ _ r f₀ some in
           (x, ap (NotDone x) (ap (λ (p : Report). p .register) is ∙ k .0), here .frameHolds ∙ k .1)
 
       -- it is read, as another frame, exactly when no tone is monitored and the count of non-zero re-ordered entries is even;

@@ -13,11 +13,10 @@ use Rattle.g9932.specs.declared.Mode.{Mode}
 use Rattle.g9932.specs.declared.Mode.the-variants.{Uncoded}
 use Rattle.g9932.specs.declared.Refusal.{Refusal}
 use Rattle.g9932.specs.declared.Checked.the-variants.{Refused}
-use Rattle.g9932.proofs.Accepted.{accepted-tables}
+use Rattle.g9932.proofs.Accepted.{accepted-tables, size-facts}
 use Rattle.g9932.proofs.Search.{first-no}
 use Rattle.g9932.proofs.Verdicts.{test-none, found-none, and-refused, and-accepted}
 use Rattle.tables.specs.Counted.{Medley}
-use Rattle.tables.proofs.Faults.{size-facts}
 use Rattle.tables.proofs.Modes.{uncoded-verdict}
 
 pub number-none : {l : ℕ} {v : Verdict} → accepted l ≡ v → v .number ≡ 0

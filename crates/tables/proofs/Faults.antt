@@ -23,24 +23,6 @@ module _ (p q : ℕ → Bool) (n : ℕ) where
       let f : (k : ℕ) → k < n → p k || q k ≡ false = first-no (λ k. p k || q k) n e in
       (first-all p n (λ k l. or-false (p k) (q k) (f k l) .0), first-all q n (λ k l. or-false (p k) (q k) (f k l) .1))
 
--- what the size test leaves
-pub record SizeFacts (g gains nsc : ℕ) : Type 0 where
-  pub top : g ≤ mostTones
-  pub gainsFit : gains ≡ g
-  pub tonesFit : nsc ≤ g
-
-pub size-facts : (g n m : ℕ) → sizeTest g n m ≡ false → SizeFacts g n m
-size-facts g n m e =
-    let w4 = or-false (ltb g 1 || ltb mostTones g || not (eqb n g) || ltb m 1) (ltb g m) e in
-    let w3 = or-false (ltb g 1 || ltb mostTones g || not (eqb n g)) (ltb m 1) (w4 .0) in
-    let w2 = or-false (ltb g 1 || ltb mostTones g) (not (eqb n g)) (w3 .0) in
-    let w1 = or-false (ltb g 1) (ltb mostTones g) (w2 .0) in
-    record {
-      top = ltb-false _ _ (w1 .1);
-      gainsFit = eqb-true _ _ (not-false _ (w2 .1));
-      tonesFit = ltb-false _ _ (w4 .1);
-    }
-
 -- a test of what was read is that of what stands there
 pub test-at : (test : Bool → ℕ → ℕ → Bool) {mark inT r : Bool} {x y bits gain : ℕ} → r ≡ test mark x y → mark ≡ inT → x ≡ bits → y ≡ gain → test inT bits gain ≡ r
 test-at test e m p q = sym (rw (m, p, q) at e)

@@ -3,7 +3,8 @@ use mathlib.Core.Bool.{false}
 use mathlib.Core.Path.{_≡_, refl, sym, _∙_}
 use denote.Ref.{now}
 use lib.ListN.{length}
-use Rattle.tables.proofs.Faults.{SizeFacts, size-facts, refused-size, refused-tone, refused-twice, past-tones}
+use Rattle.g9932.proofs.Accepted.{SizeFacts, size-facts}
+use Rattle.tables.proofs.Faults.{refused-size, refused-tone, refused-twice, past-tones}
 use Rattle.tables.proofs.Marks.{tones-below}
 use Rattle.g9932.specs.declared.Found.the-variants.{Nothing}
 use Rattle.g9932.specs.Refusals.{sizeTest, toneTest}
@@ -29,7 +30,7 @@ returns : tie.Need-returns
 returns c = refused-size _ _ _ (sym (c .before .wrong-size .ensures) ∙ c .if1 .taken)
 
 first-tone-requires : tie.Need-first-tone-requires
-first-tone-requires c κs = sizes c .top
+first-tone-requires c κs = sizes c .most
 
 enum-known-p : tie.Need-enum-known-p
 enum-known-p c = search needs
@@ -41,7 +42,7 @@ enum-told : tie.Need-enum-told
 enum-told c = search needs
 
 first-twice-requires : tie.Need-first-twice-requires
-first-twice-requires c κs = (refl, tones-below (now (c .before .before .before .before .before .before .before .before .before .args .tones)) (sizes (c .before .before .before .before) .top) (toned (c .before)))
+first-twice-requires c κs = (refl, tones-below (now (c .before .before .before .before .before .before .before .before .before .args .tones)) (sizes (c .before .before .before .before) .most) (toned (c .before)))
 
 enum-known-p-2 : tie.Need-enum-known-p-2
 enum-known-p-2 c = search needs
@@ -55,7 +56,7 @@ enum-told-2 c = search needs
 check-indices-requires : tie.Need-check-indices-requires
 check-indices-requires c κs =
     let s = sizes (c .before .before .before .before .before .before .before .before) in
-    (s .top, (s .gainsFit, c .before .before .before .first-twice .ensures .1))
+    (s .most, (s .gainsFit, c .before .before .before .first-twice .ensures .1))
 
 returns-4 : tie.Need-returns-4
 returns-4 c = past-tones _ _ _ (sized (c .before .before .before .before .before .before .before .before .before)) (toned (c .before .before .before .before .before .before)) (sym (c .before .before .before .before .first-twice .ensures .0) ∙ c .before .before .enum-told2 .given .1) (c .check-indices .ensures)
