@@ -125,7 +125,14 @@ pub extern "C" fn clevisroot_reorder(
 ) -> SymbolAnswer
     ensures { λ r. ⌜ Reordering (tables (modeOf coded) (now (bits .entry)) (now (gains .entry)) (now (tones .entry))) (now (reordered_tones .entry)) (now (reordered_bits .entry)) r (now (reordered_tones .exit)) (now (reordered_bits .exit)) ⌝ }
 {
-    checked(ordering::reorder(mode_of(coded), bits, gains, tones, reordered_tones, reordered_bits))
+    checked(ordering::reorder(
+        mode_of(coded),
+        bits,
+        gains,
+        tones,
+        reordered_tones,
+        reordered_bits,
+    ))
 }
 
 #[no_mangle]

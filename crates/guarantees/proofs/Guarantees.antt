@@ -25,6 +25,7 @@ use Rattle.g9932.proofs.Reordering as Reordering
 use Rattle.g9932.proofs.Verdicts as Verdicts
 use Rattle.guarantees.specs.Words.{AcceptedTables, AcceptedFrame, ValidRegister, RightLength, Ready, nonZero, wordsIn, stateAfter, labelsOf, lowest, lowestAt, oneBitTones, firstOfTwo, sharedEntry, table10-2, secondBit, fillerBit, turned}
 use Rattle.guarantees.proofs.Coded as Coded
+use Rattle.guarantees.proofs.EntryBits as EntryBits
 use Rattle.guarantees.proofs.HalfTurn as HalfTurn
 use Rattle.guarantees.proofs.Mapping as Mapping
 use Rattle.guarantees.proofs.Operations as Operations
@@ -162,11 +163,11 @@ table-10-2 = Coded.table-10-2
 -- The two lowest bits of v are sent first, those of w right after v's x bits;
 pub sent-low : (x y : ℕ) (u : Word) → 2 ≤ x → length (u .high) ≡ x + y - 4 → 2 ≤ y
     → (take 2 (sentBits x u) ≡ lowBitsOf u .v0 ∷ lowBitsOf u .v1 ∷ []) × (take 2 (drop x (sentBits x u)) ≡ lowBitsOf u .w0 ∷ lowBitsOf u .w1 ∷ [])
-sent-low = Coded.sent-low
+sent-low = EntryBits.sent-low
 
 -- where x = 0, v isn't sent, and w comes first.
 pub sent-low-alone : (u : Word) → take 2 (sentBits 0 u) ≡ lowBitsOf u .w0 ∷ lowBitsOf u .w1 ∷ []
-sent-low-alone = Coded.sent-low-alone
+sent-low-alone = EntryBits.sent-low-alone
 
 -- In accepted tables, coded, with an accepted frame:
 module _ (T : Tables) (ok : AcceptedTables T) (m : T .mode ≡ Coded) (f : List ℕ) (a : AcceptedFrame T f) where

@@ -1,5 +1,6 @@
 -- `Guarantees` is the front page; the others are its parts.
 pub mod Coded
+pub mod EntryBits
 pub mod Guarantees
 pub mod HalfTurn
 pub mod Mapping
