@@ -4,8 +4,8 @@ use mathlib.Core.List.{List, [], _∷_, _++_}
 use mathlib.Core.Path.{_≡_, sym, ap, _∙_}
 use native.Mathlib.Numerals.{add-one}
 use native.Mathlib.Omega.{arith}
-use lib.ListN.{length, getD, take, drop, set, replicate, length-append}
-use lib.Seq.{sets, sets-eq, take-at, take-all, take-suc, take-suc-set}
+use lib.ListN.{length, take, drop, set, replicate, length-append}
+use lib.Seq.{sets, sets-eq, take-at}
 
 -- one store more, and the end
 pub sets-step : (out : List ℕ) (n x : ℕ) {xs ys zs : List ℕ} → xs ≡ x ∷ ys → sets out n xs ≡ zs → sets (set out n x) (n + 1) ys ≡ zs
@@ -44,14 +44,6 @@ module _ (out xs ys : List ℕ) {m n : ℕ} (e : m ≡ length xs) where
   take-three zs {k} f g h =
       rw (sets-sets (sets out 0 xs) ys zs m k f, sets-sets out xs (ys ++ zs) 0 m (omega arith))
       (take-sets out (xs ++ (ys ++ zs)) n (simp length-append (omega arith)) h)
-
--- copying the front of a list: one entry more, and the end
-module _ (src out : List ℕ) (i : ℕ) (done : take i out ≡ take i src) where
-  pub copy-more : i < length src → i < length out → take (i + 1) (set out i (getD src i 0)) ≡ take (i + 1) src
-  copy-more h k = rw (add-one, take-suc-set out i (getD src i 0) k, take-suc src i 0 h, done)
-
-  pub copy-end : {n : ℕ} → length out ≡ n → i ≤ n → n ≤ i → out ≡ take n src
-  copy-end {n} l h k = let e : i ≡ n = omega arith in sym (take-all i out (omega arith)) ∙ done ∙ ap (λ (m : ℕ). take m src) e
 
 pub replicate-some : (n v : ℕ) → 0 < n → replicate n v ≡ v ∷ replicate (n - 1) v
 replicate-some zero v h = absurd (omega arith)

@@ -4,14 +4,14 @@ use mathlib.Core.List.{List, _++_}
 use mathlib.Core.Path.{_≡_, sym, ap, _∙_}
 use native.Mathlib.Omega.{arith}
 use lib.Dec.{leb}
-use lib.ListN.{length, take, drop, replicate, length-replicate}
-use lib.Seq.{sets, take-add, drop-at, length-take-le}
-use Rattle.g9932.specs.Order.{bitsOf, oneBit, filter, singles, others, ones, entryCount, entries, reorderedTones, reorderedBits}
+use lib.ListN.{length, take, replicate, length-replicate}
+use lib.Seq.{sets}
+use Rattle.g9932.specs.Order.{bitsOf, oneBit, filter, singles, others, reorderedTones, reorderedBits}
 use Rattle.g9932.specs.declared.Mode.the-variants.{Coded}
 use Rattle.g9932.proofs.Counts.{length-parts}
 use Rattle.g9932.proofs.Reordering.{entries-law}
 use Rattle.tables.proofs.Counting.{entries-fit}
-use Rattle.ordering.specs.Ordered.{CodedNeeds, Written}
+use Rattle.ordering.specs.Ordered.{CodedNeeds}
 use Rattle.ordering.proofs.Runs.{take-two, take-three}
 
 -- t' and b', written in runs
@@ -32,17 +32,3 @@ module _ (b t : List ℕ) where
       let h = length-replicate {A = ℕ} (one / 2) 2 in
       rw (q3, q2, q1, entries-law b t, ← k .zerosIs, ← k .onesIs)
       (take-three e0 (replicate zeros 0) (filter (leb 2) (bitsOf b t)) (sym z) (replicate (one / 2) 2) (omega arith) (omega arith) room)
-
-  -- the N entries of b', where it is written
-  pub entries-in : {n z : ℕ} {order after : List ℕ} → ones b t % 2 ≡ 0 → length t ≤ length after → n ≡ entryCount b t → z ≡ length t - n
-      → Written Coded b t order after → take n (drop z after) ≡ entries b t
-  unfolding reorderedBits
-  entries-in {n} {z} {after = after} even room pn pz w =
-      let f = entries-fit b t even in
-      let s : z + n ≡ length t = omega arith in
-      let q : length t - entryCount b t ≡ z = omega arith in
-      let u : take z after ++ take n (drop z after) ≡ replicate z 0 ++ entries b t =
-      sym (take-add z n after) ∙ ap (λ (m : ℕ). take m after) s ∙ w .bits ∙ ap (λ (m : ℕ). replicate m 0 ++ entries b t) q in
-      sym (drop-at (take z after) (take n (drop z after)) z (length-take-le z after (omega arith)))
-      ∙ ap (drop z) u
-      ∙ drop-at (replicate z 0) (entries b t) z (length-replicate z 0)

@@ -1,34 +1,17 @@
--- What stands in the two arrays for t' and b', and what the functions that write them ask.
-use Prim.Native.Nat.{ℕ, _+_, _-_, _%_, _≤_}
+-- What is written for t' and b', and what the functions that write them ask.
+use Prim.Native.Nat.{ℕ, _+_, _-_, _/_, _%_, _≤_}
 use mathlib.Core.List.{List}
 use mathlib.Core.Path.{_≡_}
 use lib.Dec.{leb}
 use lib.ListN.{length, take}
 use lib.Seq.{sets}
-use Rattle.g9932.specs.Sizes.{Tables, mostTones}
-use Rattle.g9932.specs.Refusals.{Verdict, tableVerdict}
-use Rattle.g9932.specs.Order.{filter, bitsOf, others, ones, reorderedTones, entryCount, reorderedBits}
-use Rattle.g9932.specs.Answers.{verdictOf, onDone, roomVerdict}
+use Rattle.g9932.specs.Order.{filter, bitsOf, others, loaded, ones, reorderedTones, entryCount, reorderedBits}
 use Rattle.g9932.specs.declared.Mode.{Mode}
-use Rattle.g9932.specs.declared.Checked.{Checked}
 use Rattle.tables.specs.Checks.{Below}
+use Rattle.tables.specs.Modes.{sharing}
 
--- the answer, and where nothing is refused t' and b' in the first NSC entries of two arrays
-pub record OrderedBy (v : Verdict) (m : Mode) (b t : List ℕ) (r : Checked) (ts bs : List ℕ) : Type 0 where
-  pub answer : verdictOf r ≡ v
-  pub tones : v .number ≡ 0 → take (length t) ts ≡ reorderedTones m b t
-  pub bits : v .number ≡ 0 → take (length t) bs ≡ reorderedBits m b t
-
-abbrev pub Ordered : Tables → Checked → List ℕ → List ℕ → Type 0
-Ordered T r ts bs = OrderedBy (tableVerdict T) (T .mode) (T .bits) (T .tones) r ts bs
-
--- two arrays that hold any t' and b'; and room for those of t
-pub record Arrays (ts bs : List ℕ) : Type 0 where
-  pub tonesLength : length ts ≡ mostTones
-  pub bitsLength : length bs ≡ mostTones
-
+-- room for t' and b'
 pub record OrderNeeds (t ts bs : List ℕ) : Type 0 where
-  pub size : length t ≤ mostTones
   pub tonesFit : length t ≤ length ts
   pub bitsFit : length t ≤ length bs
 
@@ -50,13 +33,15 @@ pub record PlaceNeeds (b t : List ℕ) (from tonesLength bitsLength : ℕ) : Typ
   pub bitsFit : from + length (filter (leb 2) (bitsOf b t)) ≤ bitsLength
   pub below : Below (length b) t
 
--- and what it does to the two arrays
+-- and what it does to the two buffers
 pub record Placing (b t : List ℕ) (from : ℕ) (ts bs tsAfter bsAfter : List ℕ) : Type 0 where
   pub tones : tsAfter ≡ sets ts 0 (others b t)
   pub bits : bsAfter ≡ sets bs from (filter (leb 2) (bitsOf b t))
 
--- copying t' and b' out: refused for room, or both buffers hold n entries
-pub record CopiesOut (l n : ℕ) (ts bs tones bits : List ℕ) (r : Checked) (tonesAfter bitsAfter : List ℕ) : Type 0 where
-  pub answer : verdictOf r ≡ roomVerdict n (length tones) (length bits) l
-  pub tonesHold : tonesAfter ≡ onDone (roomVerdict n (length tones) (length bits) l) (take n ts) tones
-  pub bitsHold : bitsAfter ≡ onDone (roomVerdict n (length tones) (length bits) l) (take n bs) bits
+-- what writing t' and b' asks in either mode: what refusals 1 to 9 leave of the tables, and room
+pub record WriteNeeds (m : Mode) (entries sharers : ℕ) (b t ts bs : List ℕ) : Type 0 where
+  pub room : OrderNeeds t ts bs
+  pub below : Below (length b) t
+  pub entriesAre : entries ≡ loaded b t - sharing m b t / 2
+  pub sharersAre : sharers ≡ sharing m b t
+  pub even : sharers % 2 ≡ 0

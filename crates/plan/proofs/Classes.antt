@@ -12,7 +12,8 @@ use Rattle.g9932.specs.Symbol.{load, classesOf}
 use Rattle.g9932.specs.declared.Class.{Class}
 use Rattle.g9932.specs.declared.Class.the-variants.{Data, Monitored, Silent}
 use Rattle.plan.specs.Classes.{PlanOf}
-use Rattle.plan.specs.Plan.{Carries, leastOwn, sharing, everySecond, PlanIs, classesBy, isPlaced, only}
+use Rattle.plan.specs.Plan.{Carries, leastOwn, everySecond, PlanIs, classesBy, isPlaced, only}
+use Rattle.tables.specs.Modes.{sharing}
 use Rattle.plan.specs.declared.Sizes.{Sizes}
 use Rattle.plan.proofs.Steps.{carried}
 use Rattle.plan.proofs.Whole.{least-own, classes-plan, placed-count, plan-entries, plan-places}

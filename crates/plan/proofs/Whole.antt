@@ -18,7 +18,8 @@ use Rattle.g9932.specs.declared.Class.{Class}
 use Rattle.g9932.specs.declared.Class.the-variants.{Data, Monitored, Silent}
 use Rattle.g9932.specs.declared.Mode.{Mode}
 use Rattle.g9932.specs.declared.Mode.the-variants.{Uncoded, Coded}
-use Rattle.plan.specs.Plan.{leastOwn, sharing, placesWhere, everySecond, sharedFrom, PlanIs, classesBy, isPlaced, only, Filing, Shares}
+use Rattle.plan.specs.Plan.{leastOwn, placesWhere, everySecond, sharedFrom, PlanIs, classesBy, isPlaced, only, Filing, Shares}
+use Rattle.tables.specs.Modes.{sharing}
 use Rattle.plan.specs.declared.filing.Cursors.{Cursors}
 use Rattle.plan.proofs.Steps.{load-class, places-append}
 

@@ -7,20 +7,19 @@ use lib.Dec.{leb}
 use lib.ListN.{length, take, replicate}
 use Rattle.constellation.specs.Layouts.{classLayout}
 use Rattle.g9932.specs.Bits.{weight}
-use Rattle.g9932.specs.Order.{consIf, filter, ones}
-use Rattle.g9932.specs.Refusals.{numberOf, placeOf, Verdict, refused, accepted, tableVerdict, modeVerdict}
+use Rattle.g9932.specs.Order.{consIf, filter}
+use Rattle.g9932.specs.Refusals.{numberOf, placeOf, Verdict, refused, accepted, tableVerdict}
 use Rattle.g9932.specs.Sizes.{Tables, entry, toneOf, mostTones}
 use Rattle.g9932.specs.Symbol.{load, isMonitored, classesOf}
 use Rattle.g9932.specs.declared.Class.{Class}
 use Rattle.g9932.specs.declared.Class.the-variants.{Data, Monitored, Silent}
 use Rattle.g9932.specs.declared.Mode.{Mode}
 use Rattle.g9932.specs.declared.Mode.the-variants.{Uncoded, Coded}
-use Rattle.tables.specs.Counted.{Medley}
+use Rattle.tables.specs.Checks.{Below}
+pub use Rattle.tables.specs.Modes.{sharing}
 use Rattle.plan.specs.declared.Planned.{Planned}
 use Rattle.plan.specs.declared.Planned.the-variants.{Ready, Refused}
 use Rattle.plan.specs.declared.Sizes.{Sizes}
-use Rattle.plan.specs.declared.Sized.{Sized}
-use Rattle.plan.specs.declared.Sized.the-variants.{Frame, Refused as Unsized}
 use Rattle.plan.specs.declared.filing.Cursors.{Cursors}
 
 -- ---- the plan of accepted tables
@@ -29,11 +28,6 @@ use Rattle.plan.specs.declared.filing.Cursors.{Cursors}
 abbrev pub leastOwn : Mode → ℕ
 leastOwn Uncoded = 1
 leastOwn Coded = 2
-
--- how many tones share
-abbrev pub sharing : Mode → List ℕ → List ℕ → ℕ
-sharing Uncoded b t = 0
-sharing Coded b t = ones b t
 
 -- the places, from i on, at which a test holds
 abbrev pub placesWhere : {A : Type 0} → (A → Bool) → ℕ → List A → List ℕ
@@ -83,27 +77,10 @@ abbrev pub Made : Tables → Planned → List ℕ → List ℕ → List ℕ → 
 Made T (Ready p) layouts entries places monitored = PlanIs T p layouts entries places monitored
 Made T (Refused x) layouts entries places monitored = Unit {0}
 
--- by the verdict of refusals 7 to 9 alone, or of 1 to 9
-pub record PlansBy (v : Verdict) (T : Tables) (r : Planned) (layouts entries places monitored : List ℕ) : Type 0 where
-  pub answer : plannedVerdict r ≡ v
+-- the answer, and where nothing is refused the four lists
+pub record Plans (T : Tables) (r : Planned) (layouts entries places monitored : List ℕ) : Type 0 where
+  pub answer : plannedVerdict r ≡ tableVerdict T
   pub made : Made T r layouts entries places monitored
-
-abbrev pub Plans : Tables → Planned → List ℕ → List ℕ → List ℕ → List ℕ → Type 0
-Plans T r layouts entries places monitored = PlansBy (tableVerdict T) T r layouts entries places monitored
-
--- ---- what the mode makes of the tones
-
-abbrev pub sizedVerdict : Sized → Verdict
-sizedVerdict (Frame size sharers) = accepted size
-sizedVerdict (Unsized x) = refused (numberOf x) (placeOf x)
-
-abbrev pub Sharing : Mode → List ℕ → List ℕ → Sized → Type 0
-Sharing m b t (Frame size sharers) = (sharers ≡ sharing m b t) × (sharers % 2 ≡ 0)
-Sharing m b t (Unsized x) = Unit {0}
-
-pub record SizesFrame (m : Mode) (b t : List ℕ) (r : Sized) : Type 0 where
-  pub answer : sizedVerdict r ≡ modeVerdict m b t
-  pub shares : Sharing m b t r
 
 -- ---- filing the tones
 
@@ -116,7 +93,8 @@ pub record Arrays (layouts entries places monitored : List ℕ) : Type 0 where
 
 pub record PlanNeeds (m : Mode) (sharers : ℕ) (b g t layouts entries places monitored : List ℕ) : Type 0 where
   pub arrays : Arrays layouts entries places monitored
-  pub medley : Medley b t
+  pub below : Below (length b) t
+  pub bitsMost : (k : ℕ) → entry b k ≤ 15
   pub gains : length g ≡ length b
   pub most : length t ≤ mostTones
   pub sharersAre : sharers ≡ sharing m b t
@@ -174,7 +152,8 @@ pub record Filing (least : ℕ) (cs : List Class) (at : Cursors) (layouts entrie
 
 pub record FileNeeds (least : ℕ) (b g t layouts entries places monitored : List ℕ) : Type 0 where
   pub arrays : Arrays layouts entries places monitored
-  pub medley : Medley b t
+  pub below : Below (length b) t
+  pub bitsMost : (k : ℕ) → entry b k ≤ 15
   pub gains : length g ≡ length b
   pub most : length t ≤ mostTones
   pub leastIs : 1 ≤ least

@@ -1,37 +1,16 @@
 // Filing the tones of t by place and by entry. Called by proved code only.
 ghost use mathlib.Core.Path.{_≡_};
-ghost use Prim.Native.Nat.{_<_};
-ghost use lib.ListN.{length};
-ghost use Rattle.g9932.specs.Sizes.{entry, toneOf};
+ghost use Rattle.g9932.specs.Sizes.{toneOf};
 ghost use Rattle.constellation.specs.Layouts.{layoutList};
 ghost use Rattle.plan.specs.Plan.{classesBy, isPlaced, only, ToneNeeds, FilesTone, Filing, FileNeeds, ShareNeeds, Shares};
 use g9932::Class;
 use g9932::Place;
-use g9932::Subcarrier;
 
 // Where the next tone goes in each list.
 pub struct Cursors {
     pub place: usize,
     pub entry: usize,
     pub monitored: usize,
-}
-
-// The bits of a sub-carrier of the tables.
-fn bits_of(bits: &[u8], k: Subcarrier) -> u8
-    requires { ⌜ k .0 < length (now bits) ⌝ }
-    ensures { λ r. ⌜ r ≡ entry (now (bits .entry)) (k .0) ⌝ }
-{
-    let at = k.0;
-    bits[at]
-}
-
-// Its gain.
-fn gain_of(gains: &[u16], k: Subcarrier) -> u16
-    requires { ⌜ k .0 < length (now gains) ⌝ }
-    ensures { λ r. ⌜ r ≡ entry (now (gains .entry)) (k .0) ⌝ }
-{
-    let at = k.0;
-    gains[at]
 }
 
 // Files one tone. From `least` bits on it has a place and an entry of its own; with fewer it shares, and is left out here; without
@@ -111,8 +90,8 @@ pub fn file_tones(
     let mut i = 0;
     while i < tones.len() {
         let k = tables::tone_at(tones, Place(i));
-        let b = bits_of(bits, k);
-        let gain = gain_of(gains, k);
+        let b = tables::bits_of(bits, k);
+        let gain = tables::gain_of(gains, k);
         at = file_tone(
             b,
             gain,

@@ -1,36 +1,25 @@
 -- Laws of refusals 1 to 6 answered: what is left of the tables where none applies, and the whole answer where one does.
-use Prim.Native.Nat.{ℕ, _<_, _≤_}
 use mathlib.Core.Bool.{false}
 use mathlib.Core.List.{List}
 use mathlib.Core.Path.{_≡_, refl, sym, ap, _∙_}
-use native.Mathlib.Omega.{arith}
+use Prim.Native.Nat.{ℕ, _<_}
 use lib.ListN.{length}
-use Rattle.g9932.specs.Bits.{first}
-use Rattle.g9932.specs.Sizes.{tables, mostTones}
-use Rattle.g9932.specs.Refusals.{Verdict, accepted, sizeTest, toneTest, twiceTest, tableVerdict, listVerdict}
-use Rattle.g9932.specs.Answers.{verdictOf}
-use Rattle.g9932.specs.declared.Mode.{Mode}
-use Rattle.g9932.specs.declared.Mode.the-variants.{Uncoded}
-use Rattle.g9932.specs.declared.Refusal.{Refusal}
-use Rattle.g9932.specs.declared.Checked.the-variants.{Refused}
-use Rattle.g9932.proofs.Accepted.{accepted-tables, size-facts}
+use Rattle.g9932.proofs.Accepted.{accepted-tables}
 use Rattle.g9932.proofs.Search.{first-no}
 use Rattle.g9932.proofs.Verdicts.{test-none, found-none, and-refused, and-accepted}
-use Rattle.tables.specs.Counted.{Medley}
+use Rattle.g9932.specs.Answers.{verdictOf}
+use Rattle.g9932.specs.Bits.{first}
+use Rattle.g9932.specs.Refusals.{Verdict, accepted, sizeTest, toneTest, twiceTest, tableVerdict, listVerdict}
+use Rattle.g9932.specs.Sizes.{tables}
+use Rattle.g9932.specs.declared.Checked.the-variants.{Refused}
+use Rattle.g9932.specs.declared.Mode.the-variants.{Uncoded}
+use Rattle.g9932.specs.declared.Mode.{Mode}
+use Rattle.g9932.specs.declared.Refusal.{Refusal}
 use Rattle.tables.proofs.Modes.{uncoded-verdict}
+use Rattle.tables.specs.Counted.{Medley}
 
 pub number-none : {l : ℕ} {v : Verdict} → accepted l ≡ v → v .number ≡ 0
 number-none e = sym (ap (λ (v : Verdict). v .number) e)
-
--- tables that pass 1 have at most 4,096 tones
-pub lists-fit : (b g t : List ℕ) {l : ℕ} → accepted l ≡ listVerdict b g t → length t ≤ mostTones
-unfolding listVerdict
-lists-fit b g t e = let z = size-facts (length b) (length g) (length t) (test-none 0 _ _ (number-none e) .0) in omega arith
-
--- and as many gains as bits
-pub lists-gains : (b g t : List ℕ) {l : ℕ} → accepted l ≡ listVerdict b g t → length g ≡ length b
-unfolding listVerdict
-lists-gains b g t e = let z = size-facts (length b) (length g) (length t) (test-none 0 _ _ (number-none e) .0) in omega arith
 
 -- t without a repeat
 lists-once : (b g t : List ℕ) {l : ℕ} → accepted l ≡ listVerdict b g t → (k : ℕ) → k < length t → twiceTest t k ≡ false

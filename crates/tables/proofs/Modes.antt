@@ -1,25 +1,25 @@
 -- Laws of refusals 7 to 9: none applies uncoded; coded, the counts decide 7, 8 and L.
-use Prim.Native.Nat.{ℕ, _+_, _-_, _/_, _%_, _<_, _≤_}
 use mathlib.Core.Bool.{false}
 use mathlib.Core.List.{List}
 use mathlib.Core.Path.{_≡_, refl, sym, ap, _∙_}
-use native.Mathlib.Omega.{arith}
-use borrow.Author.Tests.{eq-eqb, ne-eqb, lt-ltb, le-ltb}
+use Prim.Native.Nat.{ℕ, _+_, _-_, _/_, _%_, _<_, _≤_}
 use lib.Dec.{ltb}
 use lib.ListN.{length, take}
-use Rattle.g9932.specs.Bits.{first}
-use Rattle.g9932.specs.Refusals.{Verdict, refused, accepted, refuseAt, pairTest, modeVerdict}
-use Rattle.g9932.specs.Order.{sum, count, isOne, bitsOf, loaded, ones, entryCount, entries, pairsOf, reorderedBits, codedPairs, frameSize}
-use Rattle.g9932.specs.declared.Found.{Found}
-use Rattle.g9932.specs.declared.Found.the-variants.{At, Nothing}
-use Rattle.g9932.specs.declared.Mode.the-variants.{Uncoded, Coded}
+use borrow.Author.Tests.{eq-eqb, ne-eqb, lt-ltb, le-ltb}
+use native.Mathlib.Omega.{arith}
 use Rattle.g9932.proofs.Formed.{isOne-even, formed-size, formed-pairsOf, length-pairsOf, total-pairsOf}
 use Rattle.g9932.proofs.Reordering.{sum-entries, length-entries, allTwo-entries, nonzero-entries}
 use Rattle.g9932.proofs.Search.{first-none}
-use Rattle.g9932.proofs.Verdicts.{test-here, test-past, found-here, found-past}
-use Rattle.tables.specs.declared.Counts.{Counts}
-use Rattle.tables.specs.Counted.{CountsAre}
+use Rattle.g9932.proofs.Verdicts.{test-here, test-past, found-past}
+use Rattle.g9932.specs.Bits.{first}
+use Rattle.g9932.specs.Order.{sum, count, isOne, bitsOf, loaded, ones, entryCount, entries, pairsOf, reorderedBits, codedPairs, frameSize}
+use Rattle.g9932.specs.Refusals.{Verdict, refused, accepted, refuseAt, pairTest, modeVerdict}
+use Rattle.g9932.specs.declared.Found.the-variants.{Nothing}
+use Rattle.g9932.specs.declared.Found.{Found}
+use Rattle.g9932.specs.declared.Mode.the-variants.{Uncoded, Coded}
 use Rattle.tables.proofs.Counting.{entries-fit}
+use Rattle.tables.specs.Counted.{CountsAre}
+use Rattle.tables.specs.declared.Counts.{Counts}
 
 pub uncoded-verdict : (b t : List ℕ) {l : ℕ} → l ≡ sum (bitsOf b t) → accepted l ≡ modeVerdict Uncoded b t
 unfolding modeVerdict codedPairs frameSize
@@ -63,9 +63,6 @@ module _ {b t : List ℕ} {c : Counts} (k : CountsAre c b t) where
       past-few : {x : Verdict} → x ≡ refuseAt 9 (pairIn (entries b t)) (accepted (frameSize Coded b t)) → x ≡ modeVerdict Coded b t
       unfolding modeVerdict codedPairs
       past-few q = test-past 7 not-odd (test-past 8 (ap (λ (n : ℕ). ltb n 4) counted ∙ le-ltb _ _ some) q)
-
-      pub coded-pair : {n : ℕ} → pairIn (entries b t) ≡ At n → refused 9 n ≡ modeVerdict Coded b t
-      coded-pair e = past-few (found-here 9 _ e)
 
       pub coded-done : pairIn (entries b t) ≡ Nothing → accepted (c .sum - (c .loaded - c .ones / 2 + 1) / 2 - 4) ≡ modeVerdict Coded b t
       unfolding frameSize

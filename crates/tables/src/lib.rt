@@ -1,15 +1,17 @@
-// The bit, gain and tone tables: what stands at a place and at a sub-carrier, counts over the tones, and refusals 1 to 6.
+// The bit, gain and tone tables: what stands at a place and at a sub-carrier, counts over the tones, and refusals 1 to 9.
 use g9932::Class;
 use g9932::Place;
 use g9932::Subcarrier;
 use g9932::Tone;
 ghost use mathlib.Core.Path.{_≡_};
-ghost use Prim.Native.Nat.{_≤_};
+ghost use Prim.Native.Nat.{_≤_, _<_};
+ghost use lib.ListN.{length};
 ghost use Rattle.g9932.specs.Bits.{weight};
 ghost use Rattle.g9932.specs.Sizes.{entry, toneOf};
 ghost use Rattle.tables.specs.Counted.{CountsAre, Medley};
 
 pub mod lists; // refusals 1 to 6
+pub mod sizes; // refusals 7 to 9 and L
 
 // The sub-carrier at a place of a tone table; 0 past its end.
 pub fn tone_at(tones: &[u16], p: Place) -> Subcarrier
@@ -39,6 +41,23 @@ pub fn gain_at(gains: &[u16], k: Subcarrier) -> u16
     if at < gains.len() { gains[at] } else { 0 }
 }
 
+// The bits, and the gain, of a sub-carrier that the tables have. Called by proved code only.
+pub fn bits_of(bits: &[u8], k: Subcarrier) -> u8
+    requires { ⌜ k .0 < length (now bits) ⌝ }
+    ensures { λ r. ⌜ r ≡ entry (now (bits .entry)) (k .0) ⌝ }
+{
+    let at = k.0;
+    bits[at]
+}
+
+pub fn gain_of(gains: &[u16], k: Subcarrier) -> u16
+    requires { ⌜ k .0 < length (now gains) ⌝ }
+    ensures { λ r. ⌜ r ≡ entry (now (gains .entry)) (k .0) ⌝ }
+{
+    let at = k.0;
+    gains[at]
+}
+
 // The tone with these bits and this gain.
 pub fn tone_of(bits: u8, gain: u16) -> Tone
     ensures { λ r. ⌜ r ≡ toneOf bits gain ⌝ }
@@ -59,14 +78,6 @@ pub fn tone_of(bits: u8, gain: u16) -> Tone
         class: Class::Silent,
         gain,
     }
-}
-
-// The tone at a place of a tone table.
-pub fn tone_of_place(bits: &[u8], gains: &[u16], tones: &[u16], p: Place) -> Tone
-    ensures { λ r. ⌜ r ≡ toneOf (entry (now (bits .entry)) (entry (now (tones .entry)) (p .0))) (entry (now (gains .entry)) (entry (now (tones .entry)) (p .0))) ⌝ }
-{
-    let k = tone_at(tones, p);
-    tone_of(bits_at(bits, k), gain_at(gains, k))
 }
 
 // A test as a number to count with.

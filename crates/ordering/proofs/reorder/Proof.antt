@@ -1,47 +1,47 @@
 -- `ordering::reorder` meets its contract: a lent buffer is written only where none of 1 to 10 refuses.
-use mathlib.Core.Path.{_≡_, sym, ap, _∙_}
+use mathlib.Core.Path.{sym, ap, _∙_}
 use denote.Ref.{now}
+use borrow.Author.Tests.{eq-eqb, ne-eqb}
 use native.Mathlib.Omega.{arith}
-use Rattle.ordering.proofs.Answers.{table-fits, reorder-refused, reorder-copied}
-use Rattle.g9932.specs.Answers.{verdictOf}
-use Rattle.g9932.specs.Refusals.{accepted, tableVerdict}
+use Rattle.g9932.proofs.Accepted.{accepted-tables}
 use Rattle.g9932.specs.Sizes.{tables}
+use Rattle.ordering.proofs.Answers.{reorder-refused, room-refused, reordered}
+use Rattle.tables.proofs.Answers.{number-none}
+use Rattle.tables.specs.Modes.{sizedVerdict}
 use borrow.Author.Needs.{needs}
 use Rattle.ordering.proofs.reorder.Statement.{statement}
 use Rattle.ordering.proofs.reorder.Tie as tie
 
-passed : (c : tie.After-r2) → let a = c .before .before .before .before .before .before .before .before .before .before .before .before .args in
-    accepted (c .r2 .given .0 .0) ≡ tableVerdict (tables (a .mode) (now (a .bits)) (now (a .gains)) (now (a .tones)))
-passed c = ap verdictOf (sym (c .r2 .given .1)) ∙ c .before .before .before .before .order-tables .ensures .answer
+size-tables-requires : tie.Need-size-tables-requires
+size-tables-requires c κs = search needs
 
-slice-aggregate-order-tables : tie.Need-slice-aggregate-order-tables
-slice-aggregate-order-tables c = search needs
+enum-known-s : tie.Need-enum-known-s
+enum-known-s c = search needs
 
-slice-aggregate-order-tables-2 : tie.Need-slice-aggregate-order-tables-2
-slice-aggregate-order-tables-2 c = search needs
-
-order-tables-requires : tie.Need-order-tables-requires
-order-tables-requires c κs = search needs
-
-enum-known-r : tie.Need-enum-known-r
-enum-known-r c = search needs
-
-enum-known-r-2 : tie.Need-enum-known-r-2
-enum-known-r-2 c = search needs
-
-slice-aggregate-copy-out : tie.Need-slice-aggregate-copy-out
-slice-aggregate-copy-out c = search needs
-
-slice-aggregate-copy-out-2 : tie.Need-slice-aggregate-copy-out-2
-slice-aggregate-copy-out-2 c = search needs
-
-copy-out-requires : tie.Need-copy-out-requires
-copy-out-requires c κs =
-    let h = table-fits _ (passed (c .before .before .before .before .before)) in
-    (omega (arith, h), omega (arith, h))
+enum-known-s-2 : tie.Need-enum-known-s-2
+enum-known-s-2 c = search needs
 
 returns : tie.Need-returns
-returns c = reorder-refused (c .before .r .given .0 .0) (ap verdictOf (sym (c .before .r .given .1)) ∙ c .before .before .before .before .before .order-tables .ensures .answer)
+returns c =
+    let e = ap sizedVerdict (sym (c .before .before .s2 .given .1)) ∙ c .before .before .before .before .size-tables .ensures .answer in
+    room-refused _ _ _ e (rw (ne-eqb _ _ (c .if1 .taken)))
+
+returns-2 : tie.Need-returns-2
+returns-2 c =
+    let e = ap sizedVerdict (sym (c .before .before .before .s2 .given .1)) ∙ c .before .before .before .before .before .size-tables .ensures .answer in
+    room-refused _ _ _ e (rw (eq-eqb _ _ (c .before .if1 .left), ne-eqb _ _ (c .if2 .taken)))
+
+write-order-requires : tie.Need-write-order-requires
+write-order-requires c κs =
+    let a = c .before .before .before .before .before .before .before .before .before .before .before .before .before .args in
+    let z = c .before .before .before .before .before .before .before .size-tables in
+    let e = c .before .before .before .before .before .s2 .given .1 in
+    let h = rw e at (z .ensures .shares) in
+    let k = accepted-tables (tables (a .mode) (now (a .bits)) (now (a .gains)) (now (a .tones))) (number-none (ap sizedVerdict (sym e) ∙ z .ensures .answer)) in
+    record { room = record { tonesFit = omega (arith, c .before .before .before .if1 .left); bitsFit = omega (arith, c .before .before .if2 .left) }; below = k .tonesBelow; entriesAre = h .0; sharersAre = h .1; even = h .2 }
+
+returns-3 : tie.Need-returns-3
+returns-3 c = reorder-refused _ _ _ _ (ap sizedVerdict (sym (c .before .s .given .1)) ∙ c .before .before .before .size-tables .ensures .answer)
 
 same-length : tie.Need-same-length
 same-length c = search needs
@@ -49,22 +49,23 @@ same-length c = search needs
 same-length-2 : tie.Need-same-length-2
 same-length-2 c = search needs
 
-returns-2 : tie.Need-returns-2
-returns-2 c = reorder-copied (passed (c .before .before .before .before .before .before .before .before .before .before)) (c .before .before .before .before .before .before .before .before .before .before .before .before .before .before .order-tables .ensures) (c .before .before .before .before .copy-out .ensures)
+returns-4 : tie.Need-returns-4
+returns-4 c =
+    let e = ap sizedVerdict (sym (c .before .before .before .before .before .before .before .before .before .before .s2 .given .1)) ∙ c .before .before .before .before .before .before .before .before .before .before .before .before .size-tables .ensures .answer in
+    let w = c .before .before .before .before .write-order in
+    reordered _ _ _ e (omega (arith, c .before .before .before .before .before .before .before .before .if1 .left)) (omega (arith, c .before .before .before .before .before .before .before .if2 .left)) (w .kept .1 .1 .1 .1 .1 .0) (w .kept .1 .1 .1 .1 .1 .1 .0) (w .ensures)
 
 pub reorder-spec : {M : Type 1} → statement M
 reorder-spec =
     tie.close
     (tie.spec
-    slice-aggregate-order-tables
-    slice-aggregate-order-tables-2
-    order-tables-requires
-    enum-known-r
-    enum-known-r-2
-    slice-aggregate-copy-out
-    slice-aggregate-copy-out-2
-    copy-out-requires
+    size-tables-requires
+    enum-known-s
+    enum-known-s-2
     returns
+    returns-2
+    write-order-requires
+    returns-3
     same-length
     same-length-2
-    returns-2)
+    returns-4)

@@ -15,7 +15,7 @@ least-own-requires c κs = search needs
 file-tones-requires : tie.Need-file-tones-requires
 file-tones-requires c κs =
     let s = c .before .before .before .before .before .before .before .before .before .before .before .before .before .before in
-    (record { arrays = s .pre .arrays; medley = s .pre .medley; gains = s .pre .gains; most = s .pre .most; leastIs = rw (c .before .before .before .before .before .least-own .ensures) (least-own (s .args .mode)) }, c .before .before .before .before .before .before .layout-table .ensures)
+    (record { arrays = s .pre .arrays; below = s .pre .below; bitsMost = s .pre .bitsMost; gains = s .pre .gains; most = s .pre .most; leastIs = rw (c .before .before .before .before .before .least-own .ensures) (least-own (s .args .mode)) }, c .before .before .before .before .before .before .layout-table .ensures)
 
 array-read-share-entries : tie.Need-array-read-share-entries
 array-read-share-entries c = search needs

@@ -1,32 +1,38 @@
--- `plan::plan_tables` meets its contract: refusals 1 to 6, and then those of the mode.
+-- `plan::plan_tables` meets its contract: refusals 1 to 9, or the plan.
 use mathlib.Core.Path.{sym, ap, _∙_}
-use Rattle.tables.proofs.Answers.{lists-fit, lists-gains, lists-medley, lists-refused}
-use Rattle.g9932.proofs.Verdicts.{and-accepted}
-use Rattle.g9932.specs.Answers.{verdictOf}
-use Rattle.g9932.specs.Refusals.{tableVerdict}
+use native.Mathlib.Omega.{arith}
+use Rattle.g9932.proofs.Accepted.{accepted-tables}
+use Rattle.g9932.specs.Refusals.{accepted}
+use Rattle.g9932.specs.Sizes.{tables}
+use Rattle.tables.proofs.Answers.{number-none}
+use Rattle.tables.specs.Modes.{sizedVerdict}
 use borrow.Author.Needs.{needs}
 use Rattle.plan.proofs.plan_tables.Statement.{statement}
 use Rattle.plan.proofs.plan_tables.Tie as tie
 
-check-lists-requires : tie.Need-check-lists-requires
-check-lists-requires c κs = search needs
+size-tables-requires : tie.Need-size-tables-requires
+size-tables-requires c κs = search needs
 
-enum-known-r : tie.Need-enum-known-r
-enum-known-r c = search needs
+enum-known-s : tie.Need-enum-known-s
+enum-known-s c = search needs
 
-enum-told : tie.Need-enum-told
-enum-told c = search needs
+enum-known-s-2 : tie.Need-enum-known-s-2
+enum-known-s-2 c = search needs
 
-plan-by-requires : tie.Need-plan-by-requires
-plan-by-requires c κs =
-    let s = c .before .before .before .before .before .before .before .before .before .before .before .before .before .before in
-    let e = ap verdictOf (sym (c .before .before .before .before .enum-told .given .1)) ∙ c .before .before .before .before .before .before .check-lists .ensures in
-    (s .pre, (lists-medley _ _ _ e, lists-gains _ _ _ e, lists-fit _ _ _ e))
+file-plan-requires : tie.Need-file-plan-requires
+file-plan-requires c κs =
+    let s = c .before .before .before .before .before .before .before .before .before .before .before .before .before .before .before in
+    let a = s .args in
+    let z = c .before .before .before .before .before .before .before .size-tables in
+    let e = c .before .before .before .before .before .s2 .given .1 in
+    let h = rw e at (z .ensures .shares) in
+    let k = accepted-tables (tables (a .mode) (a .bits .now) (a .gains .now) (a .tones .now)) (number-none (ap sizedVerdict (sym e) ∙ z .ensures .answer)) in
+    record { arrays = s .pre; below = k .tonesBelow; bitsMost = k .bitsMost; gains = k .gainsLength; most = omega (arith, k .tonesMost, k .tableMost); sharersAre = h .1; even = h .2 }
 
 returns : tie.Need-returns
 returns c =
-    let x = c .before .r .given .0 .0 in
-    record { answer = lists-refused _ _ _ _ x (ap verdictOf (sym (c .before .r .given .1)) ∙ c .before .before .before .check-lists .ensures); made = tt }
+    let z = c .before .before .before .size-tables in
+    record { answer = ap sizedVerdict (sym (c .before .s .given .1)) ∙ z .ensures .answer; made = tt }
 
 same-length : tie.Need-same-length
 same-length c = search needs
@@ -41,21 +47,19 @@ same-length-4 : tie.Need-same-length-4
 same-length-4 c = search needs
 
 returns-2 : tie.Need-returns-2
-unfolding tableVerdict
 returns-2 c =
-    let a = c .before .before .before .before .before .before .before .before .before .before .before .before .before .before .before .before .before .before .before .before .before .before .before .args in
-    let e = ap verdictOf (sym (c .before .before .before .before .before .before .before .before .before .before .before .before .before .enum-told .given .1)) ∙ c .before .before .before .before .before .before .before .before .before .before .before .before .before .before .before .check-lists .ensures in
-    let p = c .before .before .before .before .before .before .before .before .plan-by .ensures in
-    record { answer = and-accepted _ e (p .answer); made = p .made }
+    let z = c .before .before .before .before .before .before .before .before .before .before .before .before .before .before .before .before .size-tables in
+    let f = c .before .before .before .before .before .before .before .before .file-plan in
+    record { answer = ap accepted (f .ensures .1) ∙ ap sizedVerdict (sym (c .before .before .before .before .before .before .before .before .before .before .before .before .before .before .s2 .given .1)) ∙ z .ensures .answer; made = f .ensures .0 }
 
 pub plan-tables-spec : {M : Type 1} → statement M
 plan-tables-spec =
     tie.close
     (tie.spec
-    check-lists-requires
-    enum-known-r
-    enum-told
-    plan-by-requires
+    size-tables-requires
+    enum-known-s
+    enum-known-s-2
+    file-plan-requires
     returns
     same-length
     same-length-2

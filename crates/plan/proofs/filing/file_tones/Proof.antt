@@ -33,12 +33,12 @@ tone-at-requires c κs = search needs
 bits-of-requires : tie.Need-bits-of-requires Inv-loop μ-loop
 bits-of-requires c κs =
     let s = c .before .before .before .before .before .before .before .before .before .before in
-    rw (c .tone-at .ensures) (s .pre .0 .medley .below (c .before .before .loop .i) (omega arith))
+    rw (c .tone-at .ensures) (s .pre .0 .below (c .before .before .loop .i) (omega arith))
 
 gain-of-requires : tie.Need-gain-of-requires Inv-loop μ-loop
 gain-of-requires c κs =
     let s = c .before .before .before .before .before .before .before .before .before .before .before in
-    rw (c .before .tone-at .ensures, s .pre .0 .gains) (s .pre .0 .medley .below (c .before .before .before .loop .i) (omega arith))
+    rw (c .before .tone-at .ensures, s .pre .0 .gains) (s .pre .0 .below (c .before .before .before .loop .i) (omega arith))
 
 file-tone-requires : tie.Need-file-tone-requires Inv-loop μ-loop
 file-tone-requires c κs =
@@ -46,7 +46,7 @@ file-tone-requires c κs =
     let l = c .before .before .before .before .before .before .before .before .loop in (
       record {
         arrays = l .inv .2;
-        bitsMost = rw (c .before .before .before .before .before .bits-of .ensures) (s .pre .0 .medley .bitsMost _);
+        bitsMost = rw (c .before .before .before .before .before .bits-of .ensures) (s .pre .0 .bitsMost _);
         leastIs = s .pre .0 .leastIs;
         placeMost = omega (arith, l .inv .0, s .pre .0 .most);
         entryMost = l .inv .3 .entryMost;

@@ -1,11 +1,11 @@
--- `plan::size_frame` meets its contract: the counts of the tones decide 7, 8 and L, and 9 never applies.
+-- `tables::sizes::size_frame` meets its contract: the counts of the tones decide 7, 8 and L, and 9 never applies.
 use mathlib.Core.Path.{refl}
 use native.Mathlib.Omega.{arith}
 use Rattle.tables.proofs.Modes.{uncoded-verdict, coded-odd, coded-few, coded-done, half-loaded, coded-within, coded-room}
-use Rattle.plan.proofs.Pairs.{no-pair}
+use Rattle.tables.proofs.Pairs.{no-pair}
 use borrow.Author.Needs.{needs}
-use Rattle.plan.proofs.size_frame.Statement.{statement}
-use Rattle.plan.proofs.size_frame.Tie as tie
+use Rattle.tables.proofs.sizes.size_frame.Statement.{statement}
+use Rattle.tables.proofs.sizes.size_frame.Tie as tie
 
 count-tones-requires : tie.Need-count-tones-requires
 count-tones-requires c κs = search needs
@@ -41,12 +41,12 @@ sub-t13 c =
     omega (arith, coded-room k (c .before .before .before .before .if1 .left) (c .before .if2 .left))
 
 returns-3 : tie.Need-returns-3
-returns-3 c = rw (c .enum-told .given .1) (record { answer = uncoded-verdict _ _ (c .before .before .count-tones .ensures .sumIs); shares = (refl, refl) })
+returns-3 c = rw (c .enum-told .given .1) (record { answer = uncoded-verdict _ _ (c .before .before .count-tones .ensures .sumIs); shares = (omega (arith, c .before .before .count-tones .ensures .loadedIs), refl, refl) })
 
 returns-4 : tie.Need-returns-4
 returns-4 c =
     let k = c .before .before .before .before .before .before .before .before .count-tones in
-    rw (c .before .before .before .before .before .before .enum-told2 .given .1) (record { answer = coded-done (k .ensures) (c .before .before .before .before .if1 .left) (c .before .if2 .left) (no-pair _ _); shares = (k .ensures .onesIs, omega (arith, c .before .before .before .before .if1 .left)) })
+    rw (c .before .before .before .before .before .before .enum-told2 .given .1) (record { answer = coded-done (k .ensures) (c .before .before .before .before .if1 .left) (c .before .if2 .left) (no-pair _ _); shares = (omega (arith, k .ensures .loadedIs, k .ensures .onesIs), k .ensures .onesIs, omega (arith, c .before .before .before .before .if1 .left)) })
 
 pub size-frame-spec : {M : Type 1} → statement M
 size-frame-spec =
