@@ -23,7 +23,7 @@ fn in_order(tones: &mut [u16]) {
     }
 }
 
-// The first n of every list.
+// Prints a figure of the table that the first n entries of every list make. Called by proved code only.
 fn print_cut(
     figure: Figure,
     n: usize,
@@ -39,10 +39,17 @@ fn print_cut(
     requires { ⌜ n ≤ length (now xs) ⌝ }
     requires { ⌜ n ≤ length (now ys) ⌝ }
 {
-    line(figure, &bits[..n], &gains[..n], &tones[..n], &mut xs[..n], &mut ys[..n]);
+    line(
+        figure,
+        &bits[..n],
+        &gains[..n],
+        &tones[..n],
+        &mut xs[..n],
+        &mut ys[..n],
+    );
 }
 
-// This many tones of equal bits, each with the gain 512, t in index order.
+// This many tones of equal bits, each with the gain 512, t in index order. Called by proved code only.
 pub fn equal_tones(count: usize, bits: u8, figure: Figure)
     requires { ⌜ count ≤ 4096 ⌝ }
 {

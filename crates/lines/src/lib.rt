@@ -1,4 +1,4 @@
-// What the page has on one bench table, as the ends of its lines. The operations start from a register at reset.
+// What the page of bench figures has on one table. The caller prints how the line begins; the register is at reset.
 mod half_turn; // what half a turn does
 
 use g9932::Mode;
@@ -16,6 +16,8 @@ use print::with_byte;
 // The register at reset: all 23 bits are 1.
 const RESET: u32 = 8388607;
 
+// What is printed of a table: L, t' and b', the points of a frame of one byte, the register after it, what given points are
+// read as, or what half a turn does.
 pub enum Figure {
     Size(Mode),
     Order,
@@ -30,6 +32,7 @@ fn size(mode: Mode, bits: &[u8], gains: &[u16], tones: &[u16]) {
     print::size(print::checked(ordering::check_tables(mode, bits, gains, tones)));
 }
 
+// Bytes as the numbers that `print::list` takes.
 fn widened(list: [u8; 6]) -> [u16; 6] {
     [
         list[0] as u16,
@@ -43,11 +46,18 @@ fn widened(list: [u8; 6]) -> [u16; 6] {
 
 // t' and b' of table A.
 fn order(bits: &[u8], gains: &[u16], tones: &[u16]) {
-    let mut order = [0u16; 6];
-    let mut entries = [0u8; 6];
-    ordering::reorder(Mode::Coded, bits, gains, tones, &mut order, &mut entries);
-    let wide = widened(entries);
-    list(&order);
+    let mut reordered_tones = [0u16; 6];
+    let mut reordered_bits = [0u8; 6];
+    ordering::reorder(
+        Mode::Coded,
+        bits,
+        gains,
+        tones,
+        &mut reordered_tones,
+        &mut reordered_bits,
+    );
+    let wide = widened(reordered_bits);
+    list(&reordered_tones);
     text(b"\ntable A: bits");
     list(&wide);
 }
@@ -68,7 +78,16 @@ fn encode(
 // The frame of one byte that the points are read as, coded.
 fn read(bits: &[u8], gains: &[u16], tones: &[u16], xs: &[i16], ys: &[i16]) -> Outcome {
     let mut frame = [0u8; 1];
-    let outcome = answered(symbol::read(Mode::Coded, bits, gains, tones, xs, ys, RESET, &mut frame));
+    let outcome = answered(symbol::read(
+        Mode::Coded,
+        bits,
+        gains,
+        tones,
+        xs,
+        ys,
+        RESET,
+        &mut frame,
+    ));
     with_byte(outcome, frame[0])
 }
 
@@ -90,7 +109,7 @@ fn silent(bits: &[u8], gains: &[u16], tones: &[u16]) {
     frame(read(bits, gains, tones, &zs, &zs));
 }
 
-// The lent lists have an entry for each place.
+// Prints a figure of a table. The lent lists have an entry for each place.
 pub fn line(
     figure: Figure,
     bits: &[u8],

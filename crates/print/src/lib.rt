@@ -100,9 +100,13 @@ fn word(n: usize, words: &[u8]) {
 // The number and the name of a refusal.
 pub fn refused(n: u32) {
     entry(n as u64);
-    word(n as usize, b" SIZE TONE TWICE BITS STRAY GAIN ODD FEW PAIR ROOM FRAME SEED OFFGRID MONITOR TRELLIS LABEL");
+    word(
+        n as usize,
+        b" SIZE TONE TWICE BITS STRAY GAIN ODD FEW PAIR ROOM FRAME SEED OFFGRID MONITOR TRELLIS LABEL",
+    );
 }
 
+// The same with its place.
 fn refused_at(n: u32, place: u64) {
     text(b" refused");
     refused(n);

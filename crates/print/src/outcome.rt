@@ -11,18 +11,18 @@ use g9932::Refusal;
 use g9932::number_of;
 use g9932::place_of;
 
-// A refusal's number and place, or 0, 0 and a value: L, the register, or the byte of a frame.
+// What an operation answers: a refusal's number and place, or 0 and 0; and L, the register, or the byte of a frame.
 pub struct Outcome {
     pub refusal: u32,
     pub place: u64,
     pub value: u64,
 }
 
-fn refusal_of(refusal: Refusal) -> Outcome {
+fn refusal_of(refusal: Refusal, value: u64) -> Outcome {
     Outcome {
         refusal: number_of(refusal),
         place: place_of(refusal) as u64,
-        value: 0,
+        value,
     }
 }
 
@@ -34,26 +34,23 @@ fn done(value: u64) -> Outcome {
     }
 }
 
-// With L.
+// The answer of checking, with L.
 pub fn checked(answer: Checked) -> Outcome {
     match answer {
         Checked::Accepted(size) => done(size as u64),
-        Checked::Refused(refusal) => refusal_of(refusal),
+        Checked::Refused(refusal) => refusal_of(refusal, 0),
     }
 }
 
-// With the register.
+// The answer of encoding and of reading, with the register.
 pub fn answered(answer: Answer) -> Outcome {
     match answer {
         Answer::Done { size: _, register } => done(register as u64),
-        Answer::Refused {
-            refusal,
-            register: _,
-        } => refusal_of(refusal),
+        Answer::Refused { refusal, register } => refusal_of(refusal, register as u64),
     }
 }
 
-// The same with the one byte of a frame that was read.
+// The answer of reading, with the one byte of the frame.
 pub fn with_byte(outcome: Outcome, byte: u8) -> Outcome {
     Outcome {
         refusal: outcome.refusal,
