@@ -1,13 +1,23 @@
 // Prints the bench figures of document 01 as the proved operations work them out, one to a line.
-mod words; // numbers, points and refusals as text
-mod lines; // what one operation answers
-mod half_turn; // what half a turn does
-mod figures; // the figures of a small table
 mod bench; // the bench tables
 
-use figures::Part;
-use lines::mapped;
-use words::text;
+use bench::equal_tones;
+use bench::table_a;
+use g9932::Mode;
+use lines::Figure;
+use print::entry;
+use print::number;
+use print::text;
+
+// The point of one label, or the refusal.
+fn mapped(bits: u8, label: u32) {
+    text(b"\n");
+    number(bits as u64);
+    text(b" bits label");
+    entry(label as u64);
+    text(b":");
+    print::mapped(constellation::map_label(bits, label));
+}
 
 fn labels() {
     mapped(4, 9);
@@ -19,33 +29,77 @@ fn labels() {
     mapped(15, 17407);
 }
 
-fn bench_figures() {
-    text(b"bench figures\n");
-    bench::table_a(512, Part::Order);
-    bench::table_a(512, Part::Frames);
-    bench::table_a(0, Part::Silent);
-    bench::five_twos(Part::FrameOne);
-    bench::three_twos();
-    text(b"four 2-bit tones coded:");
-    bench::four_twos(Part::Size);
-    bench::one_tone();
-    labels();
-    bench::large_tables();
+fn table_a_order() {
+    text(b"\ntable A: tones");
+    table_a(512, Figure::Order);
+    text(b"\ntable A:");
+    table_a(512, Figure::Size(Mode::Coded));
+}
+
+fn table_a_frames() {
+    text(b"\ntable A frame 0:");
+    table_a(512, Figure::Points(0));
+    text(b"\ntable A frame 0: register ");
+    table_a(512, Figure::Register(0));
+    text(b"\ntable A frame 1:");
+    table_a(512, Figure::Points(1));
+    text(b"\ntable A frame 32:");
+    table_a(512, Figure::Points(32));
+}
+
+fn table_a_silent() {
+    text(b"\ntable A, gain of 4 is 0: points");
+    table_a(0, Figure::Silent);
+    text(b"\ntable A, gain of 4 is 0, frame 0: register ");
+    table_a(0, Figure::Register(0));
+}
+
+fn two_bit_tones() {
+    text(b"\nfive 2-bit tones coded:");
+    equal_tones(5, 2, Figure::Size(Mode::Coded));
+    text(b"\nfive 2-bit tones coded, frame 1:");
+    equal_tones(5, 2, Figure::Points(1));
+    text(b"\nthree 2-bit tones coded:");
+    equal_tones(3, 2, Figure::Size(Mode::Coded));
+    text(b"\nfour 2-bit tones coded:");
+    equal_tones(4, 2, Figure::Size(Mode::Coded));
+}
+
+fn one_tone() {
+    text(b"\none 1-bit tone coded:");
+    equal_tones(1, 1, Figure::Size(Mode::Coded));
+    text(b"\none 1-bit tone uncoded:");
+    equal_tones(1, 1, Figure::Size(Mode::Uncoded));
+}
+
+fn large_tables() {
+    text(b"\n4096 tones of 15 bits coded:");
+    equal_tones(4096, 15, Figure::Size(Mode::Coded));
+    text(b"\n4096 tones of 15 bits uncoded:");
+    equal_tones(4096, 15, Figure::Size(Mode::Uncoded));
 }
 
 fn half_turns() {
-    text(b"half a turn: frame 0 written, every point turned, read\n");
-    text(b"table A, tone 4 monitored\n");
-    bench::table_a(512, Part::HalfTurn);
-    text(b"five 2-bit tones, none monitored, N odd\n");
-    bench::five_twos(Part::HalfTurn);
-    text(b"four 2-bit tones, none monitored, N even\n");
-    bench::four_twos(Part::HalfTurn);
-    text(b"table A, gain of 4 is 0, none monitored, N even\n");
-    bench::table_a(0, Part::HalfTurn);
+    text(b"\ntable A, tone 4 monitored");
+    table_a(512, Figure::HalfTurn);
+    text(b"\nfive 2-bit tones, none monitored, N odd");
+    equal_tones(5, 2, Figure::HalfTurn);
+    text(b"\nfour 2-bit tones, none monitored, N even");
+    equal_tones(4, 2, Figure::HalfTurn);
+    text(b"\ntable A, gain of 4 is 0, none monitored, N even");
+    table_a(0, Figure::HalfTurn);
 }
 
 fn main() {
-    bench_figures();
+    text(b"bench figures");
+    table_a_order();
+    table_a_frames();
+    table_a_silent();
+    two_bit_tones();
+    one_tone();
+    labels();
+    large_tables();
+    text(b"\nhalf a turn: frame 0 written, every point turned, read");
     half_turns();
+    text(b"\n");
 }

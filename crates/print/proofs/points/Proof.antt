@@ -1,9 +1,9 @@
--- `figures::words::points` ends, and both lists are read inside their lengths.
+-- `print::points` ends, and both lists are read inside their lengths.
 use borrow.Author.Needs.{needs}
 use Prim.Native.Nat.{_-_}
 use lib.ListN.{length}
-use Rattle.figures.proofs.words.points.Statement.{statement}
-use Rattle.figures.proofs.words.points.Tie as tie
+use Rattle.print.proofs.points.Statement.{statement}
+use Rattle.print.proofs.points.Tie as tie
 
 abbrev Inv-loop : tie.InvT-loop
 Inv-loop xs ys i₀ i = Unit

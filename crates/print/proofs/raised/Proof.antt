@@ -1,7 +1,7 @@
--- `figures::words::raised` meets its contract: nothing is lost between the widths.
+-- `print::raised` meets its contract: nothing is lost between the widths.
 use Rattle.constellation.proofs.Signed.{raised-law}
-use Rattle.figures.proofs.words.raised.Statement.{statement}
-use Rattle.figures.proofs.words.raised.Tie as tie
+use Rattle.print.proofs.raised.Statement.{statement}
+use Rattle.print.proofs.raised.Tie as tie
 
 cast-result : tie.Need-cast-result
 cast-result c = raised-law (c .args .z) (c .fits .z) .narrow

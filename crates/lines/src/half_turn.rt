@@ -3,9 +3,11 @@ ghost use mathlib.Core.Path.{_≡_};
 ghost use Prim.Native.Nat.{_<_};
 ghost use lib.IntN.{negℤ};
 ghost use lib.Signed.{mag};
-use super::lines::read;
-use super::lines::register_after;
-use super::words::text;
+use super::encode;
+use super::read;
+use print::Outcome;
+use print::frame;
+use print::text;
 
 // The opposite of a coordinate. The least number of sixteen bits has none there, and stays.
 fn opposite(z: i16) -> i16
@@ -26,20 +28,20 @@ fn turn(list: &mut [i16]) {
     }
 }
 
-fn turned(bits: &[u8], gains: &[u16], tones: &[u16], xs: &mut [i16], ys: &mut [i16]) {
-    turn(xs);
-    turn(ys);
+fn turned(outcome: Outcome) {
     text(b"\nturned:");
-    if read(bits, gains, tones, xs, ys) {
+    frame(outcome);
+    if outcome.refusal == 0 {
         text(b", the turn is not detected");
     }
-    text(b"\n");
 }
 
 // Two lines: the points as written, and turned. The lent lists have an entry for each place.
 pub fn half_turn(bits: &[u8], gains: &[u16], tones: &[u16], xs: &mut [i16], ys: &mut [i16]) {
-    register_after(bits, gains, tones, 0, xs, ys);
-    text(b"as written:");
-    read(bits, gains, tones, xs, ys);
-    turned(bits, gains, tones, xs, ys);
+    encode(bits, gains, tones, 0, xs, ys);
+    text(b"\nas written:");
+    frame(read(bits, gains, tones, xs, ys));
+    turn(xs);
+    turn(ys);
+    turned(read(bits, gains, tones, xs, ys));
 }
