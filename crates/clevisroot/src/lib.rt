@@ -123,7 +123,7 @@ pub extern "C" fn clevisroot_reorder(
     reordered_tones: &mut [u16],
     reordered_bits: &mut [u8],
 ) -> SymbolAnswer
-    ensures { λ r. ⌜ Reordering (tables (modeOf coded) (now (bits .entry)) (now (gains .entry)) (now (tones .entry))) (now (reordered_tones .entry)) (now (reordered_bits .entry)) r (now (reordered_tones .exit)) (now (reordered_bits .exit)) ⌝ }
+    ensures { λ r. ⌜ Reordering (tables (modeOf coded) (now (bits .entry)) (now (gains .entry)) (now (tones .entry))) (now («reordered_tones» .entry)) (now («reordered_bits» .entry)) r (now («reordered_tones» .exit)) (now («reordered_bits» .exit)) ⌝ }
 {
     checked(ordering::reorder(
         mode_of(coded),
