@@ -14,7 +14,7 @@ use Rattle.g9932.specs.Order.{Pair, pair, inTwos}
 use Rattle.g9932.specs.Sizes.{unpack}
 use Rattle.g9932.specs.Trellis.{lastTwo, taken, wordOf, sentBits, nextOf, encodePairs}
 use Rattle.g9932.specs.declared.TrellisState.{TrellisState}
-use Rattle.trellis.specs.Coding.{codedWord, PairNeeds, CodesPair, Wide, CodeNeeds, CodesFrom}
+use Rattle.trellis.specs.Coding.{codedWord, CodePairNeeds, CodesPair, Wide, CodeNeeds, CodesFrom, CodesUpTo}
 use Rattle.trellis.specs.declared.Coder.{Coder}
 use Rattle.trellis.specs.declared.PairCode.{PairCode}
 use Rattle.trellis.proofs.Entries.{cut-pair, inTwos-short, forced-is}
@@ -26,17 +26,10 @@ pub encode-step : (forced : Bool) (s : TrellisState) (p : Pair) (ps : List Pair)
 unfolding encodePairs
 encode-step forced s p ps f h = rw h
 
-pub record Going (c k : Coder) (es frame labels₀ labels : List ℕ) (from i : ℕ) : Type 0 where
-  pub kept : length labels ≡ length labels₀
-  pub needs : CodeNeeds k es i frame labels
-  pub whole :
-      bitsOfLabels (take i es) (take i labels) ++ encodePairs (k .state) (inTwos (drop i es)) (drop (k .at) (unpack frame))
-      ≡ bitsOfLabels (take from es) (take from labels₀) ++ encodePairs (c .state) (inTwos (drop from es)) (drop (c .at) (unpack frame))
-
-pub going-start : {c : Coder} {es frame labels : List ℕ} {from : ℕ} → CodeNeeds c es from frame labels → Going c c es frame labels labels from from
+pub going-start : {c : Coder} {es frame labels : List ℕ} {from : ℕ} → CodeNeeds c es from frame labels → CodesUpTo c c es frame labels labels from from
 going-start r = record { kept = refl; needs = r; whole = refl }
 
-pub going-end : {c k : Coder} {es frame labels₀ labels : List ℕ} {from i : ℕ} → Going c k es frame labels₀ labels from i → length es ≤ i + 1
+pub going-end : {c k : Coder} {es frame labels₀ labels : List ℕ} {from i : ℕ} → CodesUpTo c k es frame labels₀ labels from i → length es ≤ i + 1
     → CodesFrom c es from frame labels₀ labels
 unfolding encodePairs
 going-end {es = es} {labels = labels} {i = i} g h =
@@ -53,9 +46,14 @@ going-end {es = es} {labels = labels} {i = i} g h =
       within = rw (← n) (r .within);
     }
 
+-- the pairs up to an entry, then the pairs from it on
+pub going-on : {c k : Coder} {es frame labels₀ labels after : List ℕ} {from i : ℕ} → CodesUpTo c k es frame labels₀ labels from i
+    → CodesFrom k es i frame labels after → CodesFrom c es from frame labels₀ after
+going-on g f = record { whole = f .whole ∙ g .whole; within = f .within }
+
 -- one pair more
 module _ (c k : Coder) (es frame labels₀ labels : List ℕ) (from i x y : ℕ) (forced : Bool) (wide : Wide es)
-    (g : Going c k es frame labels₀ labels from i) (more : i + 1 < length es) (hx : x ≡ getD es i 0) (hy : y ≡ getD es (i + 1) 0)
+    (g : CodesUpTo c k es frame labels₀ labels from i) (more : i + 1 < length es) (hx : x ≡ getD es i 0) (hy : y ≡ getD es (i + 1) 0)
     (hl : forced ≡ ltb (length es - i) 6) where
   cut : inTwos (drop i es) ≡ pair x y ∷ inTwos (drop (i + 2) es)
   cut = cut-pair es i x y more hx hy
@@ -63,13 +61,13 @@ module _ (c k : Coder) (es frame labels₀ labels : List ℕ) (from i x y : ℕ)
   is-forced : forced ≡ lastTwo (inTwos (drop (i + 2) es))
   is-forced = hl ∙ forced-is es i (omega arith)
 
-  pub pair-needs : PairNeeds k forced (pair x y) frame
+  pub pair-needs : CodePairNeeds k forced (pair x y) frame
   pair-needs =
       let r = g .needs in
       let b = rw cut at (r .bits) in
       record { bits = rw is-forced (omega (arith, b)); small = r .small }
 
-  pub going-step : (p : PairCode) → CodesPair k forced (pair x y) frame p → Going c (p .coder) es frame labels₀ (set (set labels i (p .v)) (i + 1) (p .w)) from (i + 2)
+  pub going-step : (p : PairCode) → CodesPair k forced (pair x y) frame p → CodesUpTo c (p .coder) es frame labels₀ (set (set labels i (p .v)) (i + 1) (p .w)) from (i + 2)
   going-step p q =
       let r = g .needs in
       let f : List Bool = drop (k .at) (unpack frame) in

@@ -2,6 +2,9 @@ pub mod Numbers
 pub mod OnePair
 pub mod Entries
 pub mod CodeLoop
+pub mod Steps
+pub mod FreePair
+pub mod FreeLoop
 pub mod CodeAll
 pub mod DecodePair
 pub mod DecodeLoop

@@ -28,7 +28,7 @@ labelNumber b0 b1 high = weight b0 + 2 * weight b1 + 4 * high
 abbrev pub codedWord : Coder → Bool → Pair → List ℕ → Word
 codedWord c forced p frame = wordOf forced (c .state) (p .x) (take (taken forced p) (drop (c .at) (unpack frame)))
 
-pub record PairNeeds (c : Coder) (forced : Bool) (p : Pair) (frame : List ℕ) : Type 0 where
+pub record CodePairNeeds (c : Coder) (forced : Bool) (p : Pair) (frame : List ℕ) : Type 0 where
   pub bits : c .at + taken forced p ≤ 8 * length frame
   pub small : length frame ≤ mostBytes
 
@@ -61,6 +61,14 @@ pub record CodeNeeds (c : Coder) (es : List ℕ) (i : ℕ) (frame labels : List 
 pub record CodesFrom (c : Coder) (es : List ℕ) (i : ℕ) (frame labels after : List ℕ) : Type 0 where
   pub whole : bitsOfLabels es after ≡ bitsOfLabels (take i es) (take i labels) ++ encodePairs (c .state) (inTwos (drop i es)) (drop (c .at) (unpack frame))
   pub within : Within es after (length es)
+
+-- Coded from one entry up to another, where the coder is k: the bits of the labels so far, with what the pairs left send, are the whole.
+pub record CodesUpTo (c k : Coder) (es frame labels after : List ℕ) (from i : ℕ) : Type 0 where
+  pub kept : length after ≡ length labels
+  pub needs : CodeNeeds k es i frame after
+  pub whole :
+      bitsOfLabels (take i es) (take i after) ++ encodePairs (k .state) (inTwos (drop i es)) (drop (k .at) (unpack frame))
+      ≡ bitsOfLabels (take from es) (take from labels) ++ encodePairs (c .state) (inTwos (drop from es)) (drop (c .at) (unpack frame))
 
 -- ---- all pairs
 

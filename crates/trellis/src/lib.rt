@@ -1,4 +1,5 @@
 // The trellis code: a frame's bits to the labels of the entries of b', pair by pair.
+mod free_pairs;
 pub mod read;
 
 ghost use mathlib.Core.Path.{_≡_};
@@ -10,7 +11,7 @@ ghost use Rattle.g9932.specs.Bits.{weight as weightOf, bits};
 ghost use Rattle.g9932.specs.Order.{pair, pairsOf};
 ghost use Rattle.g9932.specs.Sizes.{unpack, mostTones, mostBytes};
 ghost use Rattle.g9932.specs.Trellis.{taken, zeroState, encodePairs};
-ghost use Rattle.trellis.specs.Coding.{inputsOf, labelNumber, PairNeeds, CodesPair, CodeNeeds, CodesFrom, Wide, FrameNeeds, CodesFrame, firstCoder};
+ghost use Rattle.trellis.specs.Coding.{inputsOf, labelNumber, CodePairNeeds, CodesPair, CodeNeeds, CodesFrom, Wide, FrameNeeds, CodesFrame, firstCoder};
 use frame::by_place::place_at;
 use frame::by_place::put_label;
 use g9932::TrellisState;
@@ -112,7 +113,7 @@ fn zero_state() -> TrellisState
 
 // Codes a pair with x at least 2.
 fn code_pair(c: Coder, frame: &[u8], forced: bool, x: usize, y: usize) -> PairCode
-    requires { ⌜ (2 ≤ x) × (x ≤ 15) × (2 ≤ y) × (y ≤ 15) × PairNeeds c forced (pair x y) (now frame) ⌝ }
+    requires { ⌜ (2 ≤ x) × (x ≤ 15) × (2 ≤ y) × (y ≤ 15) × CodePairNeeds c forced (pair x y) (now frame) ⌝ }
     ensures { λ r. ⌜ CodesPair c forced (pair x y) (now (frame .entry)) r ⌝ }
 {
     let s = c.state;
@@ -148,8 +149,8 @@ fn put_entry(labels: &mut [u16], places: &[u16], i: usize, label: u32)
     put_label(labels, place_at(places, i), label as u16);
 }
 
-// Codes the pairs of the entries from `from` on. The label of an entry goes to its place.
-fn code_from(
+// Codes the pairs of the entries from `from` on, the last two with their forced bits. The label of an entry goes to its place.
+fn code_last(
     c: Coder,
     frame: &[u8],
     entries: &[u8],
@@ -170,6 +171,23 @@ fn code_from(
         k = p.coder;
         i += 2;
     }
+}
+
+// The same, the free pairs by the faster loop.
+fn code_from(
+    c: Coder,
+    frame: &[u8],
+    entries: &[u8],
+    places: &[u16],
+    from: usize,
+    labels: &mut [u16],
+)
+    requires { ⌜ Wide (now entries) × (length (now entries) ≤ mostTones) × Placed (now entries) (now places) (now labels) × CodeNeeds c (now entries) from (now frame) (labelsAt (now places) (now labels)) ⌝ }
+    ensures { λ _. ⌜ CodesFrom c (now (entries .entry)) from (now (frame .entry)) (labelsAt (now (places .entry)) (now (labels .entry))) (labelsAt (now (places .entry)) (now (labels .exit))) ⌝ }
+{
+    let free = free_pairs::code_free_pairs(c, frame, entries, places, from, labels);
+    let coder = free.coder;
+    code_last(coder, frame, entries, places, free.next, labels);
 }
 
 // Codes a first pair with x = 0: its bits are u2 and u4 upward, and v isn't sent.

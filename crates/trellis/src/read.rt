@@ -8,7 +8,7 @@ ghost use Rattle.g9932.specs.Sizes.{mostTones};
 ghost use Rattle.g9932.specs.Order.{pair};
 ghost use Rattle.g9932.specs.Trellis.{obeysCode};
 ghost use Rattle.trellis.specs.Coding.{Wide};
-ghost use Rattle.trellis.specs.Reading.{firstReader, decodedOf, wordBy, takenNumber, PairNeeds, ReadsPair, ReadNeeds, ReadsFrom, LabelNeeds, ReadsLabels};
+ghost use Rattle.trellis.specs.Reading.{firstReader, decodedOf, wordBy, takenNumber, ReadPairNeeds, ReadsPair, ReadNeeds, ReadsFrom, LabelNeeds, ReadsLabels};
 use super::entry;
 use super::label;
 use super::power;
@@ -92,7 +92,7 @@ fn read_pair(
     w: u32,
     frame: &mut [u8],
 ) -> PairRead
-    requires { ⌜ (2 ≤ x) × (x ≤ 15) × (2 ≤ y) × (y ≤ 15) × PairNeeds c (pair x y) v w (now frame) ⌝ }
+    requires { ⌜ (2 ≤ x) × (x ≤ 15) × (2 ≤ y) × (y ≤ 15) × ReadPairNeeds c (pair x y) v w (now frame) ⌝ }
     ensures { λ r. ⌜ ReadsPair c forced (pair x y) v w (now (frame .entry)) r (now (frame .exit)) ⌝ }
 {
     let s = c.state;
@@ -112,7 +112,7 @@ fn read_pair(
 
 // Reads a first pair with x = 0: it has no label v.
 fn read_first(writer: BitWriter, y: usize, w: u32, frame: &mut [u8]) -> PairRead
-    requires { ⌜ (2 ≤ y) × (y ≤ 15) × PairNeeds (firstReader writer) (pair 0 y) 0 w (now frame) ⌝ }
+    requires { ⌜ (2 ≤ y) × (y ≤ 15) × ReadPairNeeds (firstReader writer) (pair 0 y) 0 w (now frame) ⌝ }
     ensures { λ r. ⌜ ReadsPair (firstReader writer) false (pair 0 y) 0 w (now (frame .entry)) r (now (frame .exit)) ⌝ }
 {
     let w0 = w % 2 == 1;
