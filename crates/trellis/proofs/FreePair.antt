@@ -13,8 +13,9 @@ use Rattle.g9932.specs.Sizes.{unpack}
 use Rattle.g9932.specs.Trellis.{taken, lowBits, nextState}
 use Rattle.g9932.specs.declared.LowBits.{LowBits}
 use Rattle.g9932.specs.declared.TrellisState.{TrellisState}
-use Rattle.trellis.specs.Coding.{inputsOf, labelNumber, CodesPair}
+use Rattle.trellis.specs.Coding.{labelNumber, CodesPair}
 use Rattle.trellis.specs.Steps.{stateAt, stepNumber, coderAt}
+use Rattle.trellis.proofs.Numbers.{inputsOf}
 use Rattle.trellis.proofs.OnePair.{got-pair}
 use Rattle.trellis.proofs.Steps.{same-odd, same-half, same-quarter, state-back, step-v, step-w, step-next}
 

@@ -4,7 +4,6 @@ pub mod Entries
 pub mod CodeLoop
 pub mod Steps
 pub mod FreePair
-pub mod FreeLoop
 pub mod CodeAll
 pub mod DecodePair
 pub mod DecodeLoop

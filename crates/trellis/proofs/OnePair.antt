@@ -18,9 +18,8 @@ use Rattle.g9932.proofs.Formed.{fit-both}
 use Rattle.g9932.proofs.OnePair.{highs, Valid, word-valid}
 use Rattle.g9932.proofs.Packed.{length-unpack}
 use Rattle.g9932.proofs.Words.{num-lt, num-drop, num-take-lt, bits-num}
-use Rattle.trellis.specs.Coding.{inputsOf, labelNumber}
-use Rattle.trellis.specs.declared.Inputs.{Inputs}
-use Rattle.trellis.proofs.Numbers.{bit-num, IsInputs, inputs-word, v-number, w-number}
+use Rattle.trellis.specs.Coding.{labelNumber}
+use Rattle.trellis.proofs.Numbers.{bit-num, Inputs, inputsOf, IsInputs, inputs-word, v-number, w-number}
 
 word-u0 : (forced : Bool) (s : TrellisState) (x : ℕ) (f : List Bool) → wordOf forced s x f .u0 ≡ s .s0
 unfolding wordOf

@@ -2,7 +2,7 @@
 // number, and one look-up takes a step.
 ghost use mathlib.Core.Path.{_≡_};
 ghost use mathlib.Core.Bool.{false};
-ghost use Prim.Native.Nat.{ℕ, _+_, _-_, _*_, _/_, _%_, _^_, _≤_, _<_};
+ghost use Prim.Native.Nat.{_+_, _-_, _*_, _/_, _%_, _^_, _≤_, _<_};
 ghost use lib.ListN.{length};
 ghost use Rattle.frame.specs.Labels.{labelsAt, Placed};
 ghost use Rattle.g9932.specs.Bits.{odd};
@@ -12,7 +12,7 @@ ghost use Rattle.trellis.specs.Coding.{CodePairNeeds, CodeNeeds, CodesUp
 ghost use Rattle.trellis.specs.Steps.{stateNumber, stateAt, stepNumber, stepList, maskList, coderAt, CodesFreePair};
 use super::Coder;
 use super::entry;
-use super::put_entry;
+use super::put_pair;
 use super::weight;
 use g9932::TrellisState;
 
@@ -143,7 +143,7 @@ pub fn code_free_pairs(
     labels: &mut [u16],
 ) -> FreeEnd
     requires { ⌜ Wide (now entries) × (length (now entries) ≤ mostTones) × Placed (now entries) (now places) (now labels) × CodeNeeds c (now entries) from (now frame) (labelsAt (now places) (now labels)) ⌝ }
-    ensures { λ r. ⌜ CodesUpTo c (r .coder) (now (entries .entry)) (now (frame .entry)) (labelsAt (now (places .entry)) (now (labels .entry))) (labelsAt (now (places .entry)) (now (labels .exit))) from (r .next) ⌝ }
+    ensures { λ r. ⌜ CodesUpTo c (r .coder) (now (entries .entry)) (now (frame .entry)) (labelsAt (now (places .entry)) (now (labels .entry))) (labelsAt (now (places .entry)) (now (labels .exit))) from (r .next) × (length (now (entries .entry)) ≤ r .next + 5) ⌝ }
 {
     let steps = step_table();
     let masks = mask_table();
@@ -154,8 +154,7 @@ pub fn code_free_pairs(
         let x = entry(entries, i);
         let y = entry(entries, i + 1);
         let p = code_free_pair(frame, at, state, x, y, &steps, &masks);
-        put_entry(labels, places, i, p.v);
-        put_entry(labels, places, i + 1, p.w);
+        put_pair(labels, places, i, p.v, p.w);
         state = p.state;
         at += x + y - 1;
         i += 2;

@@ -1,18 +1,17 @@
 // Reading labels back: each pair is held against the code, and its frame bits are put together.
 ghost use mathlib.Core.Path.{_≡_};
-ghost use mathlib.Core.Bool.{true, false};
-ghost use Prim.Native.Nat.{ℕ, _+_, _-_, _*_, _^_, _≤_, _<_};
+ghost use mathlib.Core.Bool.{false};
+ghost use Prim.Native.Nat.{_+_, _-_, _*_, _^_, _≤_, _<_};
 ghost use lib.ListN.{length, getD};
 ghost use Rattle.frame.specs.Labels.{labelsAt, Placed, Rising};
 ghost use Rattle.g9932.specs.Sizes.{mostTones};
 ghost use Rattle.g9932.specs.Order.{pair};
-ghost use Rattle.g9932.specs.Trellis.{obeysCode};
+ghost use Rattle.g9932.specs.Trellis.{taken, obeysCode};
 ghost use Rattle.trellis.specs.Coding.{Wide};
 ghost use Rattle.trellis.specs.Reading.{firstReader, decodedOf, wordBy, takenNumber, ReadPairNeeds, ReadsPair, ReadNeeds, ReadsFrom, LabelNeeds, ReadsLabels};
 use super::entry;
 use super::label;
 use super::power;
-use super::taken_bits;
 use super::weight;
 use super::zero_state;
 use frame::BitWriter;
@@ -56,6 +55,17 @@ fn obeys_code(s: TrellisState, forced: bool, u: DecodedWord) -> bool
         return !(u.u0 ^ s.s0) & !(u.u1 ^ (s.s1 ^ s.s3)) & !(u.u2 ^ s.s2);
     }
     !(u.u0 ^ s.s0)
+}
+
+// How many bits a pair takes from the frame.
+fn taken_bits(forced: bool, x: usize, y: usize) -> usize
+    requires { ⌜ (2 ≤ x) × (x ≤ 15) × (2 ≤ y) × (y ≤ 15) ⌝ }
+    ensures { λ r. ⌜ (r ≡ taken forced (pair x y)) × (r ≤ 29) ⌝ }
+{
+    if forced {
+        return x + y - 3;
+    }
+    x + y - 1
 }
 
 // The frame bits of a word with x at least 2, as a number.
