@@ -16,7 +16,7 @@ use Rattle.g9932.specs.Order.{Pair, pair, inTwos}
 use Rattle.g9932.specs.Sizes.{unpack}
 use Rattle.g9932.specs.Trellis.{lastTwo, taken, wordOf, sentBits, nextOf, encodePairs}
 use Rattle.g9932.specs.declared.TrellisState.{TrellisState}
-use Rattle.trellis.specs.Coding.{codedWord, CodePairNeeds, CodesPair, Wide, CodeNeeds, CodesFrom, CodesUpTo}
+use Rattle.trellis.specs.Coding.{codedWord, CodePairNeeds, CodesPair, Wide, CodeNeeds, CodesFrom}
 use Rattle.trellis.specs.declared.Coder.{Coder}
 use Rattle.trellis.specs.declared.PairCode.{PairCode}
 use Rattle.trellis.proofs.Entries.{cut-pair, pair-wide, inTwos-short, forced-is}
@@ -27,6 +27,14 @@ pub encode-step : (forced : Bool) (s : TrellisState) (p : Pair) (ps : List Pair)
     ≡ sentBits (p .x) (wordOf forced s (p .x) (take (taken forced p) f)) ++ encodePairs (nextOf s (wordOf forced s (p .x) (take (taken forced p) f))) ps (drop (taken forced p) f)
 unfolding encodePairs
 encode-step forced s p ps f h = rw h
+
+-- Coded from one entry up to another, where the coder is k: the bits of the labels so far, with what the pairs left send, are the whole.
+pub record CodesUpTo (c k : Coder) (es frame labels after : List ℕ) (from i : ℕ) : Type 0 where
+  pub kept : length after ≡ length labels
+  pub needs : CodeNeeds k es i frame after
+  pub whole :
+      bitsOfLabels (take i es) (take i after) ++ encodePairs (k .state) (inTwos (drop i es)) (drop (k .at) (unpack frame))
+      ≡ bitsOfLabels (take from es) (take from labels) ++ encodePairs (c .state) (inTwos (drop from es)) (drop (c .at) (unpack frame))
 
 pub going-start : {c : Coder} {es frame labels : List ℕ} {from : ℕ} → CodeNeeds c es from frame labels → CodesUpTo c c es frame labels labels from from
 going-start r = record { kept = refl; needs = r; whole = refl }

@@ -13,7 +13,7 @@ use Rattle.g9932.specs.Trellis.{lowBits, nextState}
 use Rattle.g9932.specs.declared.LowBits.{LowBits}
 use Rattle.g9932.specs.declared.TrellisState.{TrellisState}
 use Rattle.g9932.proofs.Words.{weight-le, odd-weight}
-use Rattle.trellis.specs.Coding.{CodesUpTo}
+use Rattle.trellis.proofs.CodeLoop.{CodesUpTo}
 use Rattle.trellis.specs.Steps.{stateNumber, stateAt, lowNumber, stepNumber, valuesFrom, stepAt, stepList, maskList, coderAt}
 use Rattle.trellis.specs.declared.Coder.{Coder}
 

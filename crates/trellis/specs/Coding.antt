@@ -55,14 +55,6 @@ pub record CodesFrom (c : Coder) (es : List ℕ) (i : ℕ) (frame labels after :
   pub whole : bitsOfLabels es after ≡ bitsOfLabels (take i es) (take i labels) ++ encodePairs (c .state) (inTwos (drop i es)) (drop (c .at) (unpack frame))
   pub within : Within es after (length es)
 
--- Coded from one entry up to another, where the coder is k: the bits of the labels so far, with what the pairs left send, are the whole.
-pub record CodesUpTo (c k : Coder) (es frame labels after : List ℕ) (from i : ℕ) : Type 0 where
-  pub kept : length after ≡ length labels
-  pub needs : CodeNeeds k es i frame after
-  pub whole :
-      bitsOfLabels (take i es) (take i after) ++ encodePairs (k .state) (inTwos (drop i es)) (drop (k .at) (unpack frame))
-      ≡ bitsOfLabels (take from es) (take from labels) ++ encodePairs (c .state) (inTwos (drop from es)) (drop (c .at) (unpack frame))
-
 -- ---- all pairs
 
 -- the bits of the labels are the sent bits

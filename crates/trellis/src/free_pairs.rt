@@ -8,9 +8,10 @@ ghost use Rattle.frame.specs.Labels.{labelsAt, Placed};
 ghost use Rattle.g9932.specs.Bits.{odd};
 ghost use Rattle.g9932.specs.Order.{pair};
 ghost use Rattle.g9932.specs.Sizes.{mostTones};
-ghost use Rattle.trellis.specs.Coding.{CodePairNeeds, CodeNeeds, CodesUpTo, Wide};
+ghost use Rattle.trellis.specs.Coding.{CodePairNeeds, CodeNeeds, CodesFrom, Wide};
 ghost use Rattle.trellis.specs.Steps.{stateNumber, stateAt, stepNumber, stepList, maskList, coderAt, CodesFreePair};
 use super::Coder;
+use super::code_forced_pairs;
 use super::entry;
 use super::put_pair;
 use super::weight;
@@ -127,23 +128,17 @@ fn code_free_pair(
     }
 }
 
-// Where the free pairs end: the coder after them, and the entry after them.
-pub struct FreeEnd {
-    pub coder: Coder,
-    pub next: usize,
-}
-
-// Codes the pairs of the entries from `from` on but the last two. The label of an entry goes to its place.
-pub fn code_free_pairs(
+// Codes the pairs of the entries from `from` on: the free pairs, then the last two. The label of an entry goes to its place.
+pub fn code_from(
     c: Coder,
     frame: &[u8],
     entries: &[u8],
     places: &[u16],
     from: usize,
     labels: &mut [u16],
-) -> FreeEnd
+)
     requires { ⌜ Wide (now entries) × (length (now entries) ≤ mostTones) × Placed (now entries) (now places) (now labels) × CodeNeeds c (now entries) from (now frame) (labelsAt (now places) (now labels)) ⌝ }
-    ensures { λ r. ⌜ CodesUpTo c (r .coder) (now (entries .entry)) (now (frame .entry)) (labelsAt (now (places .entry)) (now (labels .entry))) (labelsAt (now (places .entry)) (now (labels .exit))) from (r .next) × (length (now (entries .entry)) ≤ r .next + 5) ⌝ }
+    ensures { λ _. ⌜ CodesFrom c (now (entries .entry)) from (now (frame .entry)) (labelsAt (now (places .entry)) (now (labels .entry))) (labelsAt (now (places .entry)) (now (labels .exit))) ⌝ }
 {
     let steps = step_table();
     let masks = mask_table();
@@ -163,5 +158,5 @@ pub fn code_free_pairs(
         state: state_of(state),
         at,
     };
-    FreeEnd { coder, next: i }
+    code_forced_pairs(coder, frame, entries, places, i, labels);
 }

@@ -7,13 +7,15 @@ ghost use mathlib.Core.Bool.{true, false};
 ghost use Prim.Native.Nat.{_+_, _-_, _*_, _/_, _%_, _^_, _≤_, _<_};
 ghost use lib.ListN.{length, getD, set};
 ghost use Rattle.frame.specs.Labels.{labelsAt, Rising, Placed};
-ghost use Rattle.g9932.specs.Bits.{weight as weightOf, bits};
+ghost use Rattle.g9932.specs.Bits.{_⊕_, weight as weightOf, bits};
 ghost use Rattle.g9932.specs.Order.{pair};
 ghost use Rattle.g9932.specs.Sizes.{mostTones, mostBytes};
-ghost use Rattle.g9932.specs.Trellis.{zeroState};
+ghost use Rattle.g9932.specs.Trellis.{zeroState, lowBits, nextState};
 ghost use Rattle.trellis.specs.Coding.{labelNumber, CodePairNeeds, CodesPair, CodeNeeds, CodesFrom, Wide, FrameNeeds, CodesFrame, firstCoder};
 use frame::by_place::place_at;
 use frame::by_place::put_label;
+use free_pairs::code_from;
+use g9932::Stepped;
 use g9932::TrellisState;
 
 // A bit as a number.
@@ -72,15 +74,22 @@ fn zero_state() -> TrellisState
     }
 }
 
-// Codes one of the last two pairs: u1 and u2 are forced.
+// The step of one of the last two pairs: u1 and u2 are forced.
+fn forced_step(s: TrellisState, u3: bool) -> Stepped
+    ensures { λ r. ⌜ (r .next ≡ nextState s (s .s1 ⊕ s .s3) (s .s2)) × (r .low ≡ lowBits (s .s0) (s .s1 ⊕ s .s3) (s .s2) u3) ⌝ }
+{
+    s.step(s.s1 ^ s.s3, s.s2, u3)
+}
+
+// Codes one of the last two pairs.
 fn code_forced_pair(c: Coder, frame: &[u8], x: usize, y: usize) -> PairCode
     requires { ⌜ (2 ≤ x) × (x ≤ 15) × (2 ≤ y) × (y ≤ 15) × CodePairNeeds c true (pair x y) (now frame) ⌝ }
     ensures { λ r. ⌜ CodesPair c true (pair x y) (now (frame .entry)) r ⌝ }
 {
-    let s = c.state;
     let n = x + y - 3;
     let f = frame::get(frame, c.at, n);
-    let t = s.step(s.s1 ^ s.s3, s.s2, f % 2 == 1);
+    let s = c.state;
+    let t = forced_step(s, f % 2 == 1);
     let low = t.low;
     let next = t.next;
     let coder = Coder {
@@ -139,23 +148,6 @@ fn code_forced_pairs(
         k = p.coder;
         i += 2;
     }
-}
-
-// Codes the pairs of the entries from `from` on. The label of an entry goes to its place.
-fn code_from(
-    c: Coder,
-    frame: &[u8],
-    entries: &[u8],
-    places: &[u16],
-    from: usize,
-    labels: &mut [u16],
-)
-    requires { ⌜ Wide (now entries) × (length (now entries) ≤ mostTones) × Placed (now entries) (now places) (now labels) × CodeNeeds c (now entries) from (now frame) (labelsAt (now places) (now labels)) ⌝ }
-    ensures { λ _. ⌜ CodesFrom c (now (entries .entry)) from (now (frame .entry)) (labelsAt (now (places .entry)) (now (labels .entry))) (labelsAt (now (places .entry)) (now (labels .exit))) ⌝ }
-{
-    let free = free_pairs::code_free_pairs(c, frame, entries, places, from, labels);
-    let coder = free.coder;
-    code_forced_pairs(coder, frame, entries, places, free.next, labels);
 }
 
 // Codes a first pair with x = 0: its bits are u2 and u4 upward, and v isn't sent.

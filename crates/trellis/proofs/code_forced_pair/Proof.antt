@@ -15,7 +15,7 @@ use Rattle.trellis.proofs.code_forced_pair.Tie as tie
 high : (c : tie.After-get) → c .get .result / 2 < 536870912
 unfolding inputsOf
 high c =
-    let s = c .before .before .before in
+    let s = c .before .before in
     let a = s .args in
     let h = got-high true (a .c .state) (a .x) (a .y) (a .frame .now) (a .c .at) _ (c .get .result) (inputsOf true (a .c .state) (c .get .result)) (s .pre .0) (s .pre .2) (s .pre .4 .bits) refl (c .get .ensures) refl (s .pre .1) (s .pre .3) in
     omega (arith, h)
@@ -29,8 +29,8 @@ sub-n c = search needs
 get-requires : tie.Need-get-requires
 get-requires c κs = search needs
 
-step-requires : tie.Need-step-requires
-step-requires c κs = search needs
+forced-step-requires : tie.Need-forced-step-requires
+forced-step-requires c κs = search needs
 
 add-lowest : tie.Need-add-lowest
 add-lowest c = search needs
@@ -44,7 +44,7 @@ lowest-requires c κs = search needs
 label-requires : tie.Need-label-requires
 label-requires c κs =
     let f = (c .before .before .before .before .before .before .get .result) / 2 in
-    rw (c .lowest .ensures) (lt-of-le-of-lt (mod-le f (2 ^ (c .before .before .before .before .before .before .before .before .before .args .x - 2))) (high (c .before .before .before .before .before .before)))
+    rw (c .lowest .ensures) (lt-of-le-of-lt (mod-le f (2 ^ (c .before .before .before .before .before .before .before .before .args .x - 2))) (high (c .before .before .before .before .before .before)))
 
 sub-label : tie.Need-sub-label
 sub-label c = search needs
@@ -56,15 +56,15 @@ shr-label : tie.Need-shr-label
 shr-label c = search needs
 
 label-requires-2 : tie.Need-label-requires-2
-label-requires-2 c κs = lt-of-le-of-lt (div-le-self ((c .before .before .before .before .before .before .before .get .result) / 2) (2 ^ (c .before .before .before .before .before .before .before .before .before .before .args .x - 2))) (high (c .before .before .before .before .before .before .before))
+label-requires-2 c κs = lt-of-le-of-lt (div-le-self ((c .before .before .before .before .before .before .before .get .result) / 2) (2 ^ (c .before .before .before .before .before .before .before .before .before .args .x - 2))) (high (c .before .before .before .before .before .before .before))
 
 returns : tie.Need-returns
 unfolding inputsOf odd
 returns c =
-    let s = c .before .before .before .before .before .before .before .before .before .before .before in
+    let s = c .before .before .before .before .before .before .before .before .before .before in
     let a = s .args in
     let g = c .before .before .before .before .before .before .before .before .get in
-    let t = c .before .before .before .before .before .before .step in
+    let t = c .before .before .before .before .before .before .forced-step in
     let l = c .before .label in
     let p = got-pair true (a .c .state) (a .x) (a .y) (a .frame .now) (a .c .at) _ (g .result) (inputsOf true (a .c .state) (g .result)) (s .pre .0) (s .pre .2) (s .pre .4 .bits) refl (g .ensures) refl (t .result .low) (l .result) (c .label2 .result) (t .ensures .1) (l .ensures ∙ rw (c .before .before .lowest .ensures)) (c .label2 .ensures) in
     record { state = t .ensures .0 ∙ p .next; at = refl; sends = p .sends; vSmall = p .vSmall; wSmall = p .wSmall }
@@ -76,7 +76,7 @@ code-forced-pair-spec =
     add-n
     sub-n
     get-requires
-    step-requires
+    forced-step-requires
     add-lowest
     sub-lowest
     lowest-requires

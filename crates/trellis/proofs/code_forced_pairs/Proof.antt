@@ -1,7 +1,6 @@
 -- `trellis::code_forced_pairs` meets its contract. The invariant: the bits of the labels so far, with what the pairs left send from the state
 -- and the frame bits left, are the whole, and fewer than six entries are left. The measure is the entries left.
-use Rattle.trellis.proofs.CodeLoop.{going-start, going-end, AtPair, at-wide, pair-needs, labels-fit, going-step}
-use Rattle.trellis.specs.Coding.{CodesUpTo}
+use Rattle.trellis.proofs.CodeLoop.{CodesUpTo, going-start, going-end, AtPair, at-wide, pair-needs, labels-fit, going-step}
 use Rattle.frame.specs.Labels.{labelsAt}
 use lib.ListN.{length}
 use borrow.Author.Tests.{lt-ltb}
