@@ -13,7 +13,6 @@ use Rattle.g9932.specs.Trellis.{lowBits, nextState}
 use Rattle.g9932.specs.declared.LowBits.{LowBits}
 use Rattle.g9932.specs.declared.TrellisState.{TrellisState}
 use Rattle.g9932.proofs.Words.{weight-le, odd-weight}
-use Rattle.trellis.proofs.CodeLoop.{CodesUpTo}
 use Rattle.trellis.specs.Steps.{stateNumber, stateAt, lowNumber, stepNumber, valuesFrom, stepAt, stepList, maskList, coderAt}
 use Rattle.trellis.specs.declared.Coder.{Coder}
 
@@ -86,11 +85,6 @@ pub coder-back : (c : Coder) (n : ℕ) → n ≡ stateNumber (c .state) → code
 coder-back c n h =
     let e : stateAt n ≡ c .state = ap stateAt h ∙ state-back (c .state) in
     ap (λ (s : TrellisState). record { state = s; at = c .at }) e
-
--- at the end the state is no number any more
-pub free-end : {es frame labels₀ labels : List ℕ} {from i : ℕ} (c : Coder) (n state at : ℕ) (s : TrellisState) → n ≡ stateNumber (c .state) → s ≡ stateAt state
-    → CodesUpTo (coderAt n (c .at)) (coderAt state at) es frame labels₀ labels from i → CodesUpTo c (record { state = s; at = at }) es frame labels₀ labels from i
-free-end c n state at s hn hs g = rw hs (rw (coder-back c n hn) at g)
 
 -- ---- a step's number
 

@@ -9,7 +9,7 @@ use Rattle.g9932.specs.declared.LowBits.{LowBits}
 use Rattle.g9932.specs.declared.TrellisState.{TrellisState}
 use Rattle.trellis.specs.Coding.{CodesPair}
 use Rattle.trellis.specs.declared.Coder.{Coder}
-use Rattle.trellis.specs.declared.free_pairs.FreePair.{FreePair}
+use Rattle.trellis.specs.declared.pairs.FreePair.{FreePair}
 
 -- a state (S3, S2, S1, S0) as a number, and the state of a number
 unfoldable pub stateNumber : TrellisState → ℕ

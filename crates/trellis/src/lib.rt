@@ -1,22 +1,21 @@
 // The trellis code: a frame's bits to the labels of the entries of b', pair by pair.
-mod free_pairs;
+mod pairs;
 pub mod read;
 
 ghost use mathlib.Core.Path.{_≡_};
-ghost use mathlib.Core.Bool.{true, false};
+ghost use mathlib.Core.Bool.{false};
 ghost use Prim.Native.Nat.{_+_, _-_, _*_, _/_, _%_, _^_, _≤_, _<_};
 ghost use lib.ListN.{length, getD, set};
 ghost use Rattle.frame.specs.Labels.{labelsAt, Rising, Placed};
-ghost use Rattle.g9932.specs.Bits.{_⊕_, weight as weightOf, bits};
+ghost use Rattle.g9932.specs.Bits.{weight as weightOf, bits};
 ghost use Rattle.g9932.specs.Order.{pair};
-ghost use Rattle.g9932.specs.Sizes.{mostTones, mostBytes};
-ghost use Rattle.g9932.specs.Trellis.{zeroState, lowBits, nextState};
-ghost use Rattle.trellis.specs.Coding.{labelNumber, CodePairNeeds, CodesPair, CodeNeeds, CodesFrom, Wide, FrameNeeds, CodesFrame, firstCoder};
+ghost use Rattle.g9932.specs.Sizes.{mostBytes};
+ghost use Rattle.g9932.specs.Trellis.{zeroState};
+ghost use Rattle.trellis.specs.Coding.{labelNumber, CodesPair, FrameNeeds, CodesFrame, firstCoder};
 use frame::by_place::place_at;
 use frame::by_place::put_label;
-use free_pairs::code_from;
-use g9932::Stepped;
 use g9932::TrellisState;
+use pairs::code_from;
 
 // A bit as a number.
 fn weight(b: bool) -> u32
@@ -31,14 +30,6 @@ fn power(k: usize) -> u32
     ensures { λ r. ⌜ r ≡ 2 ^ k ⌝ }
 {
     1u32 << k
-}
-
-// The n lowest bits of a value.
-fn lowest(value: u32, n: usize) -> u32
-    requires { ⌜ n < 32 ⌝ }
-    ensures { λ r. ⌜ r ≡ value % 2 ^ n ⌝ }
-{
-    value & (power(n) - 1)
 }
 
 // A label as a number, from its two lowest bits and those above.
@@ -74,35 +65,6 @@ fn zero_state() -> TrellisState
     }
 }
 
-// The step of one of the last two pairs: u1 and u2 are forced.
-fn forced_step(s: TrellisState, u3: bool) -> Stepped
-    ensures { λ r. ⌜ (r .next ≡ nextState s (s .s1 ⊕ s .s3) (s .s2)) × (r .low ≡ lowBits (s .s0) (s .s1 ⊕ s .s3) (s .s2) u3) ⌝ }
-{
-    s.step(s.s1 ^ s.s3, s.s2, u3)
-}
-
-// Codes one of the last two pairs.
-fn code_forced_pair(c: Coder, frame: &[u8], x: usize, y: usize) -> PairCode
-    requires { ⌜ (2 ≤ x) × (x ≤ 15) × (2 ≤ y) × (y ≤ 15) × CodePairNeeds c true (pair x y) (now frame) ⌝ }
-    ensures { λ r. ⌜ CodesPair c true (pair x y) (now (frame .entry)) r ⌝ }
-{
-    let n = x + y - 3;
-    let f = frame::get(frame, c.at, n);
-    let s = c.state;
-    let t = forced_step(s, f % 2 == 1);
-    let low = t.low;
-    let next = t.next;
-    let coder = Coder {
-        state: next,
-        at: c.at + n,
-    };
-    PairCode {
-        v: label(low.v0, low.v1, lowest(f / 2, x - 2)),
-        w: label(low.w0, low.w1, (f / 2) >> (x - 2)),
-        coder,
-    }
-}
-
 // An entry of b'.
 fn entry(entries: &[u8], i: usize) -> usize
     requires { ⌜ i < length (now entries) ⌝ }
@@ -117,37 +79,6 @@ fn put_entry(labels: &mut [u16], places: &[u16], i: usize, label: u32)
     ensures { λ _. ⌜ labelsAt (now (places .entry)) (now (labels .exit)) ≡ set (labelsAt (now (places .entry)) (now (labels .entry))) i label ⌝ }
 {
     put_label(labels, place_at(places, i), label as u16);
-}
-
-// Puts the labels of the pair at entry i at their places.
-fn put_pair(labels: &mut [u16], places: &[u16], i: usize, v: u32, w: u32)
-    requires { ⌜ (i + 1 < length (now places)) × (v < 65536) × (w < 65536) × Rising (now places) (length (now labels)) ⌝ }
-    ensures { λ _. ⌜ labelsAt (now (places .entry)) (now (labels .exit)) ≡ set (set (labelsAt (now (places .entry)) (now (labels .entry))) i v) (i + 1) w ⌝ }
-{
-    put_entry(labels, places, i, v);
-    put_entry(labels, places, i + 1, w);
-}
-
-// Codes the pairs of the entries from `from` on, which are the last two or fewer.
-fn code_forced_pairs(
-    c: Coder,
-    frame: &[u8],
-    entries: &[u8],
-    places: &[u16],
-    from: usize,
-    labels: &mut [u16],
-)
-    requires { ⌜ Wide (now entries) × (length (now entries) ≤ mostTones) × (length (now entries) ≤ from + 5) × Placed (now entries) (now places) (now labels) × CodeNeeds c (now entries) from (now frame) (labelsAt (now places) (now labels)) ⌝ }
-    ensures { λ _. ⌜ CodesFrom c (now (entries .entry)) from (now (frame .entry)) (labelsAt (now (places .entry)) (now (labels .entry))) (labelsAt (now (places .entry)) (now (labels .exit))) ⌝ }
-{
-    let mut k = c;
-    let mut i = from;
-    while i + 1 < entries.len() {
-        let p = code_forced_pair(k, frame, entry(entries, i), entry(entries, i + 1));
-        put_pair(labels, places, i, p.v, p.w);
-        k = p.coder;
-        i += 2;
-    }
 }
 
 // Codes a first pair with x = 0: its bits are u2 and u4 upward, and v isn't sent.

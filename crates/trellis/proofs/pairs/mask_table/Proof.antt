@@ -1,8 +1,8 @@
--- `trellis::free_pairs::mask_table` meets its contract: the masks, computed.
+-- `trellis::pairs::mask_table` meets its contract: the masks, computed.
 use Rattle.trellis.specs.Steps.{valuesFrom, maskList}
 use mathlib.Core.Path.{refl}
-use Rattle.trellis.proofs.free_pairs.mask_table.Statement.{statement}
-use Rattle.trellis.proofs.free_pairs.mask_table.Tie as tie
+use Rattle.trellis.proofs.pairs.mask_table.Statement.{statement}
+use Rattle.trellis.proofs.pairs.mask_table.Tie as tie
 
 returns : tie.Need-returns
 unfolding valuesFrom maskList

@@ -1,12 +1,12 @@
--- `trellis::put_pair` meets its contract: one label, then the other.
+-- `trellis::pairs::put_pair` meets its contract: one label, then the other.
 use Prim.Native.Nat.{ℕ}
 use lib.ListN.{set}
 use mathlib.Core.Path.{ap, _∙_}
 use mathlib.Core.List.{List}
 use Prim.Native.Nat.{_+_}
 use borrow.Author.Needs.{needs}
-use Rattle.trellis.proofs.put_pair.Statement.{statement}
-use Rattle.trellis.proofs.put_pair.Tie as tie
+use Rattle.trellis.proofs.pairs.put_pair.Statement.{statement}
+use Rattle.trellis.proofs.pairs.put_pair.Tie as tie
 
 put-entry-requires : tie.Need-put-entry-requires
 put-entry-requires c κs = search needs

@@ -1,4 +1,4 @@
--- `trellis::code_forced_pair` meets its contract: the bits got are u3 upward, and the pair's labels are v and w.
+-- `trellis::pairs::code_forced_pair` meets its contract: the bits got are u3 upward, and the pair's labels are v and w.
 use Rattle.trellis.proofs.OnePair.{got-high, got-pair}
 use Rattle.trellis.proofs.Numbers.{inputsOf}
 use Rattle.g9932.specs.Bits.{odd}
@@ -8,8 +8,8 @@ use Prim.Native.Nat.{_-_, _/_, _^_, _<_}
 use native.Mathlib.Nat.{lt-of-le-of-lt, mod-le, div-le-self}
 use native.Mathlib.Omega.{arith}
 use borrow.Author.Needs.{needs}
-use Rattle.trellis.proofs.code_forced_pair.Statement.{statement}
-use Rattle.trellis.proofs.code_forced_pair.Tie as tie
+use Rattle.trellis.proofs.pairs.code_forced_pair.Statement.{statement}
+use Rattle.trellis.proofs.pairs.code_forced_pair.Tie as tie
 
 -- what stands above u3 fits
 high : (c : tie.After-get) → c .get .result / 2 < 536870912

@@ -1,9 +1,9 @@
--- `trellis::free_pairs::state_number` meets its contract: the bits of the state, weighted.
+-- `trellis::pairs::state_number` meets its contract: the bits of the state, weighted.
 use Rattle.trellis.specs.Steps.{stateNumber}
 use native.Mathlib.Omega.{arith}
 use borrow.Author.Needs.{needs}
-use Rattle.trellis.proofs.free_pairs.state_number.Statement.{statement}
-use Rattle.trellis.proofs.free_pairs.state_number.Tie as tie
+use Rattle.trellis.proofs.pairs.state_number.Statement.{statement}
+use Rattle.trellis.proofs.pairs.state_number.Tie as tie
 
 weight-requires : tie.Need-weight-requires
 weight-requires c κs = search needs

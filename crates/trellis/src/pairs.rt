@@ -1,20 +1,24 @@
-// The free pairs, those before the last two: none of their bits is forced. They are nearly all pairs, so here the state is a plain
-// number, and one look-up takes a step.
+// The pairs of two entries: the free pairs, then the last two, whose u1 and u2 are forced. The free pairs are nearly all, so there the state
+// is a plain number, and one look-up takes a step.
 ghost use mathlib.Core.Path.{_≡_};
-ghost use mathlib.Core.Bool.{false};
+ghost use mathlib.Core.Bool.{true, false};
 ghost use Prim.Native.Nat.{_+_, _-_, _*_, _/_, _%_, _^_, _≤_, _<_};
-ghost use lib.ListN.{length};
-ghost use Rattle.frame.specs.Labels.{labelsAt, Placed};
-ghost use Rattle.g9932.specs.Bits.{odd};
+ghost use lib.ListN.{length, set};
+ghost use Rattle.frame.specs.Labels.{labelsAt, Rising, Placed};
+ghost use Rattle.g9932.specs.Bits.{_⊕_, odd};
 ghost use Rattle.g9932.specs.Order.{pair};
 ghost use Rattle.g9932.specs.Sizes.{mostTones};
-ghost use Rattle.trellis.specs.Coding.{CodePairNeeds, CodeNeeds, CodesFrom, Wide};
+ghost use Rattle.g9932.specs.Trellis.{lowBits, nextState};
+ghost use Rattle.trellis.specs.Coding.{CodePairNeeds, CodesPair, CodeNeeds, CodesFrom, Wide};
 ghost use Rattle.trellis.specs.Steps.{stateNumber, stateAt, stepNumber, stepList, maskList, coderAt, CodesFreePair};
 use super::Coder;
-use super::code_forced_pairs;
+use super::PairCode;
 use super::entry;
-use super::put_pair;
+use super::label;
+use super::power;
+use super::put_entry;
 use super::weight;
+use g9932::Stepped;
 use g9932::TrellisState;
 
 // The steps of the encoder: a row for each state, in it one for each u1 + 2 u2 + 4 u3. See specs/Steps. A caller makes the table once
@@ -128,6 +132,78 @@ fn code_free_pair(
     }
 }
 
+// Puts the labels of the pair at entry i at their places.
+fn put_pair(labels: &mut [u16], places: &[u16], i: usize, v: u32, w: u32)
+    requires { ⌜ (i + 1 < length (now places)) × (v < 65536) × (w < 65536) × Rising (now places) (length (now labels)) ⌝ }
+    ensures { λ _. ⌜ labelsAt (now (places .entry)) (now (labels .exit)) ≡ set (set (labelsAt (now (places .entry)) (now (labels .entry))) i v) (i + 1) w ⌝ }
+{
+    put_entry(labels, places, i, v);
+    put_entry(labels, places, i + 1, w);
+}
+
+// The n lowest bits of a value.
+fn lowest(value: u32, n: usize) -> u32
+    requires { ⌜ n < 32 ⌝ }
+    ensures { λ r. ⌜ r ≡ value % 2 ^ n ⌝ }
+{
+    value & (power(n) - 1)
+}
+
+// The step of one of the last two pairs: u1 and u2 are forced.
+fn forced_step(s: TrellisState, u3: bool) -> Stepped
+    ensures { λ r. ⌜ (r .next ≡ nextState s (s .s1 ⊕ s .s3) (s .s2)) × (r .low ≡ lowBits (s .s0) (s .s1 ⊕ s .s3) (s .s2) u3) ⌝ }
+{
+    s.step(s.s1 ^ s.s3, s.s2, u3)
+}
+
+// Codes one of the last two pairs.
+fn code_forced_pair(c: Coder, frame: &[u8], x: usize, y: usize) -> PairCode
+    requires { ⌜ (2 ≤ x) × (x ≤ 15) × (2 ≤ y) × (y ≤ 15) × CodePairNeeds c true (pair x y) (now frame) ⌝ }
+    ensures { λ r. ⌜ CodesPair c true (pair x y) (now (frame .entry)) r ⌝ }
+{
+    let n = x + y - 3;
+    let f = frame::get(frame, c.at, n);
+    let s = c.state;
+    let t = forced_step(s, f % 2 == 1);
+    let low = t.low;
+    let next = t.next;
+    let coder = Coder {
+        state: next,
+        at: c.at + n,
+    };
+    PairCode {
+        v: label(low.v0, low.v1, lowest(f / 2, x - 2)),
+        w: label(low.w0, low.w1, (f / 2) >> (x - 2)),
+        coder,
+    }
+}
+
+// Codes the pairs of the entries from `from` on, which are the last two or fewer.
+fn code_forced_pairs(
+    state: usize,
+    at: usize,
+    frame: &[u8],
+    entries: &[u8],
+    places: &[u16],
+    from: usize,
+    labels: &mut [u16],
+)
+    requires { ⌜ Wide (now entries) × (length (now entries) ≤ mostTones) × (length (now entries) ≤ from + 5) × Placed (now entries) (now places) (now labels) × CodeNeeds (coderAt state at) (now entries) from (now frame) (labelsAt (now places) (now labels)) ⌝ }
+    ensures { λ _. ⌜ CodesFrom (coderAt state at) (now (entries .entry)) from (now (frame .entry)) (labelsAt (now (places .entry)) (now (labels .entry))) (labelsAt (now (places .entry)) (now (labels .exit))) ⌝ }
+{
+    let mut k = Coder {
+        state: state_of(state),
+        at,
+    };
+    let mut i = from;
+    while i + 1 < entries.len() {
+        let p = code_forced_pair(k, frame, entry(entries, i), entry(entries, i + 1));
+        put_pair(labels, places, i, p.v, p.w);
+        k = p.coder;
+        i += 2;
+    }
+}
+
 // Codes the pairs of the entries from `from` on: the free pairs, then the last two. The label of an entry goes to its place.
 pub fn code_from(
     c: Coder,
@@ -154,9 +230,5 @@ pub fn code_from(
         at += x + y - 1;
         i += 2;
     }
-    let coder = Coder {
-        state: state_of(state),
-        at,
-    };
-    code_forced_pairs(coder, frame, entries, places, i, labels);
+    code_forced_pairs(state, at, frame, entries, places, i, labels);
 }

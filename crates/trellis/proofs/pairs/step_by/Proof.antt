@@ -1,9 +1,9 @@
--- `trellis::free_pairs::step_by` meets its contract: the entry at a state and its three bits.
+-- `trellis::pairs::step_by` meets its contract: the entry at a state and its three bits.
 use Rattle.trellis.proofs.Steps.{step-found}
 use native.Mathlib.Omega.{arith}
 use borrow.Author.Needs.{needs}
-use Rattle.trellis.proofs.free_pairs.step_by.Statement.{statement}
-use Rattle.trellis.proofs.free_pairs.step_by.Tie as tie
+use Rattle.trellis.proofs.pairs.step_by.Statement.{statement}
+use Rattle.trellis.proofs.pairs.step_by.Tie as tie
 
 mul-result : tie.Need-mul-result
 mul-result c = search needs

@@ -1,18 +1,18 @@
--- `trellis::free_pairs::code_from` meets its contract. The invariant: as of `code_forced_pairs`, with a coder whose state is a number
--- below 16. The measure is the entries left.
-use Rattle.trellis.proofs.Steps.{coder-back, free-end}
+-- `trellis::pairs::code_from` meets its contract. The invariant: as of `code_forced_pairs`, with a coder whose state is a number below 16.
+-- The measure is the entries left.
+use Rattle.trellis.proofs.Steps.{coder-back}
 use Rattle.trellis.proofs.CodeLoop.{CodesUpTo, going-start, going-on, AtPair, at-wide, pair-needs, labels-fit, going-step}
 use Rattle.trellis.specs.Steps.{coderAt}
 use Rattle.frame.specs.Labels.{labelsAt, Placed}
 use lib.ListN.{length}
 use borrow.Author.Tests.{le-ltb}
+use borrow.Author.Needs.{needs}
 use native.Mathlib.Omega.{arith}
 use mathlib.Core.Path.{_≡_, refl, sym, _∙_}
 use mathlib.Core.Bool.{false}
 use Prim.Native.Nat.{_-_, _<_}
-use borrow.Author.Needs.{needs}
-use Rattle.trellis.proofs.free_pairs.code_from.Statement.{statement}
-use Rattle.trellis.proofs.free_pairs.code_from.Tie as tie
+use Rattle.trellis.proofs.pairs.code_from.Statement.{statement}
+use Rattle.trellis.proofs.pairs.code_from.Tie as tie
 
 abbrev Inv-loop : tie.InvT-loop
 Inv-loop frame entries places from labels₀ steps masks state₀ at₀ i₀ labels state at i =
@@ -38,17 +38,6 @@ at-pair c =
       isY = c .entry2 .ensures;
       isForced = sym (le-ltb (length (s .args .entries .now) - l .i) 6 (omega arith));
     }
-
--- what the loop leaves
-coded : (c : tie.After-state-of Inv-loop μ-loop) → let l = c .before .before .loop in
-    let a = c .before .before .before .before .before .before .before .before .before .before .args in
-    CodesUpTo (a .c) (record { state = c .state-of .result; at = l .at }) (a .entries .now) (a .frame .now) (labelsAt (a .places .now) (a .labels .now))
-    (labelsAt (a .places .now) (l .labels)) (a .from) (l .i)
-coded c =
-    let a = c .before .before .before .before .before .before .before .before .before .before .args in
-    let l = c .before .before .loop in
-    let n = c .before .before .before .state-number in
-    free-end (a .c) (n .result) (l .state) (l .at) (c .state-of .result) (n .ensures .0) (c .state-of .ensures) (l .inv .0)
 
 step-table-requires : tie.Need-step-table-requires Inv-loop μ-loop
 step-table-requires c κs = search needs
@@ -112,22 +101,21 @@ loop-again c =
     let q = c .before .before .before .before .code-free-pair .ensures in
     (rw (w .ensures) (going-step (at-pair (c .before .before .before .before .before .before .before)) (q .codes)), w .kept .0 ∙ c .before .before .before .before .before .before .before .before .before .before .loop .inv .1, q .small)
 
-state-of-requires : tie.Need-state-of-requires Inv-loop μ-loop
-state-of-requires c κs = search needs
-
 code-forced-pairs-requires : tie.Need-code-forced-pairs-requires Inv-loop μ-loop
 code-forced-pairs-requires c κs =
-    let s = c .before .before .before .before .before .before .before .before .before .before .before in
+    let s = c .before .before .before .before .before .before .before .before .before .before in
     let a = s .args in
-    let l = c .before .before .before .loop in
+    let l = c .before .before .loop in
     let placed : Placed (a .entries .now) (a .places .now) (l .labels) = record { same = s .pre .2 .same; rising = rw (l .inv .1) (s .pre .2 .rising) } in
-    (s .pre .0, s .pre .1, omega arith, placed, coded (c .before) .needs)
+    (s .pre .0, s .pre .1, omega arith, placed, l .inv .0 .needs)
 
 same-length : tie.Need-same-length Inv-loop μ-loop
-same-length c = c .before .before .code-forced-pairs .kept .1 .1 .1 .1 .1 .0 ∙ c .before .before .before .before .before .before .loop .inv .1
+same-length c = c .before .before .code-forced-pairs .kept .1 .1 .1 .1 .1 .1 .0 ∙ c .before .before .before .before .before .loop .inv .1
 
 returns : tie.Need-returns Inv-loop μ-loop
-returns c = going-on (coded (c .before .before .before .before)) (c .before .before .code-forced-pairs .ensures)
+returns c =
+    let n = c .before .before .before .before .before .before .state-number in
+    rw (coder-back (c .before .before .before .before .before .before .before .before .before .before .before .before .before .args .c) (n .result) (n .ensures .0)) at (going-on (c .before .before .before .before .before .loop .inv .0) (c .before .before .code-forced-pairs .ensures))
 
 pub code-from-spec : {M : Type 1} → statement M
 code-from-spec =
@@ -151,7 +139,6 @@ code-from-spec =
     add-i
     loop-less
     loop-again
-    state-of-requires
     code-forced-pairs-requires
     same-length
     returns)

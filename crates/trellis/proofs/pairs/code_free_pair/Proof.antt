@@ -1,11 +1,11 @@
--- `trellis::free_pairs::code_free_pair` meets its contract: the step and the masked word make the pair's labels.
+-- `trellis::pairs::code_free_pair` meets its contract: the step and the masked word make the pair's labels.
 use Rattle.trellis.proofs.FreePair.{free-coded}
 use native.Mathlib.Omega.{arith}
 use mathlib.Core.Path.{ap}
 use Prim.Native.Nat.{ℕ, _+_, _*_, _/_, _%_}
 use borrow.Author.Needs.{needs}
-use Rattle.trellis.proofs.free_pairs.code_free_pair.Statement.{statement}
-use Rattle.trellis.proofs.free_pairs.code_free_pair.Tie as tie
+use Rattle.trellis.proofs.pairs.code_free_pair.Statement.{statement}
+use Rattle.trellis.proofs.pairs.code_free_pair.Tie as tie
 
 ahead-requires : tie.Need-ahead-requires
 ahead-requires c κs = search needs
