@@ -1,5 +1,6 @@
 -- Bits that are got: bytes put together to a word, and a part of a word.
 use mathlib.Core.Path.{_≡_, sym}
+use mathlib.Core.Bool.{Bool}
 use mathlib.Core.List.{List}
 use Prim.Native.Nat.{ℕ, _+_, _-_, _*_, _/_, _%_, _^_, _≤_, _<_}
 use native.Mathlib.Nat.{add-assoc, lt-of-lt-of-le}
@@ -9,6 +10,7 @@ use lib.Bits.{bitAnd, and-mask, mask-lt}
 use lib.Pow.{pow-mono}
 use lib.ListN.{length, take, drop, getD, length-drop}
 use lib.Seq.{drop-drop, take-add, length-take-le}
+use Rattle.frame.specs.Loads.{Ahead}
 use Rattle.g9932.specs.Bits.{num}
 use Rattle.g9932.specs.Sizes.{unpack}
 use Rattle.g9932.proofs.Words.{num-append, num-take, num-drop}
@@ -61,12 +63,16 @@ num-word64 l i a b h ha hb =
     let p : 8 * (i + 4) ≡ 8 * i + 32 = omega arith in
     rw (take-add 32 32 t, num-append, k, ha, hb, p, drop-drop)
 
--- n bits from bit `at` on, out of a word of m bits that starts at the byte of `at`
-pub get-law : (l : List ℕ) (at n m w p : ℕ) → at % 8 + n ≤ m → w ≡ num (take m (drop (8 * (at / 8)) (unpack l))) → p ≡ 2 ^ n
-    → bitAnd (w / 2 ^ (at % 8)) (p - 1) ≡ num (take n (drop at (unpack l)))
-get-law l at n m w p k hw hp =
+-- the bits from bit `at` on, out of a word of m bits that starts at the byte of `at`
+pub ahead-law : (l : List ℕ) (at m w : ℕ) → 39 ≤ m → w ≡ num (take m (drop (8 * (at / 8)) (unpack l))) → Ahead (w / 2 ^ (at % 8)) (drop at (unpack l))
+ahead-law l at m w k hw n h =
     let e : 8 * (at / 8) + at % 8 ≡ at = omega arith in
-    rw (hp, and-mask, hw, ← num-drop, ← num-take, window, drop-drop, e)
+    let f : at % 8 + n ≤ m = omega arith in
+    rw (hw, ← num-drop, ← num-take, window, drop-drop, e)
+
+-- n of them
+pub get-law : (w n p : ℕ) (l : List Bool) → n ≤ 32 → Ahead w l → p ≡ 2 ^ n → bitAnd w (p - 1) ≡ num (take n l)
+get-law w n p l h a hp = rw (hp, and-mask) (a n h)
 
 pub get-fits : (w n p : ℕ) → n ≤ 32 → p ≡ 2 ^ n → bitAnd w (p - 1) < 2 ^ 32
 get-fits w n p h hp = rw hp (lt-of-lt-of-le (mask-lt w n) (pow-mono h))

@@ -1,5 +1,5 @@
 -- Labels: as bits one after the other, each by its own count, and as a list by place in t'.
-use Prim.Native.Nat.{ℕ, _^_, _≤_, _<_}
+use Prim.Native.Nat.{ℕ, _^_, _<_}
 use mathlib.Core.Bool.{Bool}
 use mathlib.Core.List.{List, [], _∷_, _++_, map}
 use mathlib.Core.Path.{_≡_}
@@ -29,11 +29,3 @@ pub record Rising (ps : List ℕ) (n : ℕ) : Type 0 where
 pub record Placed (es ps ls : List ℕ) : Type 0 where
   pub same : length ps ≡ length es
   pub rising : Rising ps (length ls)
-
--- The bit counts along the tones of t' fit the entries of b' past its zeros: a count of at least 2 has an entry of its own, two counts
--- of 1 that follow each other share an entry of 2, and a count of 0 has none.
-pub data Fits : List ℕ → List ℕ → Type 0 where
-  none : Fits [] []
-  empty : {bs es : List ℕ} → Fits bs es → Fits (0 ∷ bs) es
-  own : {b : ℕ} {bs es : List ℕ} → 2 ≤ b → Fits bs es → Fits (b ∷ bs) (b ∷ es)
-  shared : {bs es : List ℕ} → Fits bs es → Fits (1 ∷ 1 ∷ bs) (2 ∷ es)

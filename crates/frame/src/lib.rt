@@ -8,6 +8,7 @@ ghost use lib.ListN.{length, getD, take, drop};
 ghost use Rattle.g9932.specs.Bits.{bits, num};
 ghost use Rattle.g9932.specs.Sizes.{unpack};
 ghost use Rattle.g9932.specs.Refusals.{frameTest};
+ghost use Rattle.frame.specs.Loads.{Ahead};
 ghost use Rattle.frame.specs.Written.{emptyWriter, written, Waits, Put};
 
 // The byte at a place, 0 past the end.
@@ -83,22 +84,29 @@ fn bit_in_byte(at: usize) -> usize
     at % 8
 }
 
-// The n bits from bit `at` on, where eight bytes are there.
-fn get_inside(bytes: &[u8], at: usize, n: usize) -> u32
-    requires { ⌜ (n ≤ 32) × (at / 8 + 8 ≤ length (now bytes)) ⌝ }
-    ensures { λ r. ⌜ r ≡ num (take n (drop at (unpack (now (bytes .entry))))) ⌝ }
+// The bits from bit `at` on, as a number whose 32 lowest bits are right: where eight bytes are there.
+fn ahead_inside(bytes: &[u8], at: usize) -> u64
+    requires { ⌜ at / 8 + 8 ≤ length (now bytes) ⌝ }
+    ensures { λ r. ⌜ Ahead r (drop at (unpack (now (bytes .entry)))) ⌝ }
 {
-    let eight = word64(bytes, at / 8);
-    ((eight >> bit_in_byte(at)) & (power(n) - 1)) as u32
+    word64(bytes, at / 8) >> bit_in_byte(at)
 }
 
 // The same near the end.
-fn get_near_end(bytes: &[u8], at: usize, n: usize) -> u32
-    requires { ⌜ n ≤ 32 ⌝ }
-    ensures { λ r. ⌜ r ≡ num (take n (drop at (unpack (now (bytes .entry))))) ⌝ }
+fn ahead_near_end(bytes: &[u8], at: usize) -> u64
+    ensures { λ r. ⌜ Ahead r (drop at (unpack (now (bytes .entry)))) ⌝ }
 {
-    let five = word_at(bytes, at / 8);
-    ((five >> bit_in_byte(at)) & (power(n) - 1)) as u32
+    word_at(bytes, at / 8) >> bit_in_byte(at)
+}
+
+// The same anywhere; past the end the bits count as 0. Called by proved code only.
+pub fn ahead(bytes: &[u8], at: usize) -> u64
+    ensures { λ r. ⌜ Ahead r (drop at (unpack (now (bytes .entry)))) ⌝ }
+{
+    if at / 8 + 8 <= bytes.len() {
+        return ahead_inside(bytes, at);
+    }
+    ahead_near_end(bytes, at)
 }
 
 // The n bits from bit `at` on, at most 32, as a number; past the end they count as 0. Called by proved code only.
@@ -106,10 +114,7 @@ pub fn get(bytes: &[u8], at: usize, n: usize) -> u32
     requires { ⌜ n ≤ 32 ⌝ }
     ensures { λ r. ⌜ r ≡ num (take n (drop at (unpack (now (bytes .entry))))) ⌝ }
 {
-    if at / 8 + 8 <= bytes.len() {
-        return get_inside(bytes, at, n);
-    }
-    get_near_end(bytes, at, n)
+    (ahead(bytes, at) & (power(n) - 1)) as u32
 }
 
 // The lowest byte.

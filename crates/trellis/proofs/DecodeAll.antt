@@ -19,7 +19,7 @@ use Rattle.g9932.specs.Trellis.{Reading, frame, breaks, after as after', lastTw
 use Rattle.g9932.specs.declared.Found.{Found}
 use Rattle.g9932.specs.declared.Found.the-variants.{At, Nothing}
 use Rattle.frame.specs.declared.BitWriter.{BitWriter}
-use Rattle.trellis.specs.Reading.{firstReader, decodedIn, PairNeeds, ReadsPair, ReadNeeds, onward, readingFrom, ReadsFrom, readingOfAll, ReadsLabels, LabelNeeds}
+use Rattle.trellis.specs.Reading.{firstReader, decodedIn, ReadPairNeeds, ReadsPair, ReadNeeds, onward, readingFrom, ReadsFrom, readingOfAll, ReadsLabels, LabelNeeds}
 use Rattle.trellis.specs.declared.read.PairRead.{PairRead}
 use Rattle.trellis.specs.declared.read.PairsRead.{PairsRead}
 use Rattle.trellis.proofs.Entries.{whole-pairs, padded-pairs, not-forced, padded-taken}
@@ -72,10 +72,10 @@ module _ (w : BitWriter) (es labels out : List ℕ) (needs : LabelNeeds w es lab
     taken-first = padded-taken es y (needs .few) odd hy
 
     module _ (l : ℕ) (hl : l ≡ getD labels 0 0) where
-      pub first-needs : (2 ≤ y) × (y ≤ 15) × PairNeeds (firstReader w) (pair 0 y) 0 l out
+      pub first-needs : (2 ≤ y) × (y ≤ 15) × ReadPairNeeds (firstReader w) (pair 0 y) 0 l out
       first-needs =
           let a = needs .wide 0 (omega (arith, needs .few)) in
-          let p : PairNeeds (firstReader w) (pair 0 y) 0 l out =
+          let p : ReadPairNeeds (firstReader w) (pair 0 y) 0 l out =
           record {
             vSmall = omega arith;
             wSmall = rw (hl, hy) (needs .within 0 (omega (arith, needs .few)));

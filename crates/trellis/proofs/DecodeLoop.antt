@@ -18,7 +18,7 @@ use Rattle.g9932.specs.Order.{Pair, pair, inTwos}
 use Rattle.g9932.specs.Trellis.{Word, Reading, frame, breaks, after as after', lastTwo, taken, width, decodedWord, decodedAt, obeysCode, takenBits, nextOf, readPairs, takenTotal}
 use Rattle.g9932.specs.declared.Found.the-variants.{At, Nothing}
 use Rattle.trellis.specs.Coding.{Wide}
-use Rattle.trellis.specs.Reading.{decodedIn, PairNeeds, ReadsPair, ReadNeeds, readingFrom, ReadsFrom}
+use Rattle.trellis.specs.Reading.{decodedIn, ReadPairNeeds, ReadsPair, ReadNeeds, readingFrom, ReadsFrom}
 use Rattle.trellis.specs.declared.read.Reader.{Reader}
 use Rattle.trellis.specs.declared.read.PairRead.{PairRead}
 use Rattle.trellis.proofs.Entries.{cut-pair, pair-wide, inTwos-short, forced-is}
@@ -82,7 +82,7 @@ module _ (c k : Reader) (es labels out₀ out : List ℕ) (from i x y : ℕ) (fo
   is-forced = hl ∙ forced-is es i (omega arith)
 
   module _ (v w : ℕ) (hv : v ≡ getD labels i 0) (hw : w ≡ getD labels (i + 1) 0) where
-    pub pair-needs : PairNeeds k (pair x y) v w out
+    pub pair-needs : ReadPairNeeds k (pair x y) v w out
     pair-needs =
         let r = g .needs in
         let s = rw (cut-pair es i x y more hx hy) at (r .bytes) in

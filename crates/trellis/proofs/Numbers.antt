@@ -7,12 +7,11 @@ use native.Mathlib.Nat.{add-zero}
 use native.Mathlib.Omega.{arith}
 use lib.ListN.{take, drop, getD}
 use lib.Seq.{getD-drop}
-use Rattle.g9932.specs.Bits.{bit, odd, num}
+use Rattle.g9932.specs.Bits.{_⊕_, bit, odd, num}
 use Rattle.g9932.specs.Trellis.{Word, wordOf, lowBitsOf}
 use Rattle.g9932.specs.declared.TrellisState.{TrellisState}
 use Rattle.g9932.proofs.Words.{odd-weight, num-take, num-drop}
-use Rattle.trellis.specs.Coding.{inputsOf, labelNumber}
-use Rattle.trellis.specs.declared.Inputs.{Inputs}
+use Rattle.trellis.specs.Coding.{labelNumber}
 
 pub lowest : (l : List Bool) → bit l 0 ≡ odd (num l)
 unfolding num odd
@@ -24,7 +23,19 @@ bit-num l i =
     let e : getD (drop i l) 0 false ≡ getD l i false = getD-drop i l 0 false ∙ ap (λ (n : ℕ). getD l n false) (add-zero i) in
     sym e ∙ lowest (drop i l) ∙ ap odd (num-drop i l)
 
--- what the code has of a word
+-- u1 to u3 of a pair's word, and u4 upward as a number
+pub record Inputs : Type 0 where
+  pub u1 : Bool
+  pub u2 : Bool
+  pub u3 : Bool
+  pub high : ℕ
+
+-- from the number of the bits that the pair takes
+unfoldable pub inputsOf : Bool → TrellisState → ℕ → Inputs
+inputsOf true s f = record { u1 = s .s1 ⊕ s .s3; u2 = s .s2; u3 = odd f; high = f / 2 }
+inputsOf false s f = record { u1 = odd f; u2 = odd (f / 2); u3 = odd (f / 4); high = f / 8 }
+
+-- what they have of a word
 pub record IsInputs (u : Word) (r : Inputs) : Type 0 where
   pub u1 : r .u1 ≡ u .u1
   pub u2 : r .u2 ≡ u .u2

@@ -1,7 +1,7 @@
 -- One pair: what the code works out in numbers is the pair's word and its sent bits.
 use mathlib.Core.Path.{_≡_, refl, sym, ap, _∙_}
 use mathlib.Core.Bool.{Bool, true, false}
-use mathlib.Core.List.{List, [], _∷_, _++_}
+use mathlib.Core.List.{List, _∷_, _++_}
 use Prim.Native.Nat.{ℕ, zero, suc, _+_, _-_, _*_, _/_, _%_, _^_, _≤_, _<_}
 use native.Mathlib.Nat.{lt-of-lt-of-le, lt-of-le-of-lt, div-one, div-le-self}
 use native.Mathlib.Omega.{arith}
@@ -18,9 +18,8 @@ use Rattle.g9932.proofs.Formed.{fit-both}
 use Rattle.g9932.proofs.OnePair.{highs, Valid, word-valid}
 use Rattle.g9932.proofs.Packed.{length-unpack}
 use Rattle.g9932.proofs.Words.{num-lt, num-drop, num-take-lt, bits-num}
-use Rattle.trellis.specs.Coding.{inputsOf, labelNumber}
-use Rattle.trellis.specs.declared.Inputs.{Inputs}
-use Rattle.trellis.proofs.Numbers.{bit-num, IsInputs, inputs-word, v-number, w-number}
+use Rattle.trellis.specs.Coding.{labelNumber}
+use Rattle.trellis.proofs.Numbers.{bit-num, Inputs, inputsOf, IsInputs, inputs-word, v-number, w-number}
 
 word-u0 : (forced : Bool) (s : TrellisState) (x : ℕ) (f : List Bool) → wordOf forced s x f .u0 ≡ s .s0
 unfolding wordOf

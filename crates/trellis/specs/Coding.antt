@@ -1,23 +1,16 @@
 -- Coding: a pair's word as numbers, and what the coder asks and does.
-use Prim.Native.Nat.{ℕ, _+_, _-_, _*_, _/_, _%_, _^_, _≤_, _<_}
-use mathlib.Core.Bool.{Bool, true, false}
+use Prim.Native.Nat.{ℕ, _+_, _-_, _*_, _%_, _^_, _≤_, _<_}
+use mathlib.Core.Bool.{Bool}
 use mathlib.Core.List.{List, _++_}
 use mathlib.Core.Path.{_≡_}
 use lib.ListN.{length, take, drop, getD}
 use Rattle.frame.specs.Labels.{bitsOfLabels, Within}
-use Rattle.g9932.specs.Bits.{_⊕_, weight, odd, bits}
+use Rattle.g9932.specs.Bits.{weight, bits}
 use Rattle.g9932.specs.Order.{inTwos, pairsOf, Pair}
 use Rattle.g9932.specs.Sizes.{unpack, mostBytes, mostTones}
 use Rattle.g9932.specs.Trellis.{Word, taken, wordOf, sentBits, nextOf, zeroState, encodePairs, takenTotal}
-use Rattle.g9932.specs.declared.TrellisState.{TrellisState}
 use Rattle.trellis.specs.declared.Coder.{Coder}
-use Rattle.trellis.specs.declared.Inputs.{Inputs}
 use Rattle.trellis.specs.declared.PairCode.{PairCode}
-
--- u1 to u3, and u4 upward as a number, from the number of the bits that a pair takes
-unfoldable pub inputsOf : Bool → TrellisState → ℕ → Inputs
-inputsOf true s f = record { u1 = s .s1 ⊕ s .s3; u2 = s .s2; u3 = odd f; high = f / 2 }
-inputsOf false s f = record { u1 = odd f; u2 = odd (f / 2); u3 = odd (f / 4); high = f / 8 }
 
 -- a label as a number
 abbrev pub labelNumber : Bool → Bool → ℕ → ℕ
@@ -28,7 +21,7 @@ labelNumber b0 b1 high = weight b0 + 2 * weight b1 + 4 * high
 abbrev pub codedWord : Coder → Bool → Pair → List ℕ → Word
 codedWord c forced p frame = wordOf forced (c .state) (p .x) (take (taken forced p) (drop (c .at) (unpack frame)))
 
-pub record PairNeeds (c : Coder) (forced : Bool) (p : Pair) (frame : List ℕ) : Type 0 where
+pub record CodePairNeeds (c : Coder) (forced : Bool) (p : Pair) (frame : List ℕ) : Type 0 where
   pub bits : c .at + taken forced p ≤ 8 * length frame
   pub small : length frame ≤ mostBytes
 

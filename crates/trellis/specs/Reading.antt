@@ -45,7 +45,7 @@ takenNumber false u = labelNumber (u .u1) (u .u2) (weight (u .u3) + 2 * u .high)
 abbrev pub decodedIn : Pair → ℕ → ℕ → Word
 decodedIn p v w = decodedWord (p .x) (bits (p .x) v ++ bits (p .y) w)
 
-pub record PairNeeds (c : Reader) (p : Pair) (v w : ℕ) (frame : List ℕ) : Type 0 where
+pub record ReadPairNeeds (c : Reader) (p : Pair) (v w : ℕ) (frame : List ℕ) : Type 0 where
   pub vSmall : v < 2 ^ p .x
   pub wSmall : w < 2 ^ p .y
   pub bytes : c .writer .next + 8 ≤ length frame

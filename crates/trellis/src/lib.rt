@@ -1,47 +1,21 @@
 // The trellis code: a frame's bits to the labels of the entries of b', pair by pair.
+mod pairs;
 pub mod read;
 
 ghost use mathlib.Core.Path.{_≡_};
-ghost use mathlib.Core.Bool.{Bool, true, false};
-ghost use Prim.Native.Nat.{ℕ, _+_, _-_, _*_, _/_, _%_, _^_, _≤_, _<_};
-ghost use lib.ListN.{length, take, drop, getD, set};
+ghost use mathlib.Core.Bool.{false};
+ghost use Prim.Native.Nat.{_+_, _-_, _*_, _/_, _%_, _^_, _≤_, _<_};
+ghost use lib.ListN.{length, getD, set};
 ghost use Rattle.frame.specs.Labels.{labelsAt, Rising, Placed};
 ghost use Rattle.g9932.specs.Bits.{weight as weightOf, bits};
-ghost use Rattle.g9932.specs.Order.{pair, pairsOf};
-ghost use Rattle.g9932.specs.Sizes.{unpack, mostTones, mostBytes};
-ghost use Rattle.g9932.specs.Trellis.{taken, zeroState, encodePairs};
-ghost use Rattle.trellis.specs.Coding.{inputsOf, labelNumber, PairNeeds, CodesPair, CodeNeeds, CodesFrom, Wide, FrameNeeds, CodesFrame, firstCoder};
+ghost use Rattle.g9932.specs.Order.{pair};
+ghost use Rattle.g9932.specs.Sizes.{mostBytes};
+ghost use Rattle.g9932.specs.Trellis.{zeroState};
+ghost use Rattle.trellis.specs.Coding.{labelNumber, CodesPair, FrameNeeds, CodesFrame, firstCoder};
 use frame::by_place::place_at;
 use frame::by_place::put_label;
 use g9932::TrellisState;
-
-// The bits u1 to u3 of a pair's word and, as a number, u4 upward.
-pub struct Inputs {
-    pub u1: bool,
-    pub u2: bool,
-    pub u3: bool,
-    pub high: u32,
-}
-
-// The word of a pair with x at least 2, from the bits f that it takes: u1 and u2 are forced where it is one of the last two.
-fn inputs_of(s: TrellisState, forced: bool, f: u32) -> Inputs
-    ensures { λ r. ⌜ r ≡ inputsOf forced s f ⌝ }
-{
-    if forced {
-        return Inputs {
-            u1: s.s1 ^ s.s3,
-            u2: s.s2,
-            u3: f % 2 == 1,
-            high: f / 2,
-        };
-    }
-    Inputs {
-        u1: f % 2 == 1,
-        u2: f / 2 % 2 == 1,
-        u3: f / 4 % 2 == 1,
-        high: f / 8,
-    }
-}
+use pairs::code_from;
 
 // A bit as a number.
 fn weight(b: bool) -> u32
@@ -58,31 +32,12 @@ fn power(k: usize) -> u32
     1u32 << k
 }
 
-// The n lowest bits of a value.
-fn lowest(value: u32, n: usize) -> u32
-    requires { ⌜ n < 32 ⌝ }
-    ensures { λ r. ⌜ r ≡ value % 2 ^ n ⌝ }
-{
-    value & (power(n) - 1)
-}
-
 // A label as a number, from its two lowest bits and those above.
 fn label(b0: bool, b1: bool, high: u32) -> u32
     requires { ⌜ high < 2 ^ 29 ⌝ }
     ensures { λ r. ⌜ r ≡ labelNumber b0 b1 high ⌝ }
 {
     weight(b0) + 2 * weight(b1) + 4 * high
-}
-
-// How many bits a pair takes from the frame.
-fn taken_bits(forced: bool, x: usize, y: usize) -> usize
-    requires { ⌜ (2 ≤ x) × (x ≤ 15) × (2 ≤ y) × (y ≤ 15) ⌝ }
-    ensures { λ r. ⌜ (r ≡ taken forced (pair x y)) × (r ≤ 29) ⌝ }
-{
-    if forced {
-        return x + y - 3;
-    }
-    x + y - 1
 }
 
 // The coder between two pairs: its state and the next frame bit.
@@ -110,28 +65,6 @@ fn zero_state() -> TrellisState
     }
 }
 
-// Codes a pair with x at least 2.
-fn code_pair(c: Coder, frame: &[u8], forced: bool, x: usize, y: usize) -> PairCode
-    requires { ⌜ (2 ≤ x) × (x ≤ 15) × (2 ≤ y) × (y ≤ 15) × PairNeeds c forced (pair x y) (now frame) ⌝ }
-    ensures { λ r. ⌜ CodesPair c forced (pair x y) (now (frame .entry)) r ⌝ }
-{
-    let s = c.state;
-    let n = taken_bits(forced, x, y);
-    let u = inputs_of(s, forced, frame::get(frame, c.at, n));
-    let t = s.step(u.u1, u.u2, u.u3);
-    let low = t.low;
-    let next = t.next;
-    let coder = Coder {
-        state: next,
-        at: c.at + n,
-    };
-    PairCode {
-        v: label(low.v0, low.v1, lowest(u.high, x - 2)),
-        w: label(low.w0, low.w1, u.high >> (x - 2)),
-        coder,
-    }
-}
-
 // An entry of b'.
 fn entry(entries: &[u8], i: usize) -> usize
     requires { ⌜ i < length (now entries) ⌝ }
@@ -146,30 +79,6 @@ fn put_entry(labels: &mut [u16], places: &[u16], i: usize, label: u32)
     ensures { λ _. ⌜ labelsAt (now (places .entry)) (now (labels .exit)) ≡ set (labelsAt (now (places .entry)) (now (labels .entry))) i label ⌝ }
 {
     put_label(labels, place_at(places, i), label as u16);
-}
-
-// Codes the pairs of the entries from `from` on. The label of an entry goes to its place.
-fn code_from(
-    c: Coder,
-    frame: &[u8],
-    entries: &[u8],
-    places: &[u16],
-    from: usize,
-    labels: &mut [u16],
-)
-    requires { ⌜ Wide (now entries) × (length (now entries) ≤ mostTones) × Placed (now entries) (now places) (now labels) × CodeNeeds c (now entries) from (now frame) (labelsAt (now places) (now labels)) ⌝ }
-    ensures { λ _. ⌜ CodesFrom c (now (entries .entry)) from (now (frame .entry)) (labelsAt (now (places .entry)) (now (labels .entry))) (labelsAt (now (places .entry)) (now (labels .exit))) ⌝ }
-{
-    let mut k = c;
-    let mut i = from;
-    while i + 1 < entries.len() {
-        let forced = entries.len() - i < 6;
-        let p = code_pair(k, frame, forced, entry(entries, i), entry(entries, i + 1));
-        put_entry(labels, places, i, p.v);
-        put_entry(labels, places, i + 1, p.w);
-        k = p.coder;
-        i += 2;
-    }
 }
 
 // Codes a first pair with x = 0: its bits are u2 and u4 upward, and v isn't sent.

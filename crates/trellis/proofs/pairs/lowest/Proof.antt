@@ -1,11 +1,11 @@
--- `trellis::lowest` meets its contract: a mask of n ones is the remainder by 2 to the n.
+-- `trellis::pairs::lowest` meets its contract: a mask of n ones is the remainder by 2 to the n.
 use lib.Pow.{pow-pos}
 use lib.Bits.{bitAnd, and-mask}
 use Prim.Native.Nat.{ℕ, _-_}
 use mathlib.Core.Path.{ap, _∙_}
 use borrow.Author.Needs.{needs}
-use Rattle.trellis.proofs.lowest.Statement.{statement}
-use Rattle.trellis.proofs.lowest.Tie as tie
+use Rattle.trellis.proofs.pairs.lowest.Statement.{statement}
+use Rattle.trellis.proofs.pairs.lowest.Tie as tie
 
 power-requires : tie.Need-power-requires
 power-requires c κs = search needs

@@ -1,0 +1,23 @@
+-- `frame::ahead_near_end` meets its contract: a shift of the five bytes.
+use native.Mathlib.Omega.{arith}
+use Rattle.frame.proofs.Loads.{ahead-law}
+use borrow.Author.Needs.{needs}
+use Rattle.frame.proofs.ahead_near_end.Statement.{statement}
+use Rattle.frame.proofs.ahead_near_end.Tie as tie
+
+word-at-requires : tie.Need-word-at-requires
+word-at-requires c κs = search needs
+
+bit-in-byte-requires : tie.Need-bit-in-byte-requires
+bit-in-byte-requires c κs = search needs
+
+shr-result : tie.Need-shr-result
+shr-result c = search needs
+
+returns : tie.Need-returns
+returns c =
+    let a = c .before .before .before .args in
+    rw (c .bit-in-byte .ensures) (ahead-law (a .bytes .now) (a .at) 40 (c .before .word-at .result) (omega arith) (c .before .word-at .ensures))
+
+pub ahead-near-end-spec : {M : Type 1} → statement M
+ahead-near-end-spec = tie.close (tie.spec word-at-requires bit-in-byte-requires shr-result returns)

@@ -1,0 +1,88 @@
+-- `trellis::pairs::code_forced_pair` meets its contract: the bits got are u3 upward, and the pair's labels are v and w.
+use Rattle.trellis.proofs.OnePair.{got-high, got-pair}
+use Rattle.trellis.proofs.Numbers.{inputsOf}
+use Rattle.g9932.specs.Bits.{odd}
+use mathlib.Core.Path.{refl, _∙_}
+use mathlib.Core.Bool.{true}
+use Prim.Native.Nat.{_-_, _/_, _^_, _<_}
+use native.Mathlib.Nat.{lt-of-le-of-lt, mod-le, div-le-self}
+use native.Mathlib.Omega.{arith}
+use borrow.Author.Needs.{needs}
+use Rattle.trellis.proofs.pairs.code_forced_pair.Statement.{statement}
+use Rattle.trellis.proofs.pairs.code_forced_pair.Tie as tie
+
+-- what stands above u3 fits
+high : (c : tie.After-get) → c .get .result / 2 < 536870912
+unfolding inputsOf
+high c =
+    let s = c .before .before in
+    let a = s .args in
+    let h = got-high true (a .c .state) (a .x) (a .y) (a .frame .now) (a .c .at) _ (c .get .result) (inputsOf true (a .c .state) (c .get .result)) (s .pre .0) (s .pre .2) (s .pre .4 .bits) refl (c .get .ensures) refl (s .pre .1) (s .pre .3) in
+    omega (arith, h)
+
+add-n : tie.Need-add-n
+add-n c = search needs
+
+sub-n : tie.Need-sub-n
+sub-n c = search needs
+
+get-requires : tie.Need-get-requires
+get-requires c κs = search needs
+
+forced-step-requires : tie.Need-forced-step-requires
+forced-step-requires c κs = search needs
+
+add-lowest : tie.Need-add-lowest
+add-lowest c = search needs
+
+sub-lowest : tie.Need-sub-lowest
+sub-lowest c = search needs
+
+lowest-requires : tie.Need-lowest-requires
+lowest-requires c κs = search needs
+
+label-requires : tie.Need-label-requires
+label-requires c κs =
+    let f = (c .before .before .before .before .before .before .get .result) / 2 in
+    rw (c .lowest .ensures) (lt-of-le-of-lt (mod-le f (2 ^ (c .before .before .before .before .before .before .before .before .args .x - 2))) (high (c .before .before .before .before .before .before)))
+
+sub-label : tie.Need-sub-label
+sub-label c = search needs
+
+cast-label : tie.Need-cast-label
+cast-label c = search needs
+
+shr-label : tie.Need-shr-label
+shr-label c = search needs
+
+label-requires-2 : tie.Need-label-requires-2
+label-requires-2 c κs = lt-of-le-of-lt (div-le-self ((c .before .before .before .before .before .before .before .get .result) / 2) (2 ^ (c .before .before .before .before .before .before .before .before .before .args .x - 2))) (high (c .before .before .before .before .before .before .before))
+
+returns : tie.Need-returns
+unfolding inputsOf odd
+returns c =
+    let s = c .before .before .before .before .before .before .before .before .before .before in
+    let a = s .args in
+    let g = c .before .before .before .before .before .before .before .before .get in
+    let t = c .before .before .before .before .before .before .forced-step in
+    let l = c .before .label in
+    let p = got-pair true (a .c .state) (a .x) (a .y) (a .frame .now) (a .c .at) _ (g .result) (inputsOf true (a .c .state) (g .result)) (s .pre .0) (s .pre .2) (s .pre .4 .bits) refl (g .ensures) refl (t .result .low) (l .result) (c .label2 .result) (t .ensures .1) (l .ensures ∙ rw (c .before .before .lowest .ensures)) (c .label2 .ensures) in
+    record { state = t .ensures .0 ∙ p .next; at = refl; sends = p .sends; vSmall = p .vSmall; wSmall = p .wSmall }
+
+pub code-forced-pair-spec : {M : Type 1} → statement M
+code-forced-pair-spec =
+    tie.close
+    (tie.spec
+    add-n
+    sub-n
+    get-requires
+    forced-step-requires
+    add-lowest
+    sub-lowest
+    lowest-requires
+    label-requires
+    sub-label
+    cast-label
+    shr-label
+    label-requires-2
+    returns)

@@ -1,0 +1,144 @@
+-- `trellis::pairs::code_from` meets its contract. The invariant: as of `code_forced_pairs`, with a coder whose state is a number below 16.
+-- The measure is the entries left.
+use Rattle.trellis.proofs.Steps.{coder-back}
+use Rattle.trellis.proofs.CodeLoop.{CodesUpTo, going-start, going-on, AtPair, at-wide, pair-needs, labels-fit, going-step}
+use Rattle.trellis.specs.Steps.{coderAt}
+use Rattle.frame.specs.Labels.{labelsAt, Placed}
+use lib.ListN.{length}
+use borrow.Author.Tests.{le-ltb}
+use borrow.Author.Needs.{needs}
+use native.Mathlib.Omega.{arith}
+use mathlib.Core.Path.{_≡_, refl, sym, _∙_}
+use mathlib.Core.Bool.{false}
+use Prim.Native.Nat.{_-_, _<_}
+use Rattle.trellis.proofs.pairs.code_from.Statement.{statement}
+use Rattle.trellis.proofs.pairs.code_from.Tie as tie
+
+abbrev Inv-loop : tie.InvT-loop
+Inv-loop frame entries places from labels₀ steps masks state₀ at₀ i₀ labels state at i =
+    CodesUpTo (coderAt state₀ at₀) (coderAt state at) entries frame (labelsAt places labels₀) (labelsAt places labels) i₀ i × (length labels ≡ length labels₀) × (state < 16)
+
+abbrev μ-loop : tie.MeasureT-loop
+μ-loop frame entries places from labels₀ steps masks state₀ at₀ i₀ labels state at i = length entries - i
+
+-- the pair at hand is not one of the last two
+at-pair : (c : tie.After-entry2 Inv-loop μ-loop) → let n = c .before .before .before .before in
+    let l = c .before .before .before .loop in
+    let a = n .before .before .before .before .before .before .before .args in
+    AtPair (coderAt (n .state-number .result) (a .c .at)) (coderAt (l .state) (l .at)) (a .entries .now) (a .frame .now) (labelsAt (a .places .now) (a .labels .now))
+    (labelsAt (a .places .now) (l .labels)) (a .from) (l .i) (c .before .entry .result) (c .entry2 .result) false
+at-pair c =
+    let s = c .before .before .before .before .before .before .before .before .before .before .before in
+    let l = c .before .before .before .loop in
+    record {
+      wide = s .pre .0;
+      upTo = l .inv .0;
+      more = omega arith;
+      isX = c .before .entry .ensures;
+      isY = c .entry2 .ensures;
+      isForced = sym (le-ltb (length (s .args .entries .now) - l .i) 6 (omega arith));
+    }
+
+step-table-requires : tie.Need-step-table-requires Inv-loop μ-loop
+step-table-requires c κs = search needs
+
+mask-table-requires : tie.Need-mask-table-requires Inv-loop μ-loop
+mask-table-requires c κs = search needs
+
+state-number-requires : tie.Need-state-number-requires Inv-loop μ-loop
+state-number-requires c κs = search needs
+
+loop-holds : tie.Need-loop-holds Inv-loop μ-loop
+loop-holds c =
+    let s = c .before .before .before .before .before .before .before in
+    let n = c .state-number in
+    (going-start (rw (coder-back (s .args .c) (n .result) (n .ensures .0)) (s .pre .3)), refl, n .ensures .1)
+
+add-loop : tie.Need-add-loop Inv-loop μ-loop
+add-loop c = omega (arith, c .loop .inv .0 .needs .inside, c .before .before .before .before .before .before .before .before .pre .1)
+
+entry-requires : tie.Need-entry-requires Inv-loop μ-loop
+entry-requires c κs = omega arith
+
+add-entry : tie.Need-add-entry Inv-loop μ-loop
+add-entry c = omega arith
+
+entry-requires-2 : tie.Need-entry-requires-2 Inv-loop μ-loop
+entry-requires-2 c κs = omega arith
+
+code-free-pair-requires : tie.Need-code-free-pair-requires Inv-loop μ-loop
+code-free-pair-requires c κs =
+    let h = at-pair (c .before .before) in
+    let q = at-wide h in
+    (c .before .before .before .before .before .before .before .before .step-table .ensures, c .before .before .before .before .before .before .before .mask-table .ensures, c .before .before .before .before .before .loop .inv .2, q .0, q .1, q .2, q .3, pair-needs h)
+
+put-pair-requires : tie.Need-put-pair-requires Inv-loop μ-loop
+put-pair-requires c κs =
+    let s = c .before .before .before .before .before .before .before .before .before .before .before .before .before .before .before in
+    let q = labels-fit (at-pair (c .before .before .before .before)) (c .before .code-free-pair .ensures .codes) in
+    (omega (arith, s .pre .2 .same), q .0, q .1, rw (c .before .before .before .before .before .before .before .loop .inv .1) (s .pre .2 .rising))
+
+add-at : tie.Need-add-at Inv-loop μ-loop
+add-at c = omega (arith, at-wide (at-pair (c .before .before .before .before .before .before .before)))
+
+sub-at : tie.Need-sub-at Inv-loop μ-loop
+sub-at c = omega (arith, at-wide (at-pair (c .before .before .before .before .before .before .before)))
+
+add-at-2 : tie.Need-add-at-2 Inv-loop μ-loop
+add-at-2 c =
+    let n = pair-needs (at-pair (c .before .before .before .before .before .before .before)) in
+    omega (arith, n .bits, n .small)
+
+add-i : tie.Need-add-i Inv-loop μ-loop
+add-i c = omega arith
+
+loop-less : tie.Need-loop-less Inv-loop μ-loop
+loop-less c = omega arith
+
+loop-again : tie.Need-loop-again Inv-loop μ-loop
+loop-again c =
+    let w = c .before .before .put-pair in
+    let q = c .before .before .before .before .code-free-pair .ensures in
+    (rw (w .ensures) (going-step (at-pair (c .before .before .before .before .before .before .before)) (q .codes)), w .kept .0 ∙ c .before .before .before .before .before .before .before .before .before .before .loop .inv .1, q .small)
+
+code-forced-pairs-requires : tie.Need-code-forced-pairs-requires Inv-loop μ-loop
+code-forced-pairs-requires c κs =
+    let s = c .before .before .before .before .before .before .before .before .before .before in
+    let a = s .args in
+    let l = c .before .before .loop in
+    let placed : Placed (a .entries .now) (a .places .now) (l .labels) = record { same = s .pre .2 .same; rising = rw (l .inv .1) (s .pre .2 .rising) } in
+    (s .pre .0, s .pre .1, omega arith, placed, l .inv .0 .needs)
+
+same-length : tie.Need-same-length Inv-loop μ-loop
+same-length c = c .before .before .code-forced-pairs .kept .1 .1 .1 .1 .1 .1 .0 ∙ c .before .before .before .before .before .loop .inv .1
+
+returns : tie.Need-returns Inv-loop μ-loop
+returns c =
+    let n = c .before .before .before .before .before .before .state-number in
+    rw (coder-back (c .before .before .before .before .before .before .before .before .before .before .before .before .before .args .c) (n .result) (n .ensures .0)) at (going-on (c .before .before .before .before .before .loop .inv .0) (c .before .before .code-forced-pairs .ensures))
+
+pub code-from-spec : {M : Type 1} → statement M
+code-from-spec =
+    tie.close
+    (tie.spec
+    Inv-loop
+    μ-loop
+    step-table-requires
+    mask-table-requires
+    state-number-requires
+    loop-holds
+    add-loop
+    entry-requires
+    add-entry
+    entry-requires-2
+    code-free-pair-requires
+    put-pair-requires
+    add-at
+    sub-at
+    add-at-2
+    add-i
+    loop-less
+    loop-again
+    code-forced-pairs-requires
+    same-length
+    returns)

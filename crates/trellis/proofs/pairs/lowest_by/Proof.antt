@@ -1,0 +1,25 @@
+-- `trellis::pairs::lowest_by` meets its contract: a mask of k ones is the remainder by 2 to the k.
+use Rattle.trellis.proofs.Steps.{mask-found}
+use native.Mathlib.Omega.{arith}
+use borrow.Author.Needs.{needs}
+use Rattle.trellis.proofs.pairs.lowest_by.Statement.{statement}
+use Rattle.trellis.proofs.pairs.lowest_by.Tie as tie
+
+mul-result : tie.Need-mul-result
+mul-result c = search needs
+
+element-copy-out-result : tie.Need-element-copy-out-result
+element-copy-out-result c = search needs
+
+cast-result : tie.Need-cast-result
+cast-result c =
+    let a = c .before .args in
+    omega (arith, mask-found (a .masks .now) (a .k) (a .word) (c .before .pre .0) (c .before .pre .1))
+
+returns : tie.Need-returns
+returns c =
+    let a = c .before .args in
+    mask-found (a .masks .now) (a .k) (a .word) (c .before .pre .0) (c .before .pre .1)
+
+pub lowest-by-spec : {M : Type 1} → statement M
+lowest-by-spec = tie.close (tie.spec mul-result element-copy-out-result cast-result returns)
