@@ -9,9 +9,9 @@ use lib.Seq.{drop-drop}
 use Rattle.frame.proofs.Labels.{labels-set, within-set}
 use Rattle.frame.specs.Labels.{bitsOfLabels}
 use Rattle.g9932.specs.Bits.{bits}
-use Rattle.g9932.specs.Order.{pair, inTwos, pairsOf}
+use Rattle.g9932.specs.Order.{pair, inTwos}
 use Rattle.g9932.specs.Sizes.{unpack, mostBytes}
-use Rattle.g9932.specs.Trellis.{taken, sentBits, zeroState, takenTotal}
+use Rattle.g9932.specs.Trellis.{taken, sentBits, zeroState}
 use Rattle.trellis.specs.Coding.{codedWord, firstCoder, CodesPair, CodeNeeds, CodesFrom, CodesFrame, FrameNeeds}
 use Rattle.trellis.specs.declared.PairCode.{PairCode}
 use Rattle.trellis.proofs.CodeLoop.{encode-step}
@@ -36,13 +36,10 @@ module _ (frame : List ℕ) (start : ℕ) (es labels : List ℕ) (needs : FrameN
 
   -- an odd count: the first pair has x = 0
   module _ (y : ℕ) (odd : length es % 2 ≡ 1) (hy : y ≡ getD es 0 0) where
-    taken-first : takenTotal (pairsOf es) ≡ taken false (pair 0 y) + takenTotal (inTwos (drop 1 es))
-    taken-first = padded-taken es y (needs .few) odd hy
-
     pub first-needs : (2 ≤ y) × (y ≤ 15) × (start + y ≤ 8 * length frame + 1) × (length frame ≤ mostBytes)
     first-needs =
         let a = needs .wide 0 (omega (arith, needs .few)) in
-        let t = taken-first in
+        let t = padded-taken es y (needs .few) odd hy in
         let b = needs .bits in
         (rw hy (a .0), rw hy (a .1), omega arith, needs .small)
 
@@ -52,7 +49,7 @@ module _ (frame : List ℕ) (start : ℕ) (es labels : List ℕ) (needs : FrameN
 
       pub odd-needs : CodeNeeds (p .coder) es 1 frame (set labels 0 (p .w))
       odd-needs =
-          let t = taken-first in
+          let t = padded-taken es y (needs .few) odd hy in
           record {
             inside = omega (arith, needs .few);
             even = omega (arith, needs .few);

@@ -15,7 +15,7 @@ use Rattle.g9932.proofs.Words.{length-bits}
 use Rattle.g9932.specs.Answers.{breakIn, frameIn}
 use Rattle.g9932.specs.Bits.{bits}
 use Rattle.g9932.specs.Order.{pair, inTwos, pairsOf}
-use Rattle.g9932.specs.Trellis.{Reading, frame, breaks, after as after', lastTwo, taken, width, decodedWord, decodedAt, obeysCode, takenBits, zeroState, takenTotal}
+use Rattle.g9932.specs.Trellis.{Reading, frame, breaks, after as after', lastTwo, taken, width, decodedWord, decodedAt, obeysCode, takenBits, zeroState}
 use Rattle.g9932.specs.declared.Found.{Found}
 use Rattle.g9932.specs.declared.Found.the-variants.{At, Nothing}
 use Rattle.frame.specs.declared.BitWriter.{BitWriter}
@@ -68,9 +68,6 @@ module _ (w : BitWriter) (es labels out : List ℕ) (needs : LabelNeeds w es lab
     forced-not : false ≡ lastTwo (inTwos (drop 1 es))
     forced-not = not-forced es (needs .few) odd
 
-    taken-first : takenTotal (pairsOf es) ≡ taken false (pair 0 y) + takenTotal (inTwos (drop 1 es))
-    taken-first = padded-taken es y (needs .few) odd hy
-
     module _ (l : ℕ) (hl : l ≡ getD labels 0 0) where
       pub first-needs : (2 ≤ y) × (y ≤ 15) × ReadPairNeeds (firstReader w) (pair 0 y) 0 l out
       first-needs =
@@ -118,7 +115,7 @@ module _ (w : BitWriter) (es labels out : List ℕ) (needs : LabelNeeds w es lab
 
         pub odd-needs : length mid ≡ length out → ReadNeeds (p .reader) es 1 labels mid
         odd-needs kept =
-            let t = taken-first in
+            let t = padded-taken es y (needs .few) odd hy in
             record {
               inside = omega (arith, needs .few);
               places = omega (arith, same);
@@ -136,7 +133,7 @@ module _ (w : BitWriter) (es labels out : List ℕ) (needs : LabelNeeds w es lab
             rw padded
             (read-on (pair 0 y) (inTwos (drop 1 es)) zeroState (bitsOfLabels es labels) (decodedIn (pair 0 y) 0 l) (bitsOfLabels (drop 1 es) (drop 1 labels)) decoded-is after-is (sym obeys-is ∙ e)
             ∙ rw (← forced-not, first .state)) in
-            let t = taken-first in
+            let t = padded-taken es y (needs .few) odd hy in
             record {
               broken = g .broken ∙ sym (ap breakIn o ∙ break-after b f);
               whole =

@@ -1,5 +1,5 @@
-// The pairs of two entries: the free pairs, then the last two, whose u1 and u2 are forced. The free pairs are nearly all, so there the state
-// is a plain number, and one look-up takes a step.
+// The pairs of two entries: the free pairs, then the last two, whose u1 and u2 are forced. The free pairs are nearly all, so there the
+// state is a plain number, and one look-up takes a step.
 ghost use mathlib.Core.Path.{_≡_};
 ghost use mathlib.Core.Bool.{true, false};
 ghost use Prim.Native.Nat.{_+_, _-_, _*_, _/_, _%_, _^_, _≤_, _<_};

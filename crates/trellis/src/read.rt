@@ -6,7 +6,7 @@ ghost use lib.ListN.{length, getD};
 ghost use Rattle.frame.specs.Labels.{labelsAt, Placed, Rising};
 ghost use Rattle.g9932.specs.Sizes.{mostTones};
 ghost use Rattle.g9932.specs.Order.{pair};
-ghost use Rattle.g9932.specs.Trellis.{taken, obeysCode};
+ghost use Rattle.g9932.specs.Trellis.{taken, nextState, obeysCode};
 ghost use Rattle.trellis.specs.Coding.{Wide};
 ghost use Rattle.trellis.specs.Reading.{firstReader, decodedOf, wordBy, takenNumber, ReadPairNeeds, ReadsPair, ReadNeeds, ReadsFrom, LabelNeeds, ReadsLabels};
 use super::entry;
@@ -80,6 +80,14 @@ fn taken_of(forced: bool, u: DecodedWord) -> u32
     label(u.u1, u.u2, free)
 }
 
+// The state after a pair.
+fn next_state(s: TrellisState, u1: bool, u2: bool) -> TrellisState
+    ensures { λ r. ⌜ r ≡ nextState s u1 u2 ⌝ }
+{
+    let t = s.step(u1, u2, false);
+    t.next
+}
+
 // The reader between two pairs: the state, and the writer of frame bits.
 pub struct Reader {
     pub state: TrellisState,
@@ -108,8 +116,7 @@ fn read_pair(
     let s = c.state;
     let writer = c.writer;
     let u = decode_word(v, w, x);
-    let t = s.step(u.u1, u.u2, u.u3);
-    let next = t.next;
+    let next = next_state(s, u.u1, u.u2);
     let reader = Reader {
         state: next,
         writer: writer.put(frame, taken_bits(forced, x, y), taken_of(forced, u)),
@@ -127,8 +134,7 @@ fn read_first(writer: BitWriter, y: usize, w: u32, frame: &mut [u8]) -> PairRead
 {
     let w0 = w % 2 == 1;
     let w1 = w / 2 % 2 == 1;
-    let t = zero_state().step(false, w0, false);
-    let next = t.next;
+    let next = next_state(zero_state(), false, w0);
     let reader = Reader {
         state: next,
         writer: writer.put(frame, y - 1, weight(w0) + 2 * (w / 4)),

@@ -15,8 +15,8 @@ use Rattle.trellis.proofs.read.read_first.Tie as tie
 zero-state-requires : tie.Need-zero-state-requires
 zero-state-requires c κs = search needs
 
-step-requires : tie.Need-step-requires
-step-requires c κs = search needs
+next-state-requires : tie.Need-next-state-requires
+next-state-requires c κs = search needs
 
 sub-put : tie.Need-sub-put
 sub-put c = search needs
@@ -26,18 +26,18 @@ weight-requires c κs = search needs
 
 mul-put : tie.Need-mul-put
 mul-put c =
-    let t = c .before .before .before .before .before .before in
+    let t = c .before .before .before .before .before in
     record { fits = omega (arith, lt-of-lt-of-le (t .pre .2 .wSmall) (pow-mono {j = 15} (t .pre .1))) }
 
 add-put : tie.Need-add-put
 add-put c =
-    let t = c .before .before .before .before .before .before in
+    let t = c .before .before .before .before .before in
     record { fits = omega (arith, c .weight .ensures .1, lt-of-lt-of-le (t .pre .2 .wSmall) (pow-mono {j = 15} (t .pre .1))) }
 
 put-requires : tie.Need-put-requires
 unfolding odd
 put-requires c κs =
-    let t = c .before .before .before .before .before .before in
+    let t = c .before .before .before .before .before in
     let p = decoded-first (t .args .y) (t .args .w) (t .pre .0) (t .pre .2 .wSmall) in
     (omega arith, rw (c .weight .ensures .0) (p .small), t .pre .2 .bytes, t .pre .2 .waits)
 
@@ -49,13 +49,13 @@ unfolding odd
 returns c =
     let put = c .before .before in
     let weight = put .before in
-    let step = weight .before .before .before in
+    let step = weight .before .before in
     let zero = step .before in
     let t = zero .before .before in
     let p = decoded-first (t .args .y) (t .args .w) (t .pre .0) (t .pre .2 .wSmall) in
     record {
       obeys = p .kept;
-      state = step .step .ensures .0 ∙ ap (λ (s : TrellisState). nextState s false (odd (t .args .w))) (zero .zero-state .ensures) ∙ p .next;
+      state = step .next-state .ensures ∙ ap (λ (s : TrellisState). nextState s false (odd (t .args .w))) (zero .zero-state .ensures) ∙ p .next;
       puts = rw (weight .weight .ensures .0, p .takes) at (put .put .ensures);
     }
 
@@ -64,7 +64,7 @@ read-first-spec =
     tie.close
     (tie.spec
     zero-state-requires
-    step-requires
+    next-state-requires
     sub-put
     weight-requires
     mul-put

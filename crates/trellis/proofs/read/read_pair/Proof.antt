@@ -13,23 +13,23 @@ decode-word-requires c κs =
     let q = c .before .before .before .pre in
     (q .0, q .1, lt-of-lt-of-le (q .4 .vSmall) (pow-mono {j = 15} (q .1)), lt-of-lt-of-le (q .4 .wSmall) (pow-mono {j = 15} (q .3)))
 
-step-requires : tie.Need-step-requires
-step-requires c κs = search needs
+next-state-requires : tie.Need-next-state-requires
+next-state-requires c κs = search needs
 
 taken-bits-requires : tie.Need-taken-bits-requires
 taken-bits-requires c κs = search needs
 
 taken-of-requires : tie.Need-taken-of-requires
 taken-of-requires c κs =
-    let t = c .before .before .before .before .before .before .before .before in
+    let t = c .before .before .before .before .before .before .before in
     let a = t .args in
-    decoded-high (a .x) (a .y) (a .v) (a .w) (t .pre .0) (t .pre .2) (t .pre .4 .vSmall) (t .pre .4 .wSmall) (c .before .before .before .before .decode-word .result) (c .before .before .before .before .decode-word .ensures) (t .pre .1) (t .pre .3)
+    decoded-high (a .x) (a .y) (a .v) (a .w) (t .pre .0) (t .pre .2) (t .pre .4 .vSmall) (t .pre .4 .wSmall) (c .before .before .before .decode-word .result) (c .before .before .before .decode-word .ensures) (t .pre .1) (t .pre .3)
 
 put-requires : tie.Need-put-requires
 put-requires c κs =
-    let t = c .before .before .before .before .before .before .before .before .before in
+    let t = c .before .before .before .before .before .before .before .before in
     let a = t .args in
-    let p = decoded-pair (a .x) (a .y) (a .v) (a .w) (t .pre .0) (t .pre .2) (t .pre .4 .vSmall) (t .pre .4 .wSmall) (c .before .before .before .before .before .decode-word .result) (c .before .before .before .before .before .decode-word .ensures) (a .forced) (a .c .state) in
+    let p = decoded-pair (a .x) (a .y) (a .v) (a .w) (t .pre .0) (t .pre .2) (t .pre .4 .vSmall) (t .pre .4 .wSmall) (c .before .before .before .before .decode-word .result) (c .before .before .before .before .decode-word .ensures) (a .forced) (a .c .state) in
     let n = c .before .taken-bits .ensures in
     (omega (arith, n .1), rw (n .0, c .taken-of .ensures) (p .small), t .pre .4 .bytes, t .pre .4 .waits)
 
@@ -41,13 +41,18 @@ same-length c = search needs
 
 returns : tie.Need-returns
 returns c =
-    let t = c .before .before .before .before .before .before .before .before .before .before .before .before .before in
+    let put = c .before .before .before in
+    let takes = put .before in
+    let counts = takes .before in
+    let next = counts .before .before in
+    let word = next .before in
+    let t = word .before .before .before .before in
     let a = t .args in
-    let p = decoded-pair (a .x) (a .y) (a .v) (a .w) (t .pre .0) (t .pre .2) (t .pre .4 .vSmall) (t .pre .4 .wSmall) (c .before .before .before .before .before .before .before .before .before .decode-word .result) (c .before .before .before .before .before .before .before .before .before .decode-word .ensures) (a .forced) (a .c .state) in
+    let p = decoded-pair (a .x) (a .y) (a .v) (a .w) (t .pre .0) (t .pre .2) (t .pre .4 .vSmall) (t .pre .4 .wSmall) (word .decode-word .result) (word .decode-word .ensures) (a .forced) (a .c .state) in
     record {
       obeys = c .obeys-code .ensures ∙ p .kept;
-      state = c .before .before .before .before .before .before .before .before .step .ensures .0 ∙ p .next;
-      puts = rw (c .before .before .before .before .before .taken-bits .ensures .0, c .before .before .before .before .taken-of .ensures, p .takes) at (c .before .before .before .put .ensures);
+      state = next .next-state .ensures ∙ p .next;
+      puts = rw (counts .taken-bits .ensures .0, takes .taken-of .ensures, p .takes) at (put .put .ensures);
     }
 
 pub read-pair-spec : {M : Type 1} → statement M
@@ -55,7 +60,7 @@ read-pair-spec =
     tie.close
     (tie.spec
     decode-word-requires
-    step-requires
+    next-state-requires
     taken-bits-requires
     taken-of-requires
     put-requires
