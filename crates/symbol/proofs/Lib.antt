@@ -7,6 +7,7 @@ pub mod WritePoints
 pub mod ReadPlaces
 pub mod Answers
 pub mod TablePlan
+pub mod PlannedInputs
 pub mod Points
 pub mod WholeSymbol
 pub mod RoundTrip

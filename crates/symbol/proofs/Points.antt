@@ -21,7 +21,7 @@ use Rattle.g9932.specs.declared.Found.{Found}
 use Rattle.g9932.specs.declared.Found.the-variants.{At, Nothing}
 use Rattle.g9932.proofs.Packed.{Bytes, take-unpack, pack-frame}
 use Rattle.g9932.proofs.Verdicts.{number-some, found-here, found-past, done-refused, done-accepted, report-refused, report-done}
-use Rattle.symbol.specs.Reading.{placesVerdict, ReadsPoints}
+use Rattle.symbol.specs.ReadSymbol.{placesVerdict, ReadsPoints}
 
 -- a buffer that begins with a frame has its bytes in front
 pub framed-bytes : (x : List Bool) (buffer : List ℕ) (n : ℕ) → n ≡ bytesFor (length x) → n ≤ length buffer → Framed x buffer → Bytes buffer → take n buffer ≡ pack x

@@ -31,7 +31,7 @@ use Rattle.g9932.specs.declared.Mode.the-variants.{Uncoded, Coded}
 use Rattle.mapper.specs.Reading.{pointAt, LabelNeeds, LabelIs, DemapsPoints, wrongFiller, ChecksFiller, JoinNeeds, CollectNeeds, CollectsLabels}
 use Rattle.mapper.specs.Writing.{FillerNeeds}
 use Rattle.mapper.specs.declared.read.FillerRead.{FillerRead}
-use Rattle.symbol.specs.Reading.{PlacesOf, ReadsPlaces, FrameRoom, FrameOf, ReadsFrame}
+use Rattle.symbol.specs.ReadSymbol.{PlacesOf, ReadsPlaces, FrameRoom, FrameOf, ReadsFrame}
 use Rattle.trellis.specs.Reading.{LabelNeeds as TrellisNeeds, readingOfAll, ReadsLabels}
 use Rattle.trellis.specs.declared.read.PairsRead.{PairsRead}
 use Rattle.symbol.proofs.FillerPlaces.{register-places, wrong-first}

@@ -1,3 +1,4 @@
 -- What the parts of a symbol ask and do, between the tables' plan and the answers.
-pub mod Writing
-pub mod Reading
+pub mod Inputs
+pub mod WriteSymbol
+pub mod ReadSymbol

@@ -1,18 +1,44 @@
--- `symbol::encoding::write_symbol` meets its contract: the labels of the frame, then their points.
+use Rattle.symbol.proofs.WholeSymbol.{again, again-length, points-of}
 use Rattle.g9932.specs.Symbol.{classesOf, sentIn}
-use Rattle.symbol.proofs.WholeSymbol.{points-of}
+use lib.Seq.{length-take-le}
+use mathlib.Core.Path.{sym}
 use borrow.Author.Needs.{needs}
 use Rattle.symbol.proofs.encoding.write_symbol.Statement.{statement}
 use Rattle.symbol.proofs.encoding.write_symbol.Tie as tie
+use Rattle.symbol.proofs.encoding.write_symbol.Reads as reads
+use Rattle.symbol.proofs.encoding.write_symbol.Lts as lts
+use Rattle.symbol.proofs.encoding.label_frame.Reads as label-frame-reads
+use Rattle.symbol.proofs.encoding.write_points.Reads as write-points-reads
+
+slice-aggregate-label-frame : tie.Need-slice-aggregate-label-frame
+slice-aggregate-label-frame c = sym (length-take-le _ (c .before .before .before .before .before .before .before .args .entries .now) (c .before .before .before .before .before .before .before .pre .fits .entriesFit))
+
+slice-aggregate-label-frame-2 : tie.Need-slice-aggregate-label-frame-2
+slice-aggregate-label-frame-2 c = sym (length-take-le _ (c .before .before .before .before .before .before .before .before .args .places .now) (c .before .before .before .before .before .before .before .before .pre .fits .placesFit))
+
+slice-relend-prefix-label-frame : tie.Need-slice-relend-prefix-label-frame
+slice-relend-prefix-label-frame c = search needs
+
+slice-aggregate-label-frame-3 : tie.Need-slice-aggregate-label-frame-3
+slice-aggregate-label-frame-3 c = sym (length-take-le _ (c .before .before .before .before .before .before .before .before .before .args .labels .now) (c .before .before .before .before .before .before .before .before .before .pre .fits .labelsFit))
 
 label-frame-requires : tie.Need-label-frame-requires
-label-frame-requires c κs = c .before .before .before .before .before .before .before .pre .1 .labelNeeds
+label-frame-requires c κs = c .before .before .before .before .before .before .before .before .before .pre .planned .labelNeeds
+
+slice-aggregate-write-points : tie.Need-slice-aggregate-write-points
+slice-aggregate-write-points c = sym (length-take-le _ (c .before .before .before .before .before .before .before .before .before .before .before .before .before .args .monitored .now) (c .before .before .before .before .before .before .before .before .before .before .before .before .before .pre .fits .monitoredFit))
+
+slice-aggregate-write-points-2 : tie.Need-slice-aggregate-write-points-2
+slice-aggregate-write-points-2 c = sym (length-take-le _ (c .before .before .before .before .before .before .before .before .before .before .before .before .before .before .args .layouts .now) (c .before .before .before .before .before .before .before .before .before .before .before .before .before .before .pre .fits .layoutsFit))
+
+slice-relend-prefix-write-points : tie.Need-slice-relend-prefix-write-points
+slice-relend-prefix-write-points c = search needs
+
+slice-aggregate-write-points-3 : tie.Need-slice-aggregate-write-points-3
+slice-aggregate-write-points-3 c = again-length (c .before .before .before .before .before .label-frame .last .1 .1 .1 .1 .1 .0) (c .before .before .before .before .before .before .before .before .before .before .before .before .before .before .before .args .labels .now) _ (c .before .before .before .before .before .before .before .before .before .before .before .before .before .before .before .pre .fits .labelsFit) (c .before .before .before .before .before .label-frame .kept .1 .1 .1 .1 .1 .0)
 
 write-points-requires : tie.Need-write-points-requires
-write-points-requires c κs =
-    let s = c .before .before .before .before .before .before .before .before .before .before .before .before .before in
-    let l = c .before .before .before .before .before .label-frame in
-    (classesOf (s .pre .0), sentIn (s .pre .0) (s .args .frame .now), s .args .entries .now, s .args .places .now, points-of (s .pre .1) (l .kept .1 .1 .1 .1 .1 .0) (l .ensures))
+write-points-requires c κs = (_, _, _, _, points-of (c .before .before .before .before .before .before .before .before .before .before .before .before .before .before .before .before .before .pre .planned) (c .before .before .before .before .before .before .before .label-frame .kept .1 .1 .1 .1 .1 .0) (again _ (c .before .before .before .before .before .before .before .before .before .before .before .before .before .before .before .before .before .args .labels .now) _ (c .before .before .before .before .before .before .before .before .before .before .before .before .before .before .before .before .before .pre .fits .labelsFit) (c .before .before .before .before .before .before .before .label-frame .kept .1 .1 .1 .1 .1 .0)) (c .before .before .before .before .before .before .before .label-frame .ensures))
 
 same-length : tie.Need-same-length
 same-length c = search needs
@@ -24,16 +50,21 @@ same-length-3 : tie.Need-same-length-3
 same-length-3 c = search needs
 
 returns : tie.Need-returns
-returns c =
-    let s = c .before .before .before .before .before .before .before .before .before .before .before .before .before .before .before .before .before .before in
-    let l = c .before .before .before .before .before .before .before .before .before .before .label-frame in
-    λ T w. c .before .before .before .before .write-points .ensures (classesOf T) (sentIn T (s .args .frame .now)) (s .args .entries .now) (s .args .places .now) (points-of w (l .kept .1 .1 .1 .1 .1 .0) (l .ensures))
+returns c = λ T w. c .before .before .before .before .write-points .ensures (classesOf T) (sentIn T (c .before .before .before .before .before .before .before .before .before .before .before .before .before .before .before .before .before .before .before .before .before .before .args .frame .now)) _ _ (points-of w (c .before .before .before .before .before .before .before .before .before .before .before .before .label-frame .kept .1 .1 .1 .1 .1 .0) (again _ (c .before .before .before .before .before .before .before .before .before .before .before .before .before .before .before .before .before .before .before .before .before .before .args .labels .now) _ (c .before .before .before .before .before .before .before .before .before .before .before .before .before .before .before .before .before .before .before .before .before .before .pre .fits .labelsFit) (c .before .before .before .before .before .before .before .before .before .before .before .before .label-frame .kept .1 .1 .1 .1 .1 .0)) (c .before .before .before .before .before .before .before .before .before .before .before .before .label-frame .ensures))
 
 pub write-symbol-spec : {M : Type 1} → statement M
 write-symbol-spec =
     tie.close
     (tie.spec
+    slice-aggregate-label-frame
+    slice-aggregate-label-frame-2
+    slice-relend-prefix-label-frame
+    slice-aggregate-label-frame-3
     label-frame-requires
+    slice-aggregate-write-points
+    slice-aggregate-write-points-2
+    slice-relend-prefix-write-points
+    slice-aggregate-write-points-3
     write-points-requires
     same-length
     same-length-2

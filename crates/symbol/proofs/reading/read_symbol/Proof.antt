@@ -1,19 +1,32 @@
--- `symbol::reading::read_symbol` meets its contract: 13 and 14 by the places, 15 by the pairs, or the frame copied.
-use mathlib.Core.Path.{sym, _∙_}
+use Rattle.symbol.proofs.WholeSymbol.{again, again-length, none-refused, places-of, place-refused, frame-of, pair-refused, frame-fits, frame-read}
+use Rattle.g9932.specs.Symbol.{classesOf}
+use lib.Seq.{length-take-le}
 use native.Mathlib.Omega.{arith}
-use Rattle.symbol.proofs.WholeSymbol.{places-of, decoded, frame-of, breaks-at, frame-fits, frame-read}
-use Rattle.symbol.proofs.Points.{points-refused, places-refused, places-passed, break-found, points-done}
-use Rattle.symbol.proofs.Answers.{as-told}
-use Rattle.g9932.specs.Symbol.{classesOf, gatherBits}
-use Rattle.g9932.specs.Sizes.{points}
+use mathlib.Core.Path.{sym}
 use borrow.Author.Needs.{needs}
 use Rattle.symbol.proofs.reading.read_symbol.Statement.{statement}
 use Rattle.symbol.proofs.reading.read_symbol.Tie as tie
+use Rattle.symbol.proofs.reading.read_symbol.Reads as reads
+use Rattle.symbol.proofs.reading.read_symbol.Lts as lts
+use Rattle.frame.proofs.copy.Reads as copy-reads
+use Rattle.symbol.proofs.reading.read_frame.Reads as read-frame-reads
+use Rattle.symbol.proofs.reading.read_places.Reads as read-places-reads
+use Rattle.symbol.proofs.reading.refused_place.Reads as refused-place-reads
+
+slice-aggregate-read-places : tie.Need-slice-aggregate-read-places
+slice-aggregate-read-places c = sym (length-take-le _ (c .before .before .before .before .before .before .before .before .args .monitored .now) (c .before .before .before .before .before .before .before .before .pre .fits .monitoredFit))
+
+slice-aggregate-read-places-2 : tie.Need-slice-aggregate-read-places-2
+slice-aggregate-read-places-2 c = sym (length-take-le _ (c .before .before .before .before .before .before .before .before .before .args .layouts .now) (c .before .before .before .before .before .before .before .before .before .pre .fits .layoutsFit))
+
+slice-relend-prefix-read-places : tie.Need-slice-relend-prefix-read-places
+slice-relend-prefix-read-places c = search needs
+
+slice-aggregate-read-places-3 : tie.Need-slice-aggregate-read-places-3
+slice-aggregate-read-places-3 c = sym (length-take-le _ (c .before .before .before .before .before .before .before .before .before .before .args .labels .now) (c .before .before .before .before .before .before .before .before .before .before .pre .fits .labelsFit))
 
 read-places-requires : tie.Need-read-places-requires
-read-places-requires c κs =
-    let s = c .before .before .before .before .before .before .before .before in
-    (classesOf (s .pre .0), s .args .shared, s .args .entries .now, s .args .places .now, places-of (s .pre .1))
+read-places-requires c κs = (_, _, _, _, places-of (c .before .before .before .before .before .before .before .before .before .before .pre .planned))
 
 refused-place-requires : tie.Need-refused-place-requires
 refused-place-requires c κs = search needs
@@ -21,47 +34,32 @@ refused-place-requires c κs = search needs
 enum-known-refused : tie.Need-enum-known-refused
 enum-known-refused c = search needs
 
-enum-told : tie.Need-enum-told
-enum-told c = search needs
-
-read-frame-requires : tie.Need-read-frame-requires
-read-frame-requires c κs =
-    let s = c .before .before .before .before .before .before .before .before .before .before .before .before .before .before .before .before in
-    let a = s .args in
-    let t = c .before .before .before .before .before .before .before .read-places in
-    let d = t .ensures (classesOf (s .pre .0)) (a .shared) (a .entries .now) (a .places .now) (places-of (s .pre .1)) in
-    let p = places-passed (t .result .offgrid) (t .result .monitor) _ (as-told (c .before .before .before .before .refused-place .ensures) (c .before .before .enum-told .given .1)) in
-    (classesOf (s .pre .0), gatherBits (classesOf (s .pre .0)) (points (a .xs .now) (a .ys .now)), a .monitored .now, a .layouts .now, frame-of (s .pre .1) d (p .0))
-
-enum-known-broken : tie.Need-enum-known-broken
-enum-known-broken c = search needs
-
-enum-told-2 : tie.Need-enum-told-2
-enum-told-2 c = search needs
-
-copy-requires : tie.Need-copy-requires
-copy-requires c κs =
-    let s = c .before .before .before .before .before .before .before .before .before .before .before .before .before .before .before .before .before .before .before .before .before .before .before .before .before in
-    let a = s .args in
-    let t = c .before .before .before .before .before .before .before .before .before .before .before .before .before .before .before .before .read-places in
-    let T = s .pre .0 in
-    let d = t .ensures (classesOf T) (a .shared) (a .entries .now) (a .places .now) (places-of (s .pre .1)) in
-    let p = places-passed (t .result .offgrid) (t .result .monitor) _ (as-told (c .before .before .before .before .before .before .before .before .before .before .before .before .before .refused-place .ensures) (c .before .before .before .before .before .before .before .before .before .before .before .enum-told .given .1)) in
-    let b = c .before .before .before .before .before .before .before .before .read-frame in
-    let e = b .ensures (classesOf T) (gatherBits (classesOf T) (points (a .xs .now) (a .ys .now))) (a .monitored .now) (a .layouts .now) (frame-of (s .pre .1) d (p .0)) in
-    frame-fits (s .pre .1) d (p .0) e (b .kept .1 .1 .1 .1 .1 .0)
-
 same-length : tie.Need-same-length
 same-length c = search needs
 
 returns : tie.Need-returns
-returns c =
-    let a = c .before .before .before .before .before .before .before .before .before .before .before .before .before .before .before .args in
-    let t = c .before .before .before .before .before .before .read-places in
-    let x = c .before .refused .given .0 .0 in
-    λ T s.
-    let d = t .ensures (classesOf T) (a .shared) (a .entries .now) (a .places .now) (places-of s) in
-    points-refused T _ _ _ x (places-refused T _ _ (t .result .offgrid) (t .result .monitor) (t .result .register) x (decoded s d) (as-told (c .before .before .before .refused-place .ensures) (c .before .refused .given .1)))
+returns c = λ T s. place-refused s (c .before .before .before .before .before .before .read-places .ensures (classesOf T) _ _ _ (places-of s)) (c .before .before .before .refused-place .ensures) (c .before .refused .given .1)
+
+enum-told : tie.Need-enum-told
+enum-told c = search needs
+
+slice-aggregate-read-frame : tie.Need-slice-aggregate-read-frame
+slice-aggregate-read-frame c = sym (length-take-le _ (c .before .before .before .before .before .before .before .before .before .before .before .before .before .before .before .before .before .args .entries .now) (c .before .before .before .before .before .before .before .before .before .before .before .before .before .before .before .before .before .pre .fits .entriesFit))
+
+slice-aggregate-read-frame-2 : tie.Need-slice-aggregate-read-frame-2
+slice-aggregate-read-frame-2 c = sym (length-take-le _ (c .before .before .before .before .before .before .before .before .before .before .before .before .before .before .before .before .before .before .args .places .now) (c .before .before .before .before .before .before .before .before .before .before .before .before .before .before .before .before .before .before .pre .fits .placesFit))
+
+slice-relend-prefix-read-frame : tie.Need-slice-relend-prefix-read-frame
+slice-relend-prefix-read-frame c = search needs
+
+slice-aggregate-read-frame-3 : tie.Need-slice-aggregate-read-frame-3
+slice-aggregate-read-frame-3 c = again-length (c .before .before .before .before .before .before .before .before .read-places .last .1 .1 .1 .1 .1 .0) (c .before .before .before .before .before .before .before .before .before .before .before .before .before .before .before .before .before .before .before .args .labels .now) _ (c .before .before .before .before .before .before .before .before .before .before .before .before .before .before .before .before .before .before .before .pre .fits .labelsFit) (c .before .before .before .before .before .before .before .before .read-places .kept .1 .1 .1 .1 .1 .0)
+
+read-frame-requires : tie.Need-read-frame-requires
+read-frame-requires c κs = (_, _, _, _, frame-of (c .before .before .before .before .before .before .before .before .before .before .before .before .before .before .before .before .before .before .before .before .pre .planned) (c .before .before .before .before .before .before .before .before .before .read-places .ensures (classesOf (c .before .before .before .before .before .before .before .before .before .before .before .before .before .before .before .before .before .before .before .before .pre .tables)) _ _ _ (places-of (c .before .before .before .before .before .before .before .before .before .before .before .before .before .before .before .before .before .before .before .before .pre .planned))) (none-refused (c .before .before .before .before .before .before .before .before .before .read-places .result) (c .before .before .before .before .before .before .refused-place .ensures) (c .before .before .before .before .enum-told .given .1)) (again _ (c .before .before .before .before .before .before .before .before .before .before .before .before .before .before .before .before .before .before .before .before .args .labels .now) _ (c .before .before .before .before .before .before .before .before .before .before .before .before .before .before .before .before .before .before .before .before .pre .fits .labelsFit) (c .before .before .before .before .before .before .before .before .before .read-places .kept .1 .1 .1 .1 .1 .0)))
+
+enum-known-broken : tie.Need-enum-known-broken
+enum-known-broken c = search needs
 
 same-length-2 : tie.Need-same-length-2
 same-length-2 c = search needs
@@ -70,15 +68,13 @@ same-length-3 : tie.Need-same-length-3
 same-length-3 c = search needs
 
 returns-2 : tie.Need-returns-2
-returns-2 c =
-    let a = c .before .before .before .before .before .before .before .before .before .before .before .before .before .before .before .before .before .before .before .before .before .before .before .before .args in
-    let t = c .before .before .before .before .before .before .before .before .before .before .before .before .before .before .before .read-places in
-    let p = places-passed (t .result .offgrid) (t .result .monitor) _ (as-told (c .before .before .before .before .before .before .before .before .before .before .before .before .refused-place .ensures) (c .before .before .before .before .before .before .before .before .before .before .enum-told .given .1)) in
-    let b = c .before .before .before .before .before .before .before .read-frame in
-    λ T s.
-    let d = t .ensures (classesOf T) (a .shared) (a .entries .now) (a .places .now) (places-of s) in
-    let e = b .ensures (classesOf T) (gatherBits (classesOf T) (points (a .xs .now) (a .ys .now))) (a .monitored .now) (a .layouts .now) (frame-of s d (p .0)) in
-    points-refused T _ _ _ _ (break-found (decoded s d) (p .0) (p .1) _ (sym (breaks-at s d (p .0) e) ∙ c .before .broken .given .1))
+returns-2 c = λ T s. pair-refused s (c .before .before .before .before .before .before .before .before .before .before .before .before .before .before .before .before .before .read-places .ensures (classesOf T) _ _ _ (places-of s)) (none-refused (c .before .before .before .before .before .before .before .before .before .before .before .before .before .before .before .before .before .read-places .result) (c .before .before .before .before .before .before .before .before .before .before .before .before .before .before .refused-place .ensures) (c .before .before .before .before .before .before .before .before .before .before .before .before .enum-told .given .1)) (c .before .before .before .before .before .before .before .read-frame .ensures (classesOf T) _ _ _ (frame-of s (c .before .before .before .before .before .before .before .before .before .before .before .before .before .before .before .before .before .read-places .ensures (classesOf T) _ _ _ (places-of s)) (none-refused (c .before .before .before .before .before .before .before .before .before .before .before .before .before .before .before .before .before .read-places .result) (c .before .before .before .before .before .before .before .before .before .before .before .before .before .before .refused-place .ensures) (c .before .before .before .before .before .before .before .before .before .before .before .before .enum-told .given .1)) (again _ (c .before .before .before .before .before .before .before .before .before .before .before .before .before .before .before .before .before .before .before .before .before .before .before .before .before .before .before .before .args .labels .now) _ (c .before .before .before .before .before .before .before .before .before .before .before .before .before .before .before .before .before .before .before .before .before .before .before .before .before .before .before .before .pre .fits .labelsFit) (c .before .before .before .before .before .before .before .before .before .before .before .before .before .before .before .before .before .read-places .kept .1 .1 .1 .1 .1 .0)))) (c .before .broken .given .1)
+
+enum-told-2 : tie.Need-enum-told-2
+enum-told-2 c = search needs
+
+copy-requires : tie.Need-copy-requires
+copy-requires c κs = frame-fits (c .before .before .before .before .before .before .before .before .before .before .before .before .before .before .before .before .before .before .before .before .before .before .before .before .before .before .before .before .before .pre .planned) (c .before .before .before .before .before .before .before .before .before .before .before .before .before .before .before .before .before .before .read-places .ensures (classesOf (c .before .before .before .before .before .before .before .before .before .before .before .before .before .before .before .before .before .before .before .before .before .before .before .before .before .before .before .before .before .pre .tables)) _ _ _ (places-of (c .before .before .before .before .before .before .before .before .before .before .before .before .before .before .before .before .before .before .before .before .before .before .before .before .before .before .before .before .before .pre .planned))) (none-refused (c .before .before .before .before .before .before .before .before .before .before .before .before .before .before .before .before .before .before .read-places .result) (c .before .before .before .before .before .before .before .before .before .before .before .before .before .before .before .refused-place .ensures) (c .before .before .before .before .before .before .before .before .before .before .before .before .before .enum-told .given .1)) (c .before .before .before .before .before .before .before .before .read-frame .ensures (classesOf (c .before .before .before .before .before .before .before .before .before .before .before .before .before .before .before .before .before .before .before .before .before .before .before .before .before .before .before .before .before .pre .tables)) _ _ _ (frame-of (c .before .before .before .before .before .before .before .before .before .before .before .before .before .before .before .before .before .before .before .before .before .before .before .before .before .before .before .before .before .pre .planned) (c .before .before .before .before .before .before .before .before .before .before .before .before .before .before .before .before .before .before .read-places .ensures (classesOf (c .before .before .before .before .before .before .before .before .before .before .before .before .before .before .before .before .before .before .before .before .before .before .before .before .before .before .before .before .before .pre .tables)) _ _ _ (places-of (c .before .before .before .before .before .before .before .before .before .before .before .before .before .before .before .before .before .before .before .before .before .before .before .before .before .before .before .before .before .pre .planned))) (none-refused (c .before .before .before .before .before .before .before .before .before .before .before .before .before .before .before .before .before .before .read-places .result) (c .before .before .before .before .before .before .before .before .before .before .before .before .before .before .before .refused-place .ensures) (c .before .before .before .before .before .before .before .before .before .before .before .before .before .enum-told .given .1)) (again _ (c .before .before .before .before .before .before .before .before .before .before .before .before .before .before .before .before .before .before .before .before .before .before .before .before .before .before .before .before .before .args .labels .now) _ (c .before .before .before .before .before .before .before .before .before .before .before .before .before .before .before .before .before .before .before .before .before .before .before .before .before .before .before .before .before .pre .fits .labelsFit) (c .before .before .before .before .before .before .before .before .before .before .before .before .before .before .before .before .before .before .read-places .kept .1 .1 .1 .1 .1 .0)))) (c .before .before .before .before .before .before .before .before .read-frame .kept .1 .1 .1 .1 .1 .0)
 
 same-length-4 : tie.Need-same-length-4
 same-length-4 c = search needs
@@ -90,35 +86,33 @@ same-length-6 : tie.Need-same-length-6
 same-length-6 c = search needs
 
 returns-3 : tie.Need-returns-3
-returns-3 c =
-    let a = c .before .before .before .before .before .before .before .before .before .before .before .before .before .before .before .before .before .before .before .before .before .before .before .before .before .before .before .before .args in
-    let t = c .before .before .before .before .before .before .before .before .before .before .before .before .before .before .before .before .before .before .before .read-places in
-    let p = places-passed (t .result .offgrid) (t .result .monitor) _ (as-told (c .before .before .before .before .before .before .before .before .before .before .before .before .before .before .before .before .refused-place .ensures) (c .before .before .before .before .before .before .before .before .before .before .before .before .before .before .enum-told .given .1)) in
-    let b = c .before .before .before .before .before .before .before .before .before .before .before .read-frame in
-    let none = c .before .before .before .before .before .enum-told2 .given .1 in
-    λ T s.
-    let d = t .ensures (classesOf T) (a .shared) (a .entries .now) (a .places .now) (places-of s) in
-    let e = b .ensures (classesOf T) (gatherBits (classesOf T) (points (a .xs .now) (a .ys .now))) (a .monitored .now) (a .layouts .now) (frame-of s d (p .0)) in
-    let f = frame-read s d (p .0) e (b .kept .1 .1 .1 .1 .1 .0) (λ k i. omega (arith, c .before .before .before .before .before .before .before .slice-known6 .given k)) none (c .before .before .copy .last .1 .0) (c .before .before .copy .ensures) in
-    points-done (decoded s d) (p .0) (p .1) (a .size) (s .sizeIs) (sym (breaks-at s d (p .0) e) ∙ none) (a .frame .now) (c .before .before .copy .last .1 .0) f
+returns-3 c = λ T s. frame-read s (c .before .before .before .before .before .before .before .before .before .before .before .before .before .before .before .before .before .before .before .before .before .read-places .ensures (classesOf T) _ _ _ (places-of s)) (none-refused (c .before .before .before .before .before .before .before .before .before .before .before .before .before .before .before .before .before .before .before .before .before .read-places .result) (c .before .before .before .before .before .before .before .before .before .before .before .before .before .before .before .before .before .before .refused-place .ensures) (c .before .before .before .before .before .before .before .before .before .before .before .before .before .before .before .before .enum-told .given .1)) (c .before .before .before .before .before .before .before .before .before .before .before .read-frame .ensures (classesOf T) _ _ _ (frame-of s (c .before .before .before .before .before .before .before .before .before .before .before .before .before .before .before .before .before .before .before .before .before .read-places .ensures (classesOf T) _ _ _ (places-of s)) (none-refused (c .before .before .before .before .before .before .before .before .before .before .before .before .before .before .before .before .before .before .before .before .before .read-places .result) (c .before .before .before .before .before .before .before .before .before .before .before .before .before .before .before .before .before .before .refused-place .ensures) (c .before .before .before .before .before .before .before .before .before .before .before .before .before .before .before .before .enum-told .given .1)) (again _ (c .before .before .before .before .before .before .before .before .before .before .before .before .before .before .before .before .before .before .before .before .before .before .before .before .before .before .before .before .before .before .before .before .args .labels .now) _ (c .before .before .before .before .before .before .before .before .before .before .before .before .before .before .before .before .before .before .before .before .before .before .before .before .before .before .before .before .before .before .before .before .pre .fits .labelsFit) (c .before .before .before .before .before .before .before .before .before .before .before .before .before .before .before .before .before .before .before .before .before .read-places .kept .1 .1 .1 .1 .1 .0)))) (c .before .before .before .before .before .before .before .before .before .before .before .read-frame .kept .1 .1 .1 .1 .1 .0) (c .before .before .before .before .before .enum-told2 .given .1) (λ k i. omega (arith, c .before .before .before .before .before .before .before .slice-known6 .given k)) (c .before .before .copy .last .1 .0) (c .before .before .copy .ensures)
 
 pub read-symbol-spec : {M : Type 1} → statement M
 read-symbol-spec =
     tie.close
     (tie.spec
+    slice-aggregate-read-places
+    slice-aggregate-read-places-2
+    slice-relend-prefix-read-places
+    slice-aggregate-read-places-3
     read-places-requires
     refused-place-requires
     enum-known-refused
-    enum-told
-    read-frame-requires
-    enum-known-broken
-    enum-told-2
-    copy-requires
     same-length
     returns
+    enum-told
+    slice-aggregate-read-frame
+    slice-aggregate-read-frame-2
+    slice-relend-prefix-read-frame
+    slice-aggregate-read-frame-3
+    read-frame-requires
+    enum-known-broken
     same-length-2
     same-length-3
     returns-2
+    enum-told-2
+    copy-requires
     same-length-4
     same-length-5
     same-length-6

@@ -16,14 +16,16 @@ use Rattle.g9932.specs.declared.Mode.{Mode}
 use Rattle.g9932.specs.declared.Mode.the-variants.{Uncoded, Coded}
 use Rattle.mapper.specs.Writing.{CutNeeds}
 use Rattle.plan.specs.Classes.{PlanOf}
+use Rattle.plan.specs.declared.Sizes.{Sizes}
+use Rattle.symbol.specs.Inputs.{PlanFits}
 use Rattle.trellis.specs.Coding.{FrameNeeds}
 
 -- ---- the labels of a frame
 
 -- what each mode asks of a frame whose bits begin at bit `start`, and of the entries
-abbrev pub LabelNeeds : Mode → List ℕ → ℕ → List ℕ → List ℕ → List ℕ → Type 0
-LabelNeeds Uncoded f start es ps labels = CutNeeds f start es ps labels
-LabelNeeds Coded f start es ps labels = FrameNeeds f start es × Placed es ps labels
+abbrev pub LabelFrameNeeds : Mode → List ℕ → ℕ → List ℕ → List ℕ → List ℕ → Type 0
+LabelFrameNeeds Uncoded f start es ps labels = CutNeeds f start es ps labels
+LabelFrameNeeds Coded f start es ps labels = FrameNeeds f start es × Placed es ps labels
 
 -- the bits that it sends
 abbrev pub sentFor : Mode → List ℕ → ℕ → List ℕ → List Bool
@@ -62,17 +64,23 @@ WritesAll from ms layouts labels xs ys r after xsAfter ysAfter =
 
 pub record SymbolOf (T : Tables) (m : Mode) (from : ℕ) (f es ps ms layouts labels : List ℕ) (xs ys : List ℤ) : Type 0 where
   pub plan : PlanOf (classesOf T) from es ps ms layouts
-  pub labelNeeds : LabelNeeds m f 0 es ps labels
+  pub labelNeeds : LabelFrameNeeds m f 0 es ps labels
   pub sent : sentFor m f 0 es ≡ sentIn T f
   pub labelsLength : length labels ≡ length (classesOf T)
   pub xsLength : length xs ≡ length (classesOf T)
   pub ysLength : length ys ≡ length (classesOf T)
 
--- they are the lists of some tables' plan
-abbrev pub SymbolNeeds : Mode → ℕ → List ℕ → List ℕ → List ℕ → List ℕ → List ℕ → List ℕ → List ℤ → List ℤ → Type 0
-SymbolNeeds m from f es ps ms layouts labels xs ys = (T : Tables) × SymbolOf T m from f es ps ms layouts labels xs ys
+abbrev pub SymbolBy : Tables → Mode → Sizes → ℕ → List ℕ → List ℕ → List ℕ → List ℕ → List ℕ → List ℕ → List ℤ → List ℤ → Type 0
+SymbolBy T m p n f layouts entries places monitored labels xs ys =
+    SymbolOf T m (p .shared) f (take (p .entries) entries) (take (p .entries) places) (take (p .monitored) monitored) (take n layouts) (take n labels) xs ys
+
+-- the arrays begin with the lists of some tables' plan
+pub record SymbolNeeds (m : Mode) (p : Sizes) (n : ℕ) (f layouts entries places monitored labels : List ℕ) (xs ys : List ℤ) : Type 0 where
+  pub fits : PlanFits p n layouts entries places monitored labels
+  pub tables : Tables
+  pub planned : SymbolBy tables m p n f layouts entries places monitored labels xs ys
 
 -- whatever tables they are
-abbrev pub WritesSymbol : Mode → ℕ → List ℕ → List ℕ → List ℕ → List ℕ → List ℕ → List ℕ → List ℤ → List ℤ → ℕ → ℕ → List ℤ → List ℤ → Type 0
-WritesSymbol m from f es ps ms layouts labels xs ys r after xsAfter ysAfter =
-    (T : Tables) → SymbolOf T m from f es ps ms layouts labels xs ys → WritesPoints (classesOf T) r (sentIn T f) after xsAfter ysAfter
+abbrev pub WritesSymbol : Mode → Sizes → ℕ → List ℕ → List ℕ → List ℕ → List ℕ → List ℕ → List ℕ → List ℤ → List ℤ → ℕ → ℕ → List ℤ → List ℤ → Type 0
+WritesSymbol m p n f layouts entries places monitored labels xs ys r after xsAfter ysAfter =
+    (T : Tables) → SymbolBy T m p n f layouts entries places monitored labels xs ys → WritesPoints (classesOf T) r (sentIn T f) after xsAfter ysAfter

@@ -4,7 +4,7 @@ use mathlib.Core.Bool.{Bool}
 use mathlib.Core.List.{List, map}
 use mathlib.Core.Path.{_≡_}
 use lib.IntN.{ℤ}
-use lib.ListN.{length}
+use lib.ListN.{length, take}
 use Rattle.frame.specs.Labels.{bitsOfLabels}
 use Rattle.frame.specs.Written.{Framed}
 use Rattle.g9932.specs.Answers.{onDone, reportOf, reportBy, breakIn, frameIn, pointsVerdict}
@@ -22,6 +22,8 @@ use Rattle.g9932.specs.declared.Found.the-variants.{At, Nothing}
 use Rattle.g9932.specs.declared.Mode.{Mode}
 use Rattle.g9932.specs.declared.Mode.the-variants.{Uncoded, Coded}
 use Rattle.plan.specs.Classes.{PlanOf}
+use Rattle.plan.specs.declared.Sizes.{Sizes}
+use Rattle.symbol.specs.Inputs.{PlanFits}
 use Rattle.symbol.specs.declared.reading.PlacesRead.{PlacesRead}
 use Rattle.trellis.specs.Coding.{Wide}
 
@@ -75,8 +77,8 @@ pub record FrameOf (m : Mode) (cs : List Class) (d : List Bool) (from : ℕ) (es
   pub labelled : ToneLabels cs d labels
   pub room : FrameRoom m es (length held)
 
-abbrev pub FrameNeeds : Mode → ℕ → List ℕ → List ℕ → List ℕ → List ℕ → Type 0
-FrameNeeds m from es ps labels held = (cs : List Class) × (d : List Bool) × (ms : List ℕ) × (layouts : List ℕ) × FrameOf m cs d from es ps ms layouts labels held
+abbrev pub ReadFrameNeeds : Mode → ℕ → List ℕ → List ℕ → List ℕ → List ℕ → Type 0
+ReadFrameNeeds m from es ps labels held = (cs : List Class) × (d : List Bool) × (ms : List ℕ) × (layouts : List ℕ) × FrameOf m cs d from es ps ms layouts labels held
 
 pub record ReadsFrame (m : Mode) (es : List ℕ) (d : List Bool) (broken : Found) (after : List ℕ) : Type 0 where
   pub brokenIs : broken ≡ breakIn (readingBy m es d)
@@ -103,15 +105,21 @@ pub record ReadOf (T : Tables) (m : Mode) (from size : ℕ) (es ps ms layouts : 
   pub whole : (q : List Point) → first (offgridTest (classesOf T) q) (length (T .tones)) ≡ Nothing → length q ≡ length (classesOf T)
       → breakIn (readingIn T q) ≡ Nothing → length (frameIn (readingIn T q)) ≡ sizeOf T
 
--- they are the lists of some tables' plan
-abbrev pub ReadNeeds : Mode → ℕ → ℕ → List ℕ → List ℕ → List ℕ → List ℕ → List ℤ → List ℤ → List ℕ → List ℕ → List ℕ → Type 0
-ReadNeeds m from size es ps ms layouts xs ys labels held f = (T : Tables) × ReadOf T m from size es ps ms layouts xs ys labels held f
+abbrev pub ReadBy : Tables → Mode → Sizes → ℕ → List ℕ → List ℕ → List ℕ → List ℕ → List ℤ → List ℤ → List ℕ → List ℕ → List ℕ → Type 0
+ReadBy T m p n layouts entries places monitored xs ys labels held f =
+    ReadOf T m (p .shared) (p .size) (take (p .entries) entries) (take (p .entries) places) (take (p .monitored) monitored) (take n layouts) xs ys (take n labels) held f
+
+-- the arrays begin with the lists of some tables' plan
+pub record ReadNeeds (m : Mode) (p : Sizes) (n : ℕ) (layouts entries places monitored : List ℕ) (xs ys : List ℤ) (labels held f : List ℕ) : Type 0 where
+  pub fits : PlanFits p n layouts entries places monitored labels
+  pub tables : Tables
+  pub planned : ReadBy tables m p n layouts entries places monitored xs ys labels held f
 
 pub record ReadsPoints (T : Tables) (q : List Point) (r : ℕ) (before : List ℕ) (a : Answer) (after : List ℕ) : Type 0 where
   pub answer : reportOf a ≡ reportBy (pointsVerdict T q r) r (registerAfter r (classesOf T))
   pub frameHolds : after ≡ onDone (pointsVerdict T q r) (pack (frameIn (readingIn T q))) before
 
 -- whatever tables they are
-abbrev pub ReadsSymbol : Mode → ℕ → ℕ → List ℕ → List ℕ → List ℕ → List ℕ → List ℤ → List ℤ → List ℕ → List ℕ → List ℕ → ℕ → Answer → List ℕ → Type 0
-ReadsSymbol m from size es ps ms layouts xs ys labels held f r a after =
-    (T : Tables) → ReadOf T m from size es ps ms layouts xs ys labels held f → ReadsPoints T (points xs ys) r f a after
+abbrev pub ReadsSymbol : Mode → Sizes → ℕ → List ℕ → List ℕ → List ℕ → List ℕ → List ℤ → List ℤ → List ℕ → List ℕ → List ℕ → ℕ → Answer → List ℕ → Type 0
+ReadsSymbol m p n layouts entries places monitored xs ys labels held f r a after =
+    (T : Tables) → ReadBy T m p n layouts entries places monitored xs ys labels held f → ReadsPoints T (points xs ys) r f a after
