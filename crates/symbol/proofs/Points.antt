@@ -1,27 +1,24 @@
 -- The points of a symbol read: the places that 13 and 14 refuse, the pair that 15 refuses, and the verdict on them.
 use Prim.Native.Nat.{ℕ, _*_, _≤_}
-use mathlib.Core.Bool.{Bool, true≢false}
+use mathlib.Core.Bool.{Bool}
 use mathlib.Core.List.{List}
 use mathlib.Core.Path.{_≡_, refl, sym, ap, _∙_}
 use native.Mathlib.Omega.{arith}
-use lib.Dec.{eqb}
 use lib.ListN.{length, take}
 use lib.Seq.{take-take, length-take-le, getD-take}
 use Rattle.frame.specs.Written.{Framed}
-use Rattle.g9932.specs.Bits.{first}
 use Rattle.g9932.specs.Sizes.{Tables, frameBits, unpack, pack, bytesFor, Point}
-use Rattle.g9932.specs.Refusals.{Verdict, refused, accepted}
+use Rattle.g9932.specs.Refusals.{Verdict, refused, accepted, refuseAt}
 use Rattle.g9932.specs.Filler.{registerAfter}
-use Rattle.g9932.specs.Symbol.{classesOf, sizeOf, offgridTest, monitorTest, readingIn}
+use Rattle.g9932.specs.Symbol.{classesOf, sizeOf, readingIn}
 use Rattle.g9932.specs.Answers.{verdictOf, breakIn, frameIn, pointsVerdict}
 use Rattle.g9932.specs.declared.Refusal.{Refusal}
 use Rattle.g9932.specs.declared.Checked.the-variants.{Refused}
 use Rattle.g9932.specs.declared.Answer.the-variants.{Done, Refused as NotDone}
-use Rattle.g9932.specs.declared.Found.{Found}
 use Rattle.g9932.specs.declared.Found.the-variants.{At, Nothing}
 use Rattle.g9932.proofs.Packed.{Bytes, take-unpack, pack-frame}
-use Rattle.g9932.proofs.Verdicts.{number-some, found-here, found-past, done-refused, done-accepted, report-refused, report-done}
-use Rattle.symbol.specs.ReadSymbol.{placesVerdict, ReadsPoints}
+use Rattle.g9932.proofs.Verdicts.{found-here, found-past, done-refused, done-accepted, report-refused, report-done}
+use Rattle.symbol.specs.ReadSymbol.{placesVerdict, PlacesDone, ReadsPoints}
 
 -- a buffer that begins with a frame has its bytes in front
 pub framed-bytes : (x : List Bool) (buffer : List ℕ) (n : ℕ) → n ≡ bytesFor (length x) → n ≤ length buffer → Framed x buffer → Bytes buffer → take n buffer ≡ pack x
@@ -37,38 +34,24 @@ framed-bytes x buffer n e h framed bytes =
 pub points-refused : (T : Tables) (q : List Point) (r : ℕ) (f : List ℕ) (x : Refusal) → verdictOf (Refused x) ≡ pointsVerdict T q r → ReadsPoints T q r f (NotDone x r) f
 points-refused T q r f x e = record { answer = report-refused x r _ e; frameHolds = done-refused x _ _ e }
 
--- what a reader of points finds, whatever it makes of their bits
-pub record Decoded (T : Tables) (q : List Point) (r : ℕ) (offgrid monitor : Found) (register : ℕ) : Type 0 where
-  pub offgridIs : offgrid ≡ first (offgridTest (classesOf T) q) (length (T .tones))
-  pub monitorIs : offgrid ≡ Nothing → monitor ≡ first (monitorTest r (classesOf T) q) (length (T .tones))
-  pub registerIs : offgrid ≡ Nothing → register ≡ registerAfter r (classesOf T)
-
--- what the places are refused by
-pub places-refused : (T : Tables) (q : List Point) (r : ℕ) (offgrid monitor : Found) (register : ℕ) (x : Refusal) → Decoded T q r offgrid monitor register
-    → verdictOf (Refused x) ≡ placesVerdict offgrid monitor → verdictOf (Refused x) ≡ pointsVerdict T q r
-unfolding pointsVerdict
-places-refused T q r (At k) monitor register x h e = e ∙ found-here 13 _ (sym (h .offgridIs))
-places-refused T q r Nothing (At k) register x h e = e ∙ found-past 13 (sym (h .offgridIs)) (found-here 14 _ (sym (h .monitorIs refl)))
-places-refused T q r Nothing Nothing register x h e = absurd (true≢false (sym (ap (λ (v : Verdict). eqb (v .number) 0) e) ∙ number-some x))
-
-pub places-passed : (offgrid monitor : Found) (l : ℕ) → accepted l ≡ placesVerdict offgrid monitor → (offgrid ≡ Nothing) × (monitor ≡ Nothing)
-places-passed (At k) monitor l e = absurd (true≢false (ap (λ (v : Verdict). eqb (v .number) 0) e))
-places-passed Nothing (At k) l e = absurd (true≢false (ap (λ (v : Verdict). eqb (v .number) 0) e))
-places-passed Nothing Nothing l e = (refl, refl)
-
-module _ {T : Tables} {q : List Point} {r : ℕ} {offgrid monitor : Found} {register : ℕ} (h : Decoded T q r offgrid monitor register) (on : offgrid ≡ Nothing)
-    (matched : monitor ≡ Nothing) where
-  pub break-found : (k : ℕ) → breakIn (readingIn T q) ≡ At k → refused 15 k ≡ pointsVerdict T q r
+module _ (T : Tables) (q : List Point) (r : ℕ) (tones : length (classesOf T) ≡ length (T .tones)) where
+  -- the verdict on the points is that on the places, and then 15
+  pub points-by : placesVerdict (classesOf T) r q (refuseAt 15 (breakIn (readingIn T q)) (accepted (sizeOf T))) ≡ pointsVerdict T q r
   unfolding pointsVerdict
-  break-found k e = found-past 13 (sym (h .offgridIs) ∙ on) (found-past 14 (sym (h .monitorIs on) ∙ matched) (found-here 15 _ e))
+  points-by = rw tones
 
-  pub points-done : (size : ℕ) → size ≡ sizeOf T → breakIn (readingIn T q) ≡ Nothing → (f out : List ℕ) → out ≡ pack (frameIn (readingIn T q))
-      → ReadsPoints T q r f (Done size register) out
-  unfolding pointsVerdict
-  points-done size n none f out o =
-      let v : accepted (sizeOf T) ≡ pointsVerdict T q r =
-      found-past 13 (sym (h .offgridIs) ∙ on) (found-past 14 (sym (h .monitorIs on) ∙ matched) (found-past 15 none refl)) in
-      record {
-        answer = rw (n, h .registerIs on) (report-done (sizeOf T) r (registerAfter r (classesOf T)) v);
-        frameHolds = o ∙ done-accepted (sizeOf T) _ _ v;
-      }
+  module _ {s : ℕ} {labels : List ℕ} (p : PlacesDone (classesOf T) r q s labels) where
+    past : {x v : Verdict} → x ≡ v → x ≡ placesVerdict (classesOf T) r q v
+    past e = found-past 13 (p .onGrid) (found-past 14 (p .matched) e)
+
+    pub break-found : (k : ℕ) → breakIn (readingIn T q) ≡ At k → refused 15 k ≡ pointsVerdict T q r
+    break-found k e = past (found-here 15 _ e) ∙ points-by
+
+    pub points-done : (size : ℕ) → size ≡ sizeOf T → breakIn (readingIn T q) ≡ Nothing → (f out : List ℕ) → out ≡ pack (frameIn (readingIn T q))
+        → ReadsPoints T q r f (Done size s) out
+    points-done size n none f out o =
+        let v : accepted (sizeOf T) ≡ pointsVerdict T q r = past (found-past 15 none refl) ∙ points-by in
+        record {
+          answer = rw (n, p .registerIs) (report-done (sizeOf T) r (registerAfter r (classesOf T)) v);
+          frameHolds = o ∙ done-accepted (sizeOf T) _ _ v;
+        }

@@ -15,12 +15,13 @@ use Rattle.frame.specs.Written.{emptyWriter, written, Framed}
 use Rattle.frame.specs.declared.BitWriter.{BitWriter}
 use Rattle.g9932.proofs.PointLists.{length-points}
 use Rattle.g9932.proofs.Search.{found-not}
+use Rattle.g9932.proofs.Verdicts.{found-here, found-past}
 use Rattle.g9932.specs.Answers.{breakIn}
 use Rattle.g9932.specs.Bits.{num, first}
 use Rattle.g9932.specs.Filler.{drawn, afterDraws}
 use Rattle.g9932.specs.Order.{pairsOf}
 use Rattle.g9932.specs.Sizes.{entry, origin, points}
-use Rattle.g9932.specs.Symbol.{load, isMonitored, isFiller, offgridTest}
+use Rattle.g9932.specs.Symbol.{load, isMonitored, isFiller, offgridTest, monitorTest}
 use Rattle.g9932.specs.Trellis.{zeroState, readPairs}
 use Rattle.g9932.specs.declared.Class.{Class}
 use Rattle.g9932.specs.declared.Class.the-variants.{Monitored, Silent}
@@ -28,10 +29,13 @@ use Rattle.g9932.specs.declared.Found.{Found}
 use Rattle.g9932.specs.declared.Found.the-variants.{At, Nothing}
 use Rattle.g9932.specs.declared.Mode.{Mode}
 use Rattle.g9932.specs.declared.Mode.the-variants.{Uncoded, Coded}
+use Rattle.g9932.specs.declared.Place.{Place}
+use Rattle.g9932.specs.declared.Refusal.the-variants.{Offgrid, Monitor}
 use Rattle.mapper.specs.Reading.{pointAt, LabelNeeds, LabelIs, DemapsPoints, wrongFiller, ChecksFiller, JoinNeeds, CollectNeeds, CollectsLabels}
 use Rattle.mapper.specs.Writing.{FillerNeeds}
 use Rattle.mapper.specs.declared.read.FillerRead.{FillerRead}
 use Rattle.symbol.specs.ReadSymbol.{PlacesOf, ReadsPlaces, FrameRoom, FrameOf, ReadsFrame}
+use Rattle.symbol.specs.declared.reading.PlacesRead.the-variants.{Refused, Done}
 use Rattle.trellis.specs.Reading.{LabelNeeds as TrellisNeeds, readingOfAll, ReadsLabels}
 use Rattle.trellis.specs.declared.read.PairsRead.{PairsRead}
 use Rattle.symbol.proofs.FillerPlaces.{register-places, wrong-first}
@@ -71,35 +75,42 @@ module _ {cs : List Class} {from : ℕ} {es ps ms layouts labels : List ℕ} {xs
     offgrid-is : f ≡ first (offgridTest cs (points xs ys)) (length cs)
     offgrid-is = offgrid-first cs (w .plan .carries) xs ys (w .xsLength) same f (rw (w .plan .layoutsAre) at (d .off))
 
-    pub off-found : {k r : ℕ} → f ≡ At k → ReadsPlaces cs r (points xs ys) (record { offgrid = At k; monitor = Nothing; register = r }) ls
-    off-found e =
-        record {
-          offgridIs = sym e ∙ offgrid-is;
-          monitorIs = λ z. absurd (found-not z);
-          registerIs = λ z. absurd (found-not z);
-          labelsAre = λ z. absurd (found-not z);
-        }
+    -- 13
+    pub off-found : {k : Place} → f ≡ At (k .0) → (r : ℕ) → ReadsPlaces cs r (points xs ys) (Refused (Offgrid k)) ls
+    off-found e r = record { answer = λ v. found-here 13 _ (sym offgrid-is ∙ e) }
 
-    pub none-off : {r : ℕ} (c : FillerRead) → f ≡ Nothing → ChecksFiller ms r ls c
-        → ReadsPlaces cs r (points xs ys) (record { offgrid = Nothing; monitor = c .monitor; register = c .register }) ls
-    none-off {r} c e k =
-        let n : length ls ≡ length cs = d .labelsLength ∙ w .xsLength in
-        let are : (i : ℕ) → i < length xs → LabelIs (entry (map classLayout cs) i) (pointAt xs ys i) (entry ls i) = rw (w .plan .layoutsAre) at (d .labelled e) in
-        let label = label-is cs (w .plan .carries) xs ys (w .xsLength) same ls are in
-        let q = points xs ys in
-        let tells : (i : ℕ) → i < length cs → getD cs i Silent ≡ Monitored → (s : ℕ) → eqb (entry ls i) (num (drawn 2 s)) ≡ isFiller Monitored s (getD q i origin) =
-        λ i h mon s. tells-filler (getD q i origin) (entry ls i) (rw mon at (label i h)) s in
-        record {
-          offgridIs = sym e ∙ offgrid-is;
-          monitorIs = λ _. k .monitorIs ∙ ap (λ (l : List ℕ). wrongFiller r l ls Nothing) (w .plan .monitoredAre) ∙ wrong-first r cs q ls tells;
-          registerIs = λ _. k .registerIs ∙ ap (λ (l : List ℕ). afterDraws (2 * length l) r) (w .plan .monitoredAre) ∙ register-places cs 0 r;
-          labelsAre = λ _.
-              record {
-                bitsAre = gathered cs q ls (length-points xs ys (sym same) ∙ w .xsLength) n (λ i h. carried (getD cs i Silent) (getD q i origin) (entry ls i) (w .plan .carries i h) (label i h));
-                small = λ i h. rw (load-at cs i h) (label-small (getD cs i Silent) (getD q i origin) (entry ls i) (w .plan .carries i h) (label i h));
-                labelsLength = n;
-              };
-        }
+    module _ (on : f ≡ Nothing) {r : ℕ} {c : FillerRead} (k : ChecksFiller ms r ls c) where
+      label : (i : ℕ) → i < length cs → LabelIs (classLayout (getD cs i Silent)) (getD (points xs ys) i origin) (entry ls i)
+      label = label-is cs (w .plan .carries) xs ys (w .xsLength) same ls (rw (w .plan .layoutsAre) at (d .labelled on))
+
+      tells : (i : ℕ) → i < length cs → getD cs i Silent ≡ Monitored → (s : ℕ) → eqb (entry ls i) (num (drawn 2 s)) ≡ isFiller Monitored s (getD (points xs ys) i origin)
+      tells i h mon s = tells-filler (getD (points xs ys) i origin) (entry ls i) (rw mon at (label i h)) s
+
+      monitor-is : c .monitor ≡ first (monitorTest r cs (points xs ys)) (length cs)
+      monitor-is = k .monitorIs ∙ ap (λ (l : List ℕ). wrongFiller r l ls Nothing) (w .plan .monitoredAre) ∙ wrong-first r cs (points xs ys) ls tells
+
+      -- 14
+      pub filler-found : {j : Place} → c .monitor ≡ At (j .0) → ReadsPlaces cs r (points xs ys) (Refused (Monitor j)) ls
+      filler-found e = record { answer = λ v. found-past 13 (sym offgrid-is ∙ on) (found-here 14 _ (sym monitor-is ∙ e)) }
+
+      pub none-found : c .monitor ≡ Nothing → ReadsPlaces cs r (points xs ys) (Done (c .register)) ls
+      none-found e =
+          let n : length ls ≡ length cs = d .labelsLength ∙ w .xsLength in
+          record {
+            answer =
+                record {
+                  onGrid = sym offgrid-is ∙ on;
+                  matched = sym monitor-is ∙ e;
+                  registerIs = k .registerIs ∙ ap (λ (l : List ℕ). afterDraws (2 * length l) r) (w .plan .monitoredAre) ∙ register-places cs 0 r;
+                  labelsAre =
+                      record {
+                        bitsAre = gathered cs (points xs ys) ls (length-points xs ys (sym same) ∙ w .xsLength) n
+                            (λ i h. carried (getD cs i Silent) (getD (points xs ys) i origin) (entry ls i) (w .plan .carries i h) (label i h));
+                        small = λ i h. rw (load-at cs i h) (label-small (getD cs i Silent) (getD (points xs ys) i origin) (entry ls i) (w .plan .carries i h) (label i h));
+                        labelsLength = n;
+                      };
+                };
+          }
 
 -- ---- the frame
 

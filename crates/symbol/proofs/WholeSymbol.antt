@@ -14,7 +14,7 @@ use Rattle.g9932.proofs.Packed.{Bytes}
 use Rattle.g9932.proofs.Pairs.{length-read}
 use Rattle.g9932.proofs.Search.{first-no, found-not}
 use Rattle.g9932.proofs.Symbols.{length-gather}
-use Rattle.g9932.specs.Answers.{breakIn, frameIn, encodeInputs, readInputs, Encodes, Reads, verdictOf}
+use Rattle.g9932.specs.Answers.{breakIn, frameIn, encodeInputs, readInputs, Encodes, Reads}
 use Rattle.g9932.specs.Bits.{first}
 use Rattle.g9932.specs.Order.{sum, bitsOf}
 use Rattle.g9932.specs.Refusals.{tableVerdict, frameTest}
@@ -23,8 +23,6 @@ use Rattle.g9932.specs.Symbol.{classesOf, pairsIn, sizeOf, offgridTest, gatherB
 use Rattle.g9932.specs.Trellis.{Reading, frame, breaks, zeroState, readPairs, readingOf}
 use Rattle.g9932.specs.declared.Answer.{Answer}
 use Rattle.g9932.specs.declared.Answer.the-variants.{Done, Refused as NotDone}
-use Rattle.g9932.specs.declared.Checked.{Checked}
-use Rattle.g9932.specs.declared.Checked.the-variants.{Accepted, Refused as NotAccepted}
 use Rattle.g9932.specs.declared.Found.{Found}
 use Rattle.g9932.specs.declared.Found.the-variants.{At, Nothing}
 use Rattle.g9932.specs.declared.Mode.{Mode}
@@ -39,12 +37,13 @@ use Rattle.plan.specs.declared.Planned.{Planned}
 use Rattle.plan.specs.declared.Planned.the-variants.{Refused}
 use Rattle.plan.specs.declared.Sizes.{Sizes}
 use Rattle.symbol.specs.Inputs.{ChecksInputs, PlanFits}
-use Rattle.symbol.specs.ReadSymbol.{ReadOf, ReadBy, ReadNeeds, ReadsSymbol, PlacesOf, ReadsPlaces, FrameOf, ReadsFrame, ReadsPoints, placesVerdict}
+use Rattle.symbol.specs.ReadSymbol.{ReadOf, ReadBy, ReadNeeds, ReadsSymbol, PlacesOf, PlacesDone, PlacesBy, ReadsPlaces, FrameOf, ReadsFrame, ReadsPoints}
 use Rattle.symbol.specs.WriteSymbol.{Labels, PointsOf, SymbolOf, SymbolBy, SymbolNeeds, WritesSymbol, sentFor}
 use Rattle.symbol.specs.declared.reading.PlacesRead.{PlacesRead}
+use Rattle.symbol.specs.declared.reading.PlacesRead.the-variants.{Refused as PlaceRefused, Done as PlacesPass}
 use Rattle.symbol.proofs.Answers.{size-is, inputs-encoded, inputs-read, encode-tables, encode-inputs, encode-done, read-tables, read-inputs, read-points}
 use Rattle.symbol.proofs.PlannedInputs.{refused-answer, Passed, accepts, lists-fit}
-use Rattle.symbol.proofs.Points.{Decoded, framed-bytes, points-refused, places-refused, places-passed, break-found, points-done}
+use Rattle.symbol.proofs.Points.{framed-bytes, points-refused, points-by, break-found, points-done}
 use Rattle.symbol.proofs.TablePlan.{the-plan, label-needs, sent-is, frame-room, reading-is}
 
 -- ---- from the tables' plan
@@ -173,49 +172,42 @@ points-of s n is l =
 
 -- ---- reading
 
--- neither 13 nor 14
-pub none-refused : (t : PlacesRead) {c : Checked} → verdictOf c ≡ placesVerdict (t .offgrid) (t .monitor) → {k : ℕ} → c ≡ Accepted k → (t .offgrid ≡ Nothing) × (t .monitor ≡ Nothing)
-none-refused t told {k} e = places-passed (t .offgrid) (t .monitor) k (sym (ap verdictOf e) ∙ told)
-
 module _ {T : Tables} {m : Mode} {from size : ℕ} {es ps ms layouts labels held f : List ℕ} {xs ys : List ℤ} (s : ReadOf T m from size es ps ms layouts xs ys labels held f) where
   pub places-of : PlacesOf (classesOf T) from es ps ms layouts labels xs ys
   places-of = record { plan = s .plan; labelsLength = s .labelsLength; xsLength = s .xsLength; ysLength = s .ysLength }
 
   module _ {r : ℕ} {t : PlacesRead} {after : List ℕ} (d : ReadsPlaces (classesOf T) r (points xs ys) t after) where
-    decoded : Decoded T (points xs ys) r (t .offgrid) (t .monitor) (t .register)
-    decoded =
-        record {
-          offgridIs = d .offgridIs ∙ rw (s .tonesAre);
-          monitorIs = λ on. d .monitorIs on ∙ rw (s .tonesAre);
-          registerIs = d .registerIs;
-        }
-
     -- 13 or 14
-    pub place-refused : {c : Checked} → verdictOf c ≡ placesVerdict (t .offgrid) (t .monitor) → {x : Refusal} → c ≡ NotAccepted x → ReadsPoints T (points xs ys) r f (NotDone x r) f
-    place-refused told {x} e = points-refused T _ _ _ x (places-refused T _ _ (t .offgrid) (t .monitor) (t .register) x decoded (sym (ap verdictOf e) ∙ told))
+    pub place-refused : {x : Refusal} → t ≡ PlaceRefused x → ReadsPoints T (points xs ys) r f (NotDone x r) f
+    place-refused {x} e =
+        let by : PlacesBy (classesOf T) r (points xs ys) (PlaceRefused x) after = rw e at (d .answer) in
+        points-refused T _ _ _ x (by _ ∙ points-by T (points xs ys) r (s .tonesAre))
 
-    module _ (none : (t .offgrid ≡ Nothing) × (t .monitor ≡ Nothing)) where
+    module _ {k : ℕ} (e : t ≡ PlacesPass k) where
+      done : PlacesDone (classesOf T) r (points xs ys) k after
+      done = rw e at (d .answer)
+
       pub frame-of : {sliced : List ℕ} → sliced ≡ after → FrameOf m (classesOf T) (gatherBits (classesOf T) (points xs ys)) from es ps ms layouts sliced held
-      frame-of is = rw is (record { plan = s .plan; labelled = d .labelsAre (none .0); room = s .room })
+      frame-of is = rw is (record { plan = s .plan; labelled = done .labelsAre; room = s .room })
 
       module _ {b : Found} {stored : List ℕ} (reads : ReadsFrame m es (gatherBits (classesOf T) (points xs ys)) b stored) where
         breaks-at : b ≡ breakIn (readingIn T (points xs ys))
         breaks-at = reads .brokenIs ∙ ap breakIn (s .readings (points xs ys))
 
         -- 15
-        pub pair-refused : {k : ℕ} → b ≡ At k → ReadsPoints T (points xs ys) r f (NotDone (Trellis k) r) f
-        pair-refused {k} e = points-refused T _ _ _ _ (break-found decoded (none .0) (none .1) k (sym breaks-at ∙ e))
+        pub pair-refused : {j : ℕ} → b ≡ At j → ReadsPoints T (points xs ys) r f (NotDone (Trellis j) r) f
+        pair-refused {j} e = points-refused T _ _ _ _ (break-found T _ _ (s .tonesAre) done j (sym breaks-at ∙ e))
 
         module _ (same : length stored ≡ length held) where
           pub frame-fits : length f ≤ length stored
           frame-fits = omega (arith, s .frameLength, s .heldLength, s .sizeMost)
 
-          pub frame-read : b ≡ Nothing → Bytes stored → (out : List ℕ) → out ≡ take (length f) stored → ReadsPoints T (points xs ys) r f (Done size (t .register)) out
+          pub frame-read : b ≡ Nothing → Bytes stored → (out : List ℕ) → out ≡ take (length f) stored → ReadsPoints T (points xs ys) r f (Done size k) out
           frame-read whole bytes out o =
               let q : List Point = points xs ys in
               let framed : Framed (frameIn (readingIn T q)) stored = rw (s .readings q) at (reads .framed whole) in
               let nq : length q ≡ length (classesOf T) = length-points xs ys (s .xsLength ∙ sym (s .ysLength)) ∙ s .xsLength in
               let broken : breakIn (readingIn T q) ≡ Nothing = sym breaks-at ∙ whole in
-              let n : length f ≡ bytesFor (length (frameIn (readingIn T q))) =
-              s .frameLength ∙ ap bytesFor (sym (s .whole q (sym (decoded .offgridIs) ∙ none .0) nq broken)) in
-              points-done decoded (none .0) (none .1) size (s .sizeIs) broken f out (o ∙ framed-bytes (frameIn (readingIn T q)) stored (length f) n frame-fits framed bytes)
+              let on : first (offgridTest (classesOf T) q) (length (T .tones)) ≡ Nothing = rw (s .tonesAre) at (done .onGrid) in
+              let n : length f ≡ bytesFor (length (frameIn (readingIn T q))) = s .frameLength ∙ ap bytesFor (sym (s .whole q on nq broken)) in
+              points-done T _ _ (s .tonesAre) done size (s .sizeIs) broken f out (o ∙ framed-bytes (frameIn (readingIn T q)) stored (length f) n frame-fits framed bytes)

@@ -11,29 +11,31 @@ use Rattle.g9932.specs.Answers.{onDone, reportOf, reportBy, breakIn, frameIn, p
 use Rattle.g9932.specs.Bits.{first}
 use Rattle.g9932.specs.Filler.{registerAfter}
 use Rattle.g9932.specs.Order.{pairsOf, sum}
-use Rattle.g9932.specs.Refusals.{Verdict, refused, accepted}
+use Rattle.g9932.specs.Refusals.{Verdict, refused, refuseAt, numberOf, placeOf}
 use Rattle.g9932.specs.Sizes.{Tables, entry, Point, points, bytesFor, pack}
 use Rattle.g9932.specs.Symbol.{load, classesOf, sizeOf, offgridTest, monitorTest, gatherBits, readingIn}
 use Rattle.g9932.specs.Trellis.{Reading, frame, zeroState, readPairs, takenTotal}
 use Rattle.g9932.specs.declared.Answer.{Answer}
 use Rattle.g9932.specs.declared.Class.{Class}
 use Rattle.g9932.specs.declared.Found.{Found}
-use Rattle.g9932.specs.declared.Found.the-variants.{At, Nothing}
+use Rattle.g9932.specs.declared.Found.the-variants.{Nothing}
 use Rattle.g9932.specs.declared.Mode.{Mode}
 use Rattle.g9932.specs.declared.Mode.the-variants.{Uncoded, Coded}
 use Rattle.plan.specs.Classes.{PlanOf}
 use Rattle.plan.specs.declared.Sizes.{Sizes}
 use Rattle.symbol.specs.Inputs.{PlanFits}
 use Rattle.symbol.specs.declared.reading.PlacesRead.{PlacesRead}
+use Rattle.symbol.specs.declared.reading.PlacesRead.the-variants.{Refused, Done}
 use Rattle.trellis.specs.Coding.{Wide}
 
 -- ---- the places
 
--- 13 by the first place off its constellation, then 14 by the first whose filler bits it hasn't
-abbrev pub placesVerdict : Found → Found → Verdict
-placesVerdict (At k) m = refused 13 k
-placesVerdict Nothing (At k) = refused 14 k
-placesVerdict Nothing Nothing = accepted 0
+-- 13 at the first place off its constellation, or else 14 at the first whose filler bits it hasn't, or else v
+abbrev pub placesVerdict : List Class → ℕ → List Point → Verdict → Verdict
+placesVerdict cs r q v =
+    refuseAt 13 (first (offgridTest cs q) (length cs))
+    (refuseAt 14 (first (monitorTest r cs q) (length cs))
+    v)
 
 pub record PlacesOf (cs : List Class) (from : ℕ) (es ps ms layouts labels : List ℕ) (xs ys : List ℤ) : Type 0 where
   pub plan : PlanOf cs from es ps ms layouts
@@ -50,11 +52,19 @@ pub record ToneLabels (cs : List Class) (d : List Bool) (labels : List ℕ) : Ty
   pub small : (k : ℕ) → k < length cs → 1 ≤ entry (map load cs) k → entry labels k < 2 ^ entry (map load cs) k
   pub labelsLength : length labels ≡ length cs
 
+-- nothing refused, the register after the draws is s
+pub record PlacesDone (cs : List Class) (r : ℕ) (q : List Point) (s : ℕ) (labels : List ℕ) : Type 0 where
+  pub onGrid : first (offgridTest cs q) (length cs) ≡ Nothing
+  pub matched : first (monitorTest r cs q) (length cs) ≡ Nothing
+  pub registerIs : s ≡ registerAfter r cs
+  pub labelsAre : ToneLabels cs (gatherBits cs q) labels
+
+abbrev pub PlacesBy : List Class → ℕ → List Point → PlacesRead → List ℕ → Type 0
+PlacesBy cs r q (Refused x) labels = (v : Verdict) → refused (numberOf x) (placeOf x) ≡ placesVerdict cs r q v
+PlacesBy cs r q (Done s) labels = PlacesDone cs r q s labels
+
 pub record ReadsPlaces (cs : List Class) (r : ℕ) (q : List Point) (t : PlacesRead) (labels : List ℕ) : Type 0 where
-  pub offgridIs : t .offgrid ≡ first (offgridTest cs q) (length cs)
-  pub monitorIs : t .offgrid ≡ Nothing → t .monitor ≡ first (monitorTest r cs q) (length cs)
-  pub registerIs : t .offgrid ≡ Nothing → t .register ≡ registerAfter r cs
-  pub labelsAre : t .offgrid ≡ Nothing → ToneLabels cs (gatherBits cs q) labels
+  pub answer : PlacesBy cs r q t labels
 
 abbrev pub ReadsAll : List ℕ → List ℕ → List ℕ → List ℤ → List ℤ → ℕ → PlacesRead → List ℕ → Type 0
 ReadsAll ms layouts labels xs ys r t after =

@@ -1,11 +1,9 @@
 // Reading, after the tables are planned.
-ghost use mathlib.Core.Path.{_≡_};
-ghost use Rattle.g9932.specs.Answers.{verdictOf, readInputs};
+ghost use Rattle.g9932.specs.Answers.{readInputs};
 ghost use Rattle.symbol.specs.Inputs.{ChecksInputs};
-ghost use Rattle.symbol.specs.ReadSymbol.{placesVerdict, PlaceNeeds, ReadsAll, ReadFrameNeeds, ReadsFrames, ReadNeeds, ReadsSymbol};
+ghost use Rattle.symbol.specs.ReadSymbol.{PlaceNeeds, ReadsAll, ReadFrameNeeds, ReadsFrames, ReadNeeds, ReadsSymbol};
 use frame::BitWriter;
 use g9932::Answer;
-use g9932::Checked;
 use g9932::Found;
 use g9932::Mode;
 use g9932::Place;
@@ -47,14 +45,14 @@ pub fn check_inputs(
     }
 }
 
-// The places read: the first ones that 13 and 14 refuse, and the register after the draws.
-pub struct PlacesRead {
-    pub offgrid: Found,
-    pub monitor: Found,
-    pub register: u32,
+// The places read: what 13 or 14 refuses, or else the register after the draws, with the labels by place.
+pub enum PlacesRead {
+    Refused(Refusal),
+    Done(u32),
 }
 
-// The labels of the points by place, where 13 refuses none, and the filler bits held against the register.
+// The labels of the points by place, or 13 at the first one off its constellation, or else 14 at the first whose label is not the
+// filler bits.
 fn read_places(
     monitored: &[u16],
     layouts: &[u16],
@@ -67,35 +65,15 @@ fn read_places(
     ensures { λ r. ⌜ ReadsAll (now (monitored .entry)) (now (layouts .entry)) (now (labels .entry)) (now (xs .entry)) (now (ys .entry)) register r (now (labels .exit)) ⌝ }
 {
     let offgrid = mapper::read::demap_points(layouts, xs, ys, labels);
-    match offgrid {
-        Found::At(k) => PlacesRead {
-            offgrid: Found::At(k),
-            monitor: Found::Nothing,
-            register,
-        },
-        Found::Nothing => {
-            let f = mapper::read::check_filler(monitored, register, labels);
-            let monitor = f.monitor;
-            PlacesRead {
-                offgrid: Found::Nothing,
-                monitor,
-                register: f.register,
-            }
-        }
-    }
-}
-
-// 13 at the first place off its constellation, or else 14 at the first whose filler bits it hasn't.
-fn refused_place(offgrid: Found, monitor: Found) -> Checked
-    ensures { λ r. ⌜ verdictOf r ≡ placesVerdict offgrid monitor ⌝ }
-{
     if let Found::At(k) = offgrid {
-        return Checked::Refused(Refusal::Offgrid(Place(k)));
+        return PlacesRead::Refused(Refusal::Offgrid(Place(k)));
     }
+    let f = mapper::read::check_filler(monitored, register, labels);
+    let monitor = f.monitor;
     if let Found::At(k) = monitor {
-        return Checked::Refused(Refusal::Monitor(Place(k)));
+        return PlacesRead::Refused(Refusal::Monitor(Place(k)));
     }
-    Checked::Accepted(0)
+    PlacesRead::Done(f.register)
 }
 
 // The frame of labels by place, at the start of a buffer, or else the first pair that breaks the code. From place `shared` on two
@@ -161,29 +139,30 @@ pub fn read_symbol(
         register,
         &mut labels[..n],
     );
-    let offgrid = t.offgrid;
-    let monitor = t.monitor;
-    let refused = refused_place(offgrid, monitor);
-    if let Checked::Refused(refusal) = refused {
-        return Answer::Refused { refusal, register };
-    }
-    let broken = read_frame(
-        mode,
-        p.shared,
-        &entries[..e],
-        &places[..e],
-        &mut labels[..n],
-        held,
-    );
-    if let Found::At(k) = broken {
-        return Answer::Refused {
-            refusal: Refusal::Trellis(k),
-            register,
-        };
-    }
-    frame::copy(held, frame);
-    Answer::Done {
-        size: p.size,
-        register: t.register,
+    match t {
+        PlacesRead::Refused(refusal) => {
+            return Answer::Refused { refusal, register };
+        }
+        PlacesRead::Done(after) => {
+            let broken = read_frame(
+                mode,
+                p.shared,
+                &entries[..e],
+                &places[..e],
+                &mut labels[..n],
+                held,
+            );
+            if let Found::At(k) = broken {
+                return Answer::Refused {
+                    refusal: Refusal::Trellis(k),
+                    register,
+                };
+            }
+            frame::copy(held, frame);
+            return Answer::Done {
+                size: p.size,
+                register: after,
+            };
+        }
     }
 }

@@ -1,9 +1,12 @@
--- `symbol::reading::read_places` meets its contract: the first place off its constellation, or the labels and the filler bits.
+use Rattle.symbol.proofs.ReadPlaces.{demap-needs, filler-needs, off-found, filler-found, none-found}
 use mathlib.Core.Path.{_∙_}
-use Rattle.symbol.proofs.ReadPlaces.{demap-needs, filler-needs, off-found, none-off}
 use borrow.Author.Needs.{needs}
 use Rattle.symbol.proofs.reading.read_places.Statement.{statement}
 use Rattle.symbol.proofs.reading.read_places.Tie as tie
+use Rattle.symbol.proofs.reading.read_places.Reads as reads
+use Rattle.symbol.proofs.reading.read_places.Lts as lts
+use Rattle.mapper.proofs.read.check_filler.Reads as check-filler-reads
+use Rattle.mapper.proofs.read.demap_points.Reads as demap-points-reads
 
 demap-points-requires : tie.Need-demap-points-requires
 demap-points-requires c κs = demap-needs (c .before .before .before .before .pre .4)
@@ -11,25 +14,35 @@ demap-points-requires c κs = demap-needs (c .before .before .before .before .pr
 enum-known-offgrid : tie.Need-enum-known-offgrid
 enum-known-offgrid c = search needs
 
-enum-told : tie.Need-enum-told
-enum-told c = search needs
-
-check-filler-requires : tie.Need-check-filler-requires
-check-filler-requires c κs =
-    let d = c .before .before .before .before .before .demap-points in
-    filler-needs (c .before .before .before .before .before .before .before .before .before .before .pre .4) (d .last .1 .1 .1 .0) (d .ensures .labelsLength ∙ c .before .before .before .before .before .before .before .before .before .before .pre .4 .xsLength)
-
 same-length : tie.Need-same-length
 same-length c = search needs
 
 returns : tie.Need-returns
-returns c = λ cs from es ps w. off-found w (c .before .before .before .before .before .demap-points .ensures) (c .before .offgrid .given .1)
+returns c = λ cs from es ps w. off-found w (c .before .before .before .before .before .demap-points .ensures) (c .before .offgrid .given .1) _
+
+enum-told : tie.Need-enum-told
+enum-told c = search needs
+
+check-filler-requires : tie.Need-check-filler-requires
+check-filler-requires c κs = filler-needs (c .before .before .before .before .before .before .before .before .before .before .pre .4) (c .before .before .before .before .before .demap-points .last .1 .1 .1 .0) (c .before .before .before .before .before .demap-points .ensures .labelsLength ∙ c .before .before .before .before .before .before .before .before .before .before .pre .4 .xsLength)
+
+enum-known-monitor : tie.Need-enum-known-monitor
+enum-known-monitor c = search needs
 
 same-length-2 : tie.Need-same-length-2
 same-length-2 c = search needs
 
 returns-2 : tie.Need-returns-2
-returns-2 c = λ cs from es ps w. none-off w (c .before .before .before .before .before .before .demap-points .ensures) (c .check-filler .result) (c .before .before .enum-told .given .1) (c .check-filler .ensures)
+returns-2 c = λ cs from es ps w. filler-found w (c .before .before .before .before .before .before .before .before .before .demap-points .ensures) (c .before .before .before .before .before .enum-told .given .1) (c .before .before .before .check-filler .ensures) (c .before .monitor .given .1)
+
+enum-told-2 : tie.Need-enum-told-2
+enum-told-2 c = search needs
+
+same-length-3 : tie.Need-same-length-3
+same-length-3 c = search needs
+
+returns-3 : tie.Need-returns-3
+returns-3 c = λ cs from es ps w. none-found w (c .before .before .before .before .before .before .before .before .demap-points .ensures) (c .before .before .before .before .enum-told .given .1) (c .before .before .check-filler .ensures) (c .enum-told2 .given .1)
 
 pub read-places-spec : {M : Type 1} → statement M
 read-places-spec =
@@ -37,9 +50,13 @@ read-places-spec =
     (tie.spec
     demap-points-requires
     enum-known-offgrid
-    enum-told
-    check-filler-requires
     same-length
     returns
+    enum-told
+    check-filler-requires
+    enum-known-monitor
     same-length-2
-    returns-2)
+    returns-2
+    enum-told-2
+    same-length-3
+    returns-3)

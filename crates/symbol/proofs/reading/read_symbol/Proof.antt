@@ -1,4 +1,4 @@
-use Rattle.symbol.proofs.WholeSymbol.{again, again-length, none-refused, places-of, place-refused, frame-of, pair-refused, frame-fits, frame-read}
+use Rattle.symbol.proofs.WholeSymbol.{again, again-length, places-of, place-refused, frame-of, pair-refused, frame-fits, frame-read}
 use Rattle.g9932.specs.Symbol.{classesOf}
 use lib.Seq.{length-take-le}
 use native.Mathlib.Omega.{arith}
@@ -11,7 +11,6 @@ use Rattle.symbol.proofs.reading.read_symbol.Lts as lts
 use Rattle.frame.proofs.copy.Reads as copy-reads
 use Rattle.symbol.proofs.reading.read_frame.Reads as read-frame-reads
 use Rattle.symbol.proofs.reading.read_places.Reads as read-places-reads
-use Rattle.symbol.proofs.reading.refused_place.Reads as refused-place-reads
 
 slice-aggregate-read-places : tie.Need-slice-aggregate-read-places
 slice-aggregate-read-places c = sym (length-take-le _ (c .before .before .before .before .before .before .before .before .args .monitored .now) (c .before .before .before .before .before .before .before .before .pre .fits .monitoredFit))
@@ -28,20 +27,17 @@ slice-aggregate-read-places-3 c = sym (length-take-le _ (c .before .before .befo
 read-places-requires : tie.Need-read-places-requires
 read-places-requires c κs = (_, _, _, _, places-of (c .before .before .before .before .before .before .before .before .before .before .pre .planned))
 
-refused-place-requires : tie.Need-refused-place-requires
-refused-place-requires c κs = search needs
-
-enum-known-refused : tie.Need-enum-known-refused
-enum-known-refused c = search needs
+enum-known-t : tie.Need-enum-known-t
+enum-known-t c = search needs
 
 same-length : tie.Need-same-length
 same-length c = search needs
 
 returns : tie.Need-returns
-returns c = λ T s. place-refused s (c .before .before .before .before .before .before .read-places .ensures (classesOf T) _ _ _ (places-of s)) (c .before .before .before .refused-place .ensures) (c .before .refused .given .1)
+returns c = λ T s. place-refused s (c .before .before .before .before .before .read-places .ensures (classesOf T) _ _ _ (places-of s)) (c .before .t .given .1)
 
-enum-told : tie.Need-enum-told
-enum-told c = search needs
+enum-known-t-2 : tie.Need-enum-known-t-2
+enum-known-t-2 c = search needs
 
 slice-aggregate-read-frame : tie.Need-slice-aggregate-read-frame
 slice-aggregate-read-frame c = sym (length-take-le _ (c .before .before .before .before .before .before .before .before .before .before .before .before .before .before .before .before .before .args .entries .now) (c .before .before .before .before .before .before .before .before .before .before .before .before .before .before .before .before .before .pre .fits .entriesFit))
@@ -56,7 +52,7 @@ slice-aggregate-read-frame-3 : tie.Need-slice-aggregate-read-frame-3
 slice-aggregate-read-frame-3 c = again-length (c .before .before .before .before .before .before .before .before .read-places .last .1 .1 .1 .1 .1 .0) (c .before .before .before .before .before .before .before .before .before .before .before .before .before .before .before .before .before .before .before .args .labels .now) _ (c .before .before .before .before .before .before .before .before .before .before .before .before .before .before .before .before .before .before .before .pre .fits .labelsFit) (c .before .before .before .before .before .before .before .before .read-places .kept .1 .1 .1 .1 .1 .0)
 
 read-frame-requires : tie.Need-read-frame-requires
-read-frame-requires c κs = (_, _, _, _, frame-of (c .before .before .before .before .before .before .before .before .before .before .before .before .before .before .before .before .before .before .before .before .pre .planned) (c .before .before .before .before .before .before .before .before .before .read-places .ensures (classesOf (c .before .before .before .before .before .before .before .before .before .before .before .before .before .before .before .before .before .before .before .before .pre .tables)) _ _ _ (places-of (c .before .before .before .before .before .before .before .before .before .before .before .before .before .before .before .before .before .before .before .before .pre .planned))) (none-refused (c .before .before .before .before .before .before .before .before .before .read-places .result) (c .before .before .before .before .before .before .refused-place .ensures) (c .before .before .before .before .enum-told .given .1)) (again _ (c .before .before .before .before .before .before .before .before .before .before .before .before .before .before .before .before .before .before .before .before .args .labels .now) _ (c .before .before .before .before .before .before .before .before .before .before .before .before .before .before .before .before .before .before .before .before .pre .fits .labelsFit) (c .before .before .before .before .before .before .before .before .before .read-places .kept .1 .1 .1 .1 .1 .0)))
+read-frame-requires c κs = (_, _, _, _, frame-of (c .before .before .before .before .before .before .before .before .before .before .before .before .before .before .before .before .before .before .before .before .pre .planned) (c .before .before .before .before .before .before .before .before .before .read-places .ensures (classesOf (c .before .before .before .before .before .before .before .before .before .before .before .before .before .before .before .before .before .before .before .before .pre .tables)) _ _ _ (places-of (c .before .before .before .before .before .before .before .before .before .before .before .before .before .before .before .before .before .before .before .before .pre .planned))) (c .before .before .before .before .before .t2 .given .1) (again _ (c .before .before .before .before .before .before .before .before .before .before .before .before .before .before .before .before .before .before .before .before .args .labels .now) _ (c .before .before .before .before .before .before .before .before .before .before .before .before .before .before .before .before .before .before .before .before .pre .fits .labelsFit) (c .before .before .before .before .before .before .before .before .before .read-places .kept .1 .1 .1 .1 .1 .0)))
 
 enum-known-broken : tie.Need-enum-known-broken
 enum-known-broken c = search needs
@@ -68,13 +64,13 @@ same-length-3 : tie.Need-same-length-3
 same-length-3 c = search needs
 
 returns-2 : tie.Need-returns-2
-returns-2 c = λ T s. pair-refused s (c .before .before .before .before .before .before .before .before .before .before .before .before .before .before .before .before .before .read-places .ensures (classesOf T) _ _ _ (places-of s)) (none-refused (c .before .before .before .before .before .before .before .before .before .before .before .before .before .before .before .before .before .read-places .result) (c .before .before .before .before .before .before .before .before .before .before .before .before .before .before .refused-place .ensures) (c .before .before .before .before .before .before .before .before .before .before .before .before .enum-told .given .1)) (c .before .before .before .before .before .before .before .read-frame .ensures (classesOf T) _ _ _ (frame-of s (c .before .before .before .before .before .before .before .before .before .before .before .before .before .before .before .before .before .read-places .ensures (classesOf T) _ _ _ (places-of s)) (none-refused (c .before .before .before .before .before .before .before .before .before .before .before .before .before .before .before .before .before .read-places .result) (c .before .before .before .before .before .before .before .before .before .before .before .before .before .before .refused-place .ensures) (c .before .before .before .before .before .before .before .before .before .before .before .before .enum-told .given .1)) (again _ (c .before .before .before .before .before .before .before .before .before .before .before .before .before .before .before .before .before .before .before .before .before .before .before .before .before .before .before .before .args .labels .now) _ (c .before .before .before .before .before .before .before .before .before .before .before .before .before .before .before .before .before .before .before .before .before .before .before .before .before .before .before .before .pre .fits .labelsFit) (c .before .before .before .before .before .before .before .before .before .before .before .before .before .before .before .before .before .read-places .kept .1 .1 .1 .1 .1 .0)))) (c .before .broken .given .1)
+returns-2 c = λ T s. pair-refused s (c .before .before .before .before .before .before .before .before .before .before .before .before .before .before .before .before .before .read-places .ensures (classesOf T) _ _ _ (places-of s)) (c .before .before .before .before .before .before .before .before .before .before .before .before .before .t2 .given .1) (c .before .before .before .before .before .before .before .read-frame .ensures (classesOf T) _ _ _ (frame-of s (c .before .before .before .before .before .before .before .before .before .before .before .before .before .before .before .before .before .read-places .ensures (classesOf T) _ _ _ (places-of s)) (c .before .before .before .before .before .before .before .before .before .before .before .before .before .t2 .given .1) (again _ (c .before .before .before .before .before .before .before .before .before .before .before .before .before .before .before .before .before .before .before .before .before .before .before .before .before .before .before .before .args .labels .now) _ (c .before .before .before .before .before .before .before .before .before .before .before .before .before .before .before .before .before .before .before .before .before .before .before .before .before .before .before .before .pre .fits .labelsFit) (c .before .before .before .before .before .before .before .before .before .before .before .before .before .before .before .before .before .read-places .kept .1 .1 .1 .1 .1 .0)))) (c .before .broken .given .1)
 
-enum-told-2 : tie.Need-enum-told-2
-enum-told-2 c = search needs
+enum-told : tie.Need-enum-told
+enum-told c = search needs
 
 copy-requires : tie.Need-copy-requires
-copy-requires c κs = frame-fits (c .before .before .before .before .before .before .before .before .before .before .before .before .before .before .before .before .before .before .before .before .before .before .before .before .before .before .before .before .before .pre .planned) (c .before .before .before .before .before .before .before .before .before .before .before .before .before .before .before .before .before .before .read-places .ensures (classesOf (c .before .before .before .before .before .before .before .before .before .before .before .before .before .before .before .before .before .before .before .before .before .before .before .before .before .before .before .before .before .pre .tables)) _ _ _ (places-of (c .before .before .before .before .before .before .before .before .before .before .before .before .before .before .before .before .before .before .before .before .before .before .before .before .before .before .before .before .before .pre .planned))) (none-refused (c .before .before .before .before .before .before .before .before .before .before .before .before .before .before .before .before .before .before .read-places .result) (c .before .before .before .before .before .before .before .before .before .before .before .before .before .before .before .refused-place .ensures) (c .before .before .before .before .before .before .before .before .before .before .before .before .before .enum-told .given .1)) (c .before .before .before .before .before .before .before .before .read-frame .ensures (classesOf (c .before .before .before .before .before .before .before .before .before .before .before .before .before .before .before .before .before .before .before .before .before .before .before .before .before .before .before .before .before .pre .tables)) _ _ _ (frame-of (c .before .before .before .before .before .before .before .before .before .before .before .before .before .before .before .before .before .before .before .before .before .before .before .before .before .before .before .before .before .pre .planned) (c .before .before .before .before .before .before .before .before .before .before .before .before .before .before .before .before .before .before .read-places .ensures (classesOf (c .before .before .before .before .before .before .before .before .before .before .before .before .before .before .before .before .before .before .before .before .before .before .before .before .before .before .before .before .before .pre .tables)) _ _ _ (places-of (c .before .before .before .before .before .before .before .before .before .before .before .before .before .before .before .before .before .before .before .before .before .before .before .before .before .before .before .before .before .pre .planned))) (none-refused (c .before .before .before .before .before .before .before .before .before .before .before .before .before .before .before .before .before .before .read-places .result) (c .before .before .before .before .before .before .before .before .before .before .before .before .before .before .before .refused-place .ensures) (c .before .before .before .before .before .before .before .before .before .before .before .before .before .enum-told .given .1)) (again _ (c .before .before .before .before .before .before .before .before .before .before .before .before .before .before .before .before .before .before .before .before .before .before .before .before .before .before .before .before .before .args .labels .now) _ (c .before .before .before .before .before .before .before .before .before .before .before .before .before .before .before .before .before .before .before .before .before .before .before .before .before .before .before .before .before .pre .fits .labelsFit) (c .before .before .before .before .before .before .before .before .before .before .before .before .before .before .before .before .before .before .read-places .kept .1 .1 .1 .1 .1 .0)))) (c .before .before .before .before .before .before .before .before .read-frame .kept .1 .1 .1 .1 .1 .0)
+copy-requires c κs = frame-fits (c .before .before .before .before .before .before .before .before .before .before .before .before .before .before .before .before .before .before .before .before .before .before .before .before .before .before .before .before .before .pre .planned) (c .before .before .before .before .before .before .before .before .before .before .before .before .before .before .before .before .before .before .read-places .ensures (classesOf (c .before .before .before .before .before .before .before .before .before .before .before .before .before .before .before .before .before .before .before .before .before .before .before .before .before .before .before .before .before .pre .tables)) _ _ _ (places-of (c .before .before .before .before .before .before .before .before .before .before .before .before .before .before .before .before .before .before .before .before .before .before .before .before .before .before .before .before .before .pre .planned))) (c .before .before .before .before .before .before .before .before .before .before .before .before .before .before .t2 .given .1) (c .before .before .before .before .before .before .before .before .read-frame .ensures (classesOf (c .before .before .before .before .before .before .before .before .before .before .before .before .before .before .before .before .before .before .before .before .before .before .before .before .before .before .before .before .before .pre .tables)) _ _ _ (frame-of (c .before .before .before .before .before .before .before .before .before .before .before .before .before .before .before .before .before .before .before .before .before .before .before .before .before .before .before .before .before .pre .planned) (c .before .before .before .before .before .before .before .before .before .before .before .before .before .before .before .before .before .before .read-places .ensures (classesOf (c .before .before .before .before .before .before .before .before .before .before .before .before .before .before .before .before .before .before .before .before .before .before .before .before .before .before .before .before .before .pre .tables)) _ _ _ (places-of (c .before .before .before .before .before .before .before .before .before .before .before .before .before .before .before .before .before .before .before .before .before .before .before .before .before .before .before .before .before .pre .planned))) (c .before .before .before .before .before .before .before .before .before .before .before .before .before .before .t2 .given .1) (again _ (c .before .before .before .before .before .before .before .before .before .before .before .before .before .before .before .before .before .before .before .before .before .before .before .before .before .before .before .before .before .args .labels .now) _ (c .before .before .before .before .before .before .before .before .before .before .before .before .before .before .before .before .before .before .before .before .before .before .before .before .before .before .before .before .before .pre .fits .labelsFit) (c .before .before .before .before .before .before .before .before .before .before .before .before .before .before .before .before .before .before .read-places .kept .1 .1 .1 .1 .1 .0)))) (c .before .before .before .before .before .before .before .before .read-frame .kept .1 .1 .1 .1 .1 .0)
 
 same-length-4 : tie.Need-same-length-4
 same-length-4 c = search needs
@@ -86,7 +82,7 @@ same-length-6 : tie.Need-same-length-6
 same-length-6 c = search needs
 
 returns-3 : tie.Need-returns-3
-returns-3 c = λ T s. frame-read s (c .before .before .before .before .before .before .before .before .before .before .before .before .before .before .before .before .before .before .before .before .before .read-places .ensures (classesOf T) _ _ _ (places-of s)) (none-refused (c .before .before .before .before .before .before .before .before .before .before .before .before .before .before .before .before .before .before .before .before .before .read-places .result) (c .before .before .before .before .before .before .before .before .before .before .before .before .before .before .before .before .before .before .refused-place .ensures) (c .before .before .before .before .before .before .before .before .before .before .before .before .before .before .before .before .enum-told .given .1)) (c .before .before .before .before .before .before .before .before .before .before .before .read-frame .ensures (classesOf T) _ _ _ (frame-of s (c .before .before .before .before .before .before .before .before .before .before .before .before .before .before .before .before .before .before .before .before .before .read-places .ensures (classesOf T) _ _ _ (places-of s)) (none-refused (c .before .before .before .before .before .before .before .before .before .before .before .before .before .before .before .before .before .before .before .before .before .read-places .result) (c .before .before .before .before .before .before .before .before .before .before .before .before .before .before .before .before .before .before .refused-place .ensures) (c .before .before .before .before .before .before .before .before .before .before .before .before .before .before .before .before .enum-told .given .1)) (again _ (c .before .before .before .before .before .before .before .before .before .before .before .before .before .before .before .before .before .before .before .before .before .before .before .before .before .before .before .before .before .before .before .before .args .labels .now) _ (c .before .before .before .before .before .before .before .before .before .before .before .before .before .before .before .before .before .before .before .before .before .before .before .before .before .before .before .before .before .before .before .before .pre .fits .labelsFit) (c .before .before .before .before .before .before .before .before .before .before .before .before .before .before .before .before .before .before .before .before .before .read-places .kept .1 .1 .1 .1 .1 .0)))) (c .before .before .before .before .before .before .before .before .before .before .before .read-frame .kept .1 .1 .1 .1 .1 .0) (c .before .before .before .before .before .enum-told2 .given .1) (λ k i. omega (arith, c .before .before .before .before .before .before .before .slice-known6 .given k)) (c .before .before .copy .last .1 .0) (c .before .before .copy .ensures)
+returns-3 c = λ T s. frame-read s (c .before .before .before .before .before .before .before .before .before .before .before .before .before .before .before .before .before .before .before .before .before .read-places .ensures (classesOf T) _ _ _ (places-of s)) (c .before .before .before .before .before .before .before .before .before .before .before .before .before .before .before .before .before .t2 .given .1) (c .before .before .before .before .before .before .before .before .before .before .before .read-frame .ensures (classesOf T) _ _ _ (frame-of s (c .before .before .before .before .before .before .before .before .before .before .before .before .before .before .before .before .before .before .before .before .before .read-places .ensures (classesOf T) _ _ _ (places-of s)) (c .before .before .before .before .before .before .before .before .before .before .before .before .before .before .before .before .before .t2 .given .1) (again _ (c .before .before .before .before .before .before .before .before .before .before .before .before .before .before .before .before .before .before .before .before .before .before .before .before .before .before .before .before .before .before .before .before .args .labels .now) _ (c .before .before .before .before .before .before .before .before .before .before .before .before .before .before .before .before .before .before .before .before .before .before .before .before .before .before .before .before .before .before .before .before .pre .fits .labelsFit) (c .before .before .before .before .before .before .before .before .before .before .before .before .before .before .before .before .before .before .before .before .before .read-places .kept .1 .1 .1 .1 .1 .0)))) (c .before .before .before .before .before .before .before .before .before .before .before .read-frame .kept .1 .1 .1 .1 .1 .0) (c .before .before .before .before .before .enum-told .given .1) (λ k i. omega (arith, c .before .before .before .before .before .before .before .slice-known6 .given k)) (c .before .before .copy .last .1 .0) (c .before .before .copy .ensures)
 
 pub read-symbol-spec : {M : Type 1} → statement M
 read-symbol-spec =
@@ -97,11 +93,10 @@ read-symbol-spec =
     slice-relend-prefix-read-places
     slice-aggregate-read-places-3
     read-places-requires
-    refused-place-requires
-    enum-known-refused
+    enum-known-t
     same-length
     returns
-    enum-told
+    enum-known-t-2
     slice-aggregate-read-frame
     slice-aggregate-read-frame-2
     slice-relend-prefix-read-frame
@@ -111,7 +106,7 @@ read-symbol-spec =
     same-length-2
     same-length-3
     returns-2
-    enum-told-2
+    enum-told
     copy-requires
     same-length-4
     same-length-5
