@@ -18,7 +18,7 @@ use Rattle.g9932.specs.declared.Checked.the-variants.{Refused}
 use Rattle.g9932.specs.declared.Answer.{Answer}
 use Rattle.g9932.specs.declared.Answer.the-variants.{Done, Refused as NotDone}
 use Rattle.g9932.proofs.Accepted.{accepted-tables}
-use Rattle.symbol.specs.ReadSymbol.{ReadsPoints}
+use Rattle.passes.specs.ReadSymbol.{ReadsPoints}
 use Rattle.g9932.proofs.Verdicts.{test-past, test-none, and-refused, and-accepted, done-refused, done-accepted, report-refused, report-done}
 
 -- ---- ROOM of two lists

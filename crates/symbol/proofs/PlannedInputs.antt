@@ -16,7 +16,8 @@ use Rattle.plan.specs.Plan.{plannedVerdict, PlanIs, Plans, Arrays}
 use Rattle.plan.specs.declared.Planned.{Planned}
 use Rattle.plan.specs.declared.Planned.the-variants.{Ready, Refused}
 use Rattle.plan.specs.declared.Sizes.{Sizes}
-use Rattle.symbol.specs.Inputs.{afterPlan, ChecksInputs, PlanFits}
+use Rattle.symbol.specs.Inputs.{afterPlan, ChecksInputs}
+use Rattle.passes.specs.PlanFits.{PlanFits}
 use Rattle.symbol.proofs.TablePlan.{tones-most}
 
 -- ---- checking the inputs: the tables were refused, or they are, or nothing is

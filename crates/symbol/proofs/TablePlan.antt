@@ -23,10 +23,10 @@ use Rattle.plan.proofs.Classes.{plan-of}
 use Rattle.plan.specs.Classes.{PlanOf}
 use Rattle.plan.specs.Plan.{leastOwn, sharing, PlanIs}
 use Rattle.plan.specs.declared.Sizes.{Sizes}
-use Rattle.symbol.specs.ReadSymbol.{FrameRoom, readingBy}
-use Rattle.symbol.specs.WriteSymbol.{LabelFrameNeeds, sentFor}
+use Rattle.passes.specs.ReadSymbol.{FrameRoom, readingBy}
+use Rattle.passes.specs.WriteSymbol.{LabelFrameNeeds, sentFor}
 use Rattle.trellis.specs.Coding.{FrameNeeds}
-use Rattle.symbol.proofs.PlanLabels.{plan-placed}
+use Rattle.passes.proofs.PlanLabels.{plan-placed}
 
 -- ---- uncoded: the entries are the counts that are not 0
 

@@ -1,16 +1,13 @@
 -- A whole symbol from the plan of accepted tables: what writing and reading ask, and what they find.
-use Prim.Native.Nat.{ℕ, _≤_}
+use Prim.Native.Nat.{ℕ}
 use mathlib.Core.Bool.{false}
-use mathlib.Core.List.{List, _++_}
+use mathlib.Core.List.{List}
 use mathlib.Core.Path.{_≡_, refl, sym, ap, _∙_}
-use native.Mathlib.Omega.{arith}
 use lib.IntN.{ℤ}
-use lib.ListN.{length, take, drop}
-use lib.Seq.{length-take-le, take-at}
-use Rattle.frame.specs.Written.{Framed}
+use lib.ListN.{length, take}
+use lib.Seq.{length-take-le}
 use Rattle.g9932.proofs.Accepted.{accepted-tables}
 use Rattle.g9932.proofs.Formed.{formed-ok}
-use Rattle.g9932.proofs.Packed.{Bytes}
 use Rattle.g9932.proofs.Pairs.{length-read}
 use Rattle.g9932.proofs.Search.{first-no, found-not}
 use Rattle.g9932.proofs.Symbols.{length-gather}
@@ -18,32 +15,26 @@ use Rattle.g9932.specs.Answers.{breakIn, frameIn, encodeInputs, readInputs, Enc
 use Rattle.g9932.specs.Bits.{first}
 use Rattle.g9932.specs.Order.{sum, bitsOf}
 use Rattle.g9932.specs.Refusals.{tableVerdict, frameTest}
-use Rattle.g9932.specs.Sizes.{Tables, Point, points, bytesFor, pack, mostTones}
-use Rattle.g9932.specs.Symbol.{classesOf, pairsIn, sizeOf, offgridTest, gatherBits, readingIn, sentIn, writtenPoints}
+use Rattle.g9932.specs.Sizes.{Tables, Point, bytesFor, mostTones}
+use Rattle.g9932.specs.Symbol.{classesOf, pairsIn, sizeOf, offgridTest, gatherBits, readingIn, writtenPoints}
 use Rattle.g9932.specs.Trellis.{Reading, frame, breaks, zeroState, readPairs, readingOf}
 use Rattle.g9932.specs.declared.Answer.{Answer}
 use Rattle.g9932.specs.declared.Answer.the-variants.{Done, Refused as NotDone}
-use Rattle.g9932.specs.declared.Found.{Found}
-use Rattle.g9932.specs.declared.Found.the-variants.{At, Nothing}
+use Rattle.g9932.specs.declared.Found.the-variants.{Nothing}
 use Rattle.g9932.specs.declared.Mode.{Mode}
 use Rattle.g9932.specs.declared.Mode.the-variants.{Uncoded, Coded}
 use Rattle.g9932.specs.declared.Refusal.{Refusal}
-use Rattle.g9932.specs.declared.Refusal.the-variants.{Trellis}
-use Rattle.g9932.proofs.PointLists.{length-points}
 use Rattle.g9932.proofs.Sent.{length-classes}
 use Rattle.g9932.proofs.Sent.{loads-sum, size-uncoded}
 use Rattle.plan.specs.Plan.{plannedVerdict, PlanIs, Arrays}
 use Rattle.plan.specs.declared.Planned.{Planned}
 use Rattle.plan.specs.declared.Planned.the-variants.{Refused}
 use Rattle.plan.specs.declared.Sizes.{Sizes}
-use Rattle.symbol.specs.Inputs.{ChecksInputs, PlanFits}
-use Rattle.symbol.specs.ReadSymbol.{ReadOf, ReadBy, ReadNeeds, ReadsSymbol, PlacesOf, PlacesDone, PlacesBy, ReadsPlaces, FrameOf, ReadsFrame, ReadsPoints}
-use Rattle.symbol.specs.WriteSymbol.{Labels, PointsOf, SymbolOf, SymbolBy, SymbolNeeds, WritesSymbol, sentFor}
-use Rattle.symbol.specs.declared.reading.PlacesRead.{PlacesRead}
-use Rattle.symbol.specs.declared.reading.PlacesRead.the-variants.{Refused as PlaceRefused, Done as PlacesPass}
+use Rattle.symbol.specs.Inputs.{ChecksInputs}
+use Rattle.passes.specs.ReadSymbol.{ReadOf, ReadBy, ReadNeeds, ReadsSymbol}
+use Rattle.passes.specs.WriteSymbol.{SymbolOf, SymbolBy, SymbolNeeds, WritesSymbol}
 use Rattle.symbol.proofs.Answers.{size-is, inputs-encoded, inputs-read, encode-tables, encode-inputs, encode-done, read-tables, read-inputs, read-points}
 use Rattle.symbol.proofs.PlannedInputs.{refused-answer, Passed, accepts, lists-fit}
-use Rattle.symbol.proofs.Points.{framed-bytes, points-refused, points-by, break-found, points-done}
 use Rattle.symbol.proofs.TablePlan.{the-plan, label-needs, sent-is, frame-room, reading-is}
 
 -- ---- from the tables' plan
@@ -146,68 +137,3 @@ pub read-refused : {T : Tables} {xs ys : List ℤ} {r : ℕ} {f : List ℕ} {pla
     → ChecksInputs (λ size. readInputs size (length (T .tones)) (length xs) (length ys) (length f) r) planned q → q ≡ Refused x → Reads T xs ys r f (NotDone x r) f
 read-refused {T} {xs} {ys} {r} {f} {x = x} t c e =
     refused-answer T _ _ t c e (Reads T xs ys r f (NotDone x r) f) (read-tables T xs ys r f x) (λ l ok. read-inputs T xs ys r f ok x)
-
--- ---- the labels by place, written back over the front of their array
-
-module _ (part l : List ℕ) (n : ℕ) (h : n ≤ length l) (e : length part ≡ length (take n l)) where
-  pub again : take n (part ++ drop n l) ≡ part
-  again = take-at part (drop n l) n (e ∙ length-take-le n l h)
-
-  pub again-length : n ≡ length (take n (part ++ drop n l))
-  again-length = sym (ap length again ∙ e ∙ length-take-le n l h)
-
--- ---- writing
-
-pub points-of : {T : Tables} {m : Mode} {from : ℕ} {f es ps ms layouts labels after sliced : List ℕ} {xs ys : List ℤ} → SymbolOf T m from f es ps ms layouts labels xs ys
-    → length after ≡ length labels → sliced ≡ after → Labels (sentFor m f 0 es) es ps after → PointsOf (classesOf T) (sentIn T f) from es ps ms layouts sliced xs ys
-points-of s n is l =
-    rw is
-    (record {
-      plan = s .plan;
-      labelled = rw (s .sent) at l;
-      labelsLength = n ∙ s .labelsLength;
-      xsLength = s .xsLength;
-      ysLength = s .ysLength;
-    })
-
--- ---- reading
-
-module _ {T : Tables} {m : Mode} {from size : ℕ} {es ps ms layouts labels held f : List ℕ} {xs ys : List ℤ} (s : ReadOf T m from size es ps ms layouts xs ys labels held f) where
-  pub places-of : PlacesOf (classesOf T) from es ps ms layouts labels xs ys
-  places-of = record { plan = s .plan; labelsLength = s .labelsLength; xsLength = s .xsLength; ysLength = s .ysLength }
-
-  module _ {r : ℕ} {t : PlacesRead} {after : List ℕ} (d : ReadsPlaces (classesOf T) r (points xs ys) t after) where
-    -- 13 or 14
-    pub place-refused : {x : Refusal} → t ≡ PlaceRefused x → ReadsPoints T (points xs ys) r f (NotDone x r) f
-    place-refused {x} e =
-        let by : PlacesBy (classesOf T) r (points xs ys) (PlaceRefused x) after = rw e at (d .answer) in
-        points-refused T _ _ _ x (by _ ∙ points-by T (points xs ys) r (s .tonesAre))
-
-    module _ {k : ℕ} (e : t ≡ PlacesPass k) where
-      done : PlacesDone (classesOf T) r (points xs ys) k after
-      done = rw e at (d .answer)
-
-      pub frame-of : {sliced : List ℕ} → sliced ≡ after → FrameOf m (classesOf T) (gatherBits (classesOf T) (points xs ys)) from es ps ms layouts sliced held
-      frame-of is = rw is (record { plan = s .plan; labelled = done .labelsAre; room = s .room })
-
-      module _ {b : Found} {stored : List ℕ} (reads : ReadsFrame m es (gatherBits (classesOf T) (points xs ys)) b stored) where
-        breaks-at : b ≡ breakIn (readingIn T (points xs ys))
-        breaks-at = reads .brokenIs ∙ ap breakIn (s .readings (points xs ys))
-
-        -- 15
-        pub pair-refused : {j : ℕ} → b ≡ At j → ReadsPoints T (points xs ys) r f (NotDone (Trellis j) r) f
-        pair-refused {j} e = points-refused T _ _ _ _ (break-found T _ _ (s .tonesAre) done j (sym breaks-at ∙ e))
-
-        module _ (same : length stored ≡ length held) where
-          pub frame-fits : length f ≤ length stored
-          frame-fits = omega (arith, s .frameLength, s .heldLength, s .sizeMost)
-
-          pub frame-read : b ≡ Nothing → Bytes stored → (out : List ℕ) → out ≡ take (length f) stored → ReadsPoints T (points xs ys) r f (Done size k) out
-          frame-read whole bytes out o =
-              let q : List Point = points xs ys in
-              let framed : Framed (frameIn (readingIn T q)) stored = rw (s .readings q) at (reads .framed whole) in
-              let nq : length q ≡ length (classesOf T) = length-points xs ys (s .xsLength ∙ sym (s .ysLength)) ∙ s .xsLength in
-              let broken : breakIn (readingIn T q) ≡ Nothing = sym breaks-at ∙ whole in
-              let on : first (offgridTest (classesOf T) q) (length (T .tones)) ≡ Nothing = rw (s .tonesAre) at (done .onGrid) in
-              let n : length f ≡ bytesFor (length (frameIn (readingIn T q))) = s .frameLength ∙ ap bytesFor (sym (s .whole q on nq broken)) in
-              points-done T _ _ (s .tonesAre) done size (s .sizeIs) broken f out (o ∙ framed-bytes (frameIn (readingIn T q)) stored (length f) n frame-fits framed bytes)

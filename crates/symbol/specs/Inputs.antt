@@ -1,8 +1,6 @@
--- Between the plan of the tables and a symbol: the refusals of the other inputs, and the lists of the plan in their arrays.
-use Prim.Native.Nat.{ℕ, _≤_}
-use mathlib.Core.List.{List}
+-- The refusals of the inputs besides the tables, after those of the tables.
+use Prim.Native.Nat.{ℕ}
 use mathlib.Core.Path.{_≡_}
-use lib.ListN.{length}
 use Rattle.g9932.specs.Refusals.{numberOf, placeOf, Verdict, refused}
 use Rattle.plan.specs.Plan.{plannedVerdict}
 use Rattle.plan.specs.declared.Planned.{Planned}
@@ -18,11 +16,3 @@ afterPlan v (Refused x) = refused (numberOf x) (placeOf x)
 pub record ChecksInputs (v : ℕ → Verdict) (planned r : Planned) : Type 0 where
   pub answer : plannedVerdict r ≡ afterPlan v planned
   pub passed : (p : Sizes) → r ≡ Ready p → planned ≡ Ready p
-
--- the lists of a plan for n tones, and the labels by place, stand within their arrays
-pub record PlanFits (p : Sizes) (n : ℕ) (layouts entries places monitored labels : List ℕ) : Type 0 where
-  pub layoutsFit : n ≤ length layouts
-  pub entriesFit : p .entries ≤ length entries
-  pub placesFit : p .entries ≤ length places
-  pub monitoredFit : p .monitored ≤ length monitored
-  pub labelsFit : n ≤ length labels

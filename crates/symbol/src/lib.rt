@@ -42,7 +42,7 @@ pub fn encode(
     match checked {
         Planned::Refused(refusal) => Answer::Refused { refusal, register },
         Planned::Ready(p) => {
-            let after = encoding::write_symbol(
+            let after = passes::write::write_symbol(
                 mode,
                 p,
                 n,
@@ -100,7 +100,7 @@ pub fn read(
     match checked {
         Planned::Refused(refusal) => Answer::Refused { refusal, register },
         Planned::Ready(p) => {
-            reading::read_symbol(
+            passes::read::read_symbol(
                 mode,
                 p,
                 n,

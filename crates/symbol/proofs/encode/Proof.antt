@@ -5,11 +5,6 @@ use lib.ListN.{replicate}
 use borrow.Author.Needs.{needs}
 use Rattle.symbol.proofs.encode.Statement.{statement}
 use Rattle.symbol.proofs.encode.Tie as tie
-use Rattle.symbol.proofs.encode.Reads as reads
-use Rattle.symbol.proofs.encode.Lts as lts
-use Rattle.plan.proofs.plan_tables.Reads as plan-tables-reads
-use Rattle.symbol.proofs.encoding.check_inputs.Reads as check-inputs-reads
-use Rattle.symbol.proofs.encoding.write_symbol.Reads as write-symbol-reads
 
 slice-aggregate-plan-tables : tie.Need-slice-aggregate-plan-tables
 slice-aggregate-plan-tables c = search needs

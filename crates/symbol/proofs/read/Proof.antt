@@ -5,11 +5,6 @@ use lib.ListN.{replicate}
 use borrow.Author.Needs.{needs}
 use Rattle.symbol.proofs.read.Statement.{statement}
 use Rattle.symbol.proofs.read.Tie as tie
-use Rattle.symbol.proofs.read.Reads as reads
-use Rattle.symbol.proofs.read.Lts as lts
-use Rattle.plan.proofs.plan_tables.Reads as plan-tables-reads
-use Rattle.symbol.proofs.reading.check_inputs.Reads as check-inputs-reads
-use Rattle.symbol.proofs.reading.read_symbol.Reads as read-symbol-reads
 
 slice-aggregate-plan-tables : tie.Need-slice-aggregate-plan-tables
 slice-aggregate-plan-tables c = search needs

@@ -6,10 +6,6 @@ use mathlib.Core.Path.{refl, sym, _∙_}
 use borrow.Author.Needs.{needs}
 use Rattle.symbol.proofs.encoding.check_inputs.Statement.{statement}
 use Rattle.symbol.proofs.encoding.check_inputs.Tie as tie
-use Rattle.symbol.proofs.encoding.check_inputs.Reads as reads
-use Rattle.symbol.proofs.encoding.check_inputs.Lts as lts
-use Rattle.frame.proofs.frame_refused.Reads as frame-refused-reads
-use Rattle.prbs.proofs.seed_refused.Reads as seed-refused-reads
 
 enum-known-planned : tie.Need-enum-known-planned
 enum-known-planned c = search needs

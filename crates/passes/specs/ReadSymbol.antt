@@ -23,9 +23,9 @@ use Rattle.g9932.specs.declared.Mode.{Mode}
 use Rattle.g9932.specs.declared.Mode.the-variants.{Uncoded, Coded}
 use Rattle.plan.specs.Classes.{PlanOf}
 use Rattle.plan.specs.declared.Sizes.{Sizes}
-use Rattle.symbol.specs.Inputs.{PlanFits}
-use Rattle.symbol.specs.declared.reading.PlacesRead.{PlacesRead}
-use Rattle.symbol.specs.declared.reading.PlacesRead.the-variants.{Refused, Done}
+use Rattle.passes.specs.PlanFits.{PlanFits}
+use Rattle.passes.specs.declared.read.PlacesRead.{PlacesRead}
+use Rattle.passes.specs.declared.read.PlacesRead.the-variants.{Refused, Done}
 use Rattle.trellis.specs.Coding.{Wide}
 
 -- ---- the places

@@ -18,7 +18,7 @@ use Rattle.g9932.specs.declared.Answer.the-variants.{Done, Refused as NotDone}
 use Rattle.g9932.specs.declared.Found.the-variants.{At, Nothing}
 use Rattle.g9932.proofs.Packed.{Bytes, take-unpack, pack-frame}
 use Rattle.g9932.proofs.Verdicts.{found-here, found-past, done-refused, done-accepted, report-refused, report-done}
-use Rattle.symbol.specs.ReadSymbol.{placesVerdict, PlacesDone, ReadsPoints}
+use Rattle.passes.specs.ReadSymbol.{placesVerdict, PlacesDone, ReadsPoints}
 
 -- a buffer that begins with a frame has its bytes in front
 pub framed-bytes : (x : List Bool) (buffer : List ℕ) (n : ℕ) → n ≡ bytesFor (length x) → n ≤ length buffer → Framed x buffer → Bytes buffer → take n buffer ≡ pack x

@@ -31,16 +31,16 @@ use Rattle.g9932.specs.declared.Mode.{Mode}
 use Rattle.g9932.specs.declared.Mode.the-variants.{Uncoded, Coded}
 use Rattle.g9932.specs.declared.Place.{Place}
 use Rattle.g9932.specs.declared.Refusal.the-variants.{Offgrid, Monitor}
-use Rattle.mapper.specs.Reading.{pointAt, LabelNeeds, LabelIs, DemapsPoints, wrongFiller, ChecksFiller, JoinNeeds, CollectNeeds, CollectsLabels}
+use Rattle.mapper.specs.Reading.{LabelNeeds, LabelIs, DemapsPoints, wrongFiller, ChecksFiller, JoinNeeds, CollectNeeds, CollectsLabels}
 use Rattle.mapper.specs.Writing.{FillerNeeds}
 use Rattle.mapper.specs.declared.read.FillerRead.{FillerRead}
-use Rattle.symbol.specs.ReadSymbol.{PlacesOf, ReadsPlaces, FrameRoom, FrameOf, ReadsFrame}
-use Rattle.symbol.specs.declared.reading.PlacesRead.the-variants.{Refused, Done}
+use Rattle.passes.specs.ReadSymbol.{PlacesOf, ReadsPlaces, FrameRoom, FrameOf, ReadsFrame}
+use Rattle.passes.specs.declared.read.PlacesRead.the-variants.{Refused, Done}
 use Rattle.trellis.specs.Reading.{LabelNeeds as TrellisNeeds, readingOfAll, ReadsLabels}
 use Rattle.trellis.specs.declared.read.PairsRead.{PairsRead}
-use Rattle.symbol.proofs.FillerPlaces.{register-places, wrong-first}
-use Rattle.symbol.proofs.PlanLabels.{joined, joined-count, by-entry, joined-within, ones-small, plan-placed, where-inside, all-count}
-use Rattle.symbol.proofs.SymbolPoints.{class-at, load-at, tone-layout, offgrid-first, label-is, carried, label-small, tells-filler, gathered}
+use Rattle.passes.proofs.FillerPlaces.{register-places, wrong-first}
+use Rattle.passes.proofs.PlanLabels.{joined, joined-count, by-entry, joined-within, ones-small, plan-placed, where-inside, all-count}
+use Rattle.passes.proofs.SymbolPoints.{class-at, load-at, tone-layout, offgrid-first, label-is, carried, label-small, tells-filler, gathered}
 
 -- ---- the places
 

@@ -17,10 +17,10 @@ use Rattle.g9932.specs.declared.Class.{Class}
 use Rattle.g9932.specs.declared.Class.the-variants.{Silent}
 use Rattle.mapper.specs.Reading.{pointAt}
 use Rattle.mapper.specs.Writing.{FillerNeeds, withFiller, PutNeeds, PutsPoints}
-use Rattle.symbol.specs.WriteSymbol.{PointsOf, WritesPoints}
-use Rattle.symbol.proofs.FillerPlaces.{filled, filler-placed, register-places}
-use Rattle.symbol.proofs.PlanLabels.{split, split-count, by-place, split-within, where-inside, all-count}
-use Rattle.symbol.proofs.SymbolPoints.{class-at, load-at, write-at, mappable, mapped, lists-are}
+use Rattle.passes.specs.WriteSymbol.{PointsOf, WritesPoints}
+use Rattle.passes.proofs.FillerPlaces.{filled, filler-placed, register-places}
+use Rattle.passes.proofs.PlanLabels.{split, split-count, by-place, split-within, where-inside, all-count}
+use Rattle.passes.proofs.SymbolPoints.{class-at, load-at, write-at, mappable, mapped, lists-are}
 
 length-filler : (r : ℕ) (ms ls : List ℕ) → length (withFiller r ms ls) ≡ length ls
 length-filler r [] ls = refl

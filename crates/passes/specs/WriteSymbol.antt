@@ -17,7 +17,7 @@ use Rattle.g9932.specs.declared.Mode.the-variants.{Uncoded, Coded}
 use Rattle.mapper.specs.Writing.{CutNeeds}
 use Rattle.plan.specs.Classes.{PlanOf}
 use Rattle.plan.specs.declared.Sizes.{Sizes}
-use Rattle.symbol.specs.Inputs.{PlanFits}
+use Rattle.passes.specs.PlanFits.{PlanFits}
 use Rattle.trellis.specs.Coding.{FrameNeeds}
 
 -- ---- the labels of a frame

@@ -1,10 +1,10 @@
 -- `symbol::reading::read_frame` meets its contract: shared labels joined, then collected, or read by the trellis code.
 use native.Mathlib.Omega.{arith}
-use Rattle.symbol.proofs.ReadPlaces.{join-needs, collect-needs, trellis-needs, collected, broken-found, none-broken, broken-room, collect-room}
+use Rattle.passes.proofs.ReadPlaces.{join-needs, collect-needs, trellis-needs, collected, broken-found, none-broken, broken-room, collect-room}
 use Rattle.frame.proofs.Stores.{finished}
 use borrow.Author.Needs.{needs}
-use Rattle.symbol.proofs.reading.read_frame.Statement.{statement}
-use Rattle.symbol.proofs.reading.read_frame.Tie as tie
+use Rattle.passes.proofs.read.read_frame.Statement.{statement}
+use Rattle.passes.proofs.read.read_frame.Tie as tie
 
 join-shared-requires : tie.Need-join-shared-requires
 join-shared-requires c κs = join-needs (c .before .before .before .before .before .pre .4)

@@ -1,9 +1,9 @@
 -- `symbol::encoding::write_points` meets its contract: shared labels split, filler bits set, and the points are those of the labels.
 use mathlib.Core.Path.{_∙_}
-use Rattle.symbol.proofs.WritePoints.{shared-inside, filler-needs, put-needs, written}
+use Rattle.passes.proofs.WritePoints.{shared-inside, filler-needs, put-needs, written}
 use borrow.Author.Needs.{needs}
-use Rattle.symbol.proofs.encoding.write_points.Statement.{statement}
-use Rattle.symbol.proofs.encoding.write_points.Tie as tie
+use Rattle.passes.proofs.write.write_points.Statement.{statement}
+use Rattle.passes.proofs.write.write_points.Tie as tie
 
 split-shared-requires : tie.Need-split-shared-requires
 split-shared-requires c κs = shared-inside (c .before .before .before .before .pre .4)

@@ -1,5 +1,5 @@
 -- The points of a symbol from the labels by place, and the labels from the points.
-use Prim.Native.Nat.{ℕ, zero, suc, _+_, _^_, _≤_, _<_}
+use Prim.Native.Nat.{ℕ, zero, suc, _^_, _≤_, _<_}
 use mathlib.Core.Bool.{Bool, true, false, not}
 use mathlib.Core.List.{List, [], _∷_, _++_, map}
 use mathlib.Core.Path.{_≡_, refl, sym, ap, _∙_}
@@ -26,8 +26,8 @@ use Rattle.g9932.specs.declared.Found.{Found}
 use Rattle.g9932.specs.declared.Found.the-variants.{At, Nothing}
 use Rattle.mapper.specs.Reading.{pointAt, LabelIs, OffAt}
 use Rattle.plan.specs.Plan.{Carries}
-use Rattle.symbol.proofs.FillerPlaces.{filled}
-use Rattle.symbol.proofs.OneTone.{label-read, filler-read}
+use Rattle.passes.proofs.FillerPlaces.{filled}
+use Rattle.passes.proofs.OneTone.{label-read, filler-read}
 
 -- ---- writing
 

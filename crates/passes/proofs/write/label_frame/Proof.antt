@@ -1,7 +1,7 @@
 -- `symbol::encoding::label_frame` meets its contract, by the mode.
 use borrow.Author.Needs.{needs}
-use Rattle.symbol.proofs.encoding.label_frame.Statement.{statement}
-use Rattle.symbol.proofs.encoding.label_frame.Tie as tie
+use Rattle.passes.proofs.write.label_frame.Statement.{statement}
+use Rattle.passes.proofs.write.label_frame.Tie as tie
 
 enum-told : tie.Need-enum-told
 enum-told c = search needs

@@ -1,12 +1,8 @@
-use Rattle.symbol.proofs.ReadPlaces.{demap-needs, filler-needs, off-found, filler-found, none-found}
+use Rattle.passes.proofs.ReadPlaces.{demap-needs, filler-needs, off-found, filler-found, none-found}
 use mathlib.Core.Path.{_∙_}
 use borrow.Author.Needs.{needs}
-use Rattle.symbol.proofs.reading.read_places.Statement.{statement}
-use Rattle.symbol.proofs.reading.read_places.Tie as tie
-use Rattle.symbol.proofs.reading.read_places.Reads as reads
-use Rattle.symbol.proofs.reading.read_places.Lts as lts
-use Rattle.mapper.proofs.read.check_filler.Reads as check-filler-reads
-use Rattle.mapper.proofs.read.demap_points.Reads as demap-points-reads
+use Rattle.passes.proofs.read.read_places.Statement.{statement}
+use Rattle.passes.proofs.read.read_places.Tie as tie
 
 demap-points-requires : tie.Need-demap-points-requires
 demap-points-requires c κs = demap-needs (c .before .before .before .before .pre .4)

@@ -1,14 +1,10 @@
-use Rattle.symbol.proofs.WholeSymbol.{again, again-length, points-of}
+use Rattle.passes.proofs.SymbolPasses.{again, again-length, points-of}
 use Rattle.g9932.specs.Symbol.{classesOf, sentIn}
 use lib.Seq.{length-take-le}
 use mathlib.Core.Path.{sym}
 use borrow.Author.Needs.{needs}
-use Rattle.symbol.proofs.encoding.write_symbol.Statement.{statement}
-use Rattle.symbol.proofs.encoding.write_symbol.Tie as tie
-use Rattle.symbol.proofs.encoding.write_symbol.Reads as reads
-use Rattle.symbol.proofs.encoding.write_symbol.Lts as lts
-use Rattle.symbol.proofs.encoding.label_frame.Reads as label-frame-reads
-use Rattle.symbol.proofs.encoding.write_points.Reads as write-points-reads
+use Rattle.passes.proofs.write.write_symbol.Statement.{statement}
+use Rattle.passes.proofs.write.write_symbol.Tie as tie
 
 slice-aggregate-label-frame : tie.Need-slice-aggregate-label-frame
 slice-aggregate-label-frame c = sym (length-take-le _ (c .before .before .before .before .before .before .before .args .entries .now) (c .before .before .before .before .before .before .before .pre .fits .entriesFit))

@@ -1,16 +1,11 @@
-use Rattle.symbol.proofs.WholeSymbol.{again, again-length, places-of, place-refused, frame-of, pair-refused, frame-fits, frame-read}
+use Rattle.passes.proofs.SymbolPasses.{again, again-length, places-of, place-refused, frame-of, pair-refused, frame-fits, frame-read}
 use Rattle.g9932.specs.Symbol.{classesOf}
 use lib.Seq.{length-take-le}
 use native.Mathlib.Omega.{arith}
 use mathlib.Core.Path.{sym}
 use borrow.Author.Needs.{needs}
-use Rattle.symbol.proofs.reading.read_symbol.Statement.{statement}
-use Rattle.symbol.proofs.reading.read_symbol.Tie as tie
-use Rattle.symbol.proofs.reading.read_symbol.Reads as reads
-use Rattle.symbol.proofs.reading.read_symbol.Lts as lts
-use Rattle.frame.proofs.copy.Reads as copy-reads
-use Rattle.symbol.proofs.reading.read_frame.Reads as read-frame-reads
-use Rattle.symbol.proofs.reading.read_places.Reads as read-places-reads
+use Rattle.passes.proofs.read.read_symbol.Statement.{statement}
+use Rattle.passes.proofs.read.read_symbol.Tie as tie
 
 slice-aggregate-read-places : tie.Need-slice-aggregate-read-places
 slice-aggregate-read-places c = sym (length-take-le _ (c .before .before .before .before .before .before .before .before .args .monitored .now) (c .before .before .before .before .before .before .before .before .pre .fits .monitoredFit))
