@@ -1,3 +1,4 @@
+-- `symbol::encode` meets its contract: refused by the tables or the other inputs, or the symbol written by the plan.
 use Rattle.symbol.proofs.WholeSymbol.{symbol-needs, encode-refused, encode-written}
 use Rattle.symbol.proofs.PlannedInputs.{passed}
 use mathlib.Core.Path.{refl}
@@ -46,10 +47,28 @@ slice-aggregate-write-symbol-5 : tie.Need-slice-aggregate-write-symbol-5
 slice-aggregate-write-symbol-5 c = search needs
 
 write-symbol-requires : tie.Need-write-symbol-requires
-write-symbol-requires c κs = symbol-needs (record { layoutsLength = c .before .before .before .before .before .before .before .before .before .before .before .before .before .before .before .plan-tables .kept .1 .1 .1 .1 .0; entriesLength = c .before .before .before .before .before .before .before .before .before .before .before .before .before .before .before .plan-tables .kept .1 .1 .1 .1 .1 .0; placesLength = c .before .before .before .before .before .before .before .before .before .before .before .before .before .before .before .plan-tables .kept .1 .1 .1 .1 .1 .1 .0; monitoredLength = c .before .before .before .before .before .before .before .before .before .before .before .before .before .before .before .plan-tables .kept .1 .1 .1 .1 .1 .1 .1 .0 }) (replicate 4096 0) refl (c .before .before .before .before .before .before .before .before .before .before .before .before .before .before .before .before .before .before .before .before .before .before .before .before .args .register) (passed (c .before .before .before .before .before .before .before .before .before .before .before .before .before .before .before .plan-tables .ensures) (c .before .before .before .before .before .before .before .before .before .before .check-inputs .ensures) (c .before .before .before .before .before .before .before .before .checked2 .given .1))
+write-symbol-requires c κs =
+    symbol-needs
+    (record {
+      layoutsLength = c .before .before .before .before .before .before .before .before .before .before .before .before .before .before .before .plan-tables .kept .1 .1 .1 .1 .0;
+      entriesLength = c .before .before .before .before .before .before .before .before .before .before .before .before .before .before .before .plan-tables .kept .1 .1 .1 .1 .1 .0;
+      placesLength = c .before .before .before .before .before .before .before .before .before .before .before .before .before .before .before .plan-tables .kept .1 .1 .1 .1 .1 .1 .0;
+      monitoredLength = c .before .before .before .before .before .before .before .before .before .before .before .before .before .before .before .plan-tables .kept .1 .1 .1 .1 .1 .1 .1 .0;
+    })
+    (replicate 4096 0)
+    refl
+    (c .before .before .before .before .before .before .before .before .before .before .before .before .before .before .before .before .before .before .before .before .before .before .before .before .args .register)
+    (passed
+    (c .before .before .before .before .before .before .before .before .before .before .before .before .before .before .before .plan-tables .ensures)
+    (c .before .before .before .before .before .before .before .before .before .before .check-inputs .ensures)
+    (c .before .before .before .before .before .before .before .before .checked2 .given .1))
 
 returns : tie.Need-returns
-returns c = encode-refused (c .before .before .before .before .before .before .before .before .plan-tables .ensures .answer) (c .before .before .before .check-inputs .ensures) (c .before .checked .given .1)
+returns c =
+    encode-refused
+    (c .before .before .before .before .before .before .before .before .plan-tables .ensures .answer)
+    (c .before .before .before .check-inputs .ensures)
+    (c .before .checked .given .1)
 
 same-length : tie.Need-same-length
 same-length c = search needs
@@ -58,7 +77,22 @@ same-length-2 : tie.Need-same-length-2
 same-length-2 c = search needs
 
 returns-2 : tie.Need-returns-2
-returns-2 c = encode-written (record { layoutsLength = c .before .before .before .before .before .before .before .before .before .before .before .before .before .before .before .before .before .before .before .plan-tables .kept .1 .1 .1 .1 .0; entriesLength = c .before .before .before .before .before .before .before .before .before .before .before .before .before .before .before .before .before .before .before .plan-tables .kept .1 .1 .1 .1 .1 .0; placesLength = c .before .before .before .before .before .before .before .before .before .before .before .before .before .before .before .before .before .before .before .plan-tables .kept .1 .1 .1 .1 .1 .1 .0; monitoredLength = c .before .before .before .before .before .before .before .before .before .before .before .before .before .before .before .before .before .before .before .plan-tables .kept .1 .1 .1 .1 .1 .1 .1 .0 }) (replicate 4096 0) refl (c .before .before .before .before .before .before .before .before .before .before .before .before .before .before .before .before .before .before .before .before .before .before .before .before .before .before .before .before .args .register) (passed (c .before .before .before .before .before .before .before .before .before .before .before .before .before .before .before .before .before .before .before .plan-tables .ensures) (c .before .before .before .before .before .before .before .before .before .before .before .before .before .before .check-inputs .ensures) (c .before .before .before .before .before .before .before .before .before .before .before .before .checked2 .given .1)) (c .before .before .before .write-symbol .ensures)
+returns-2 c =
+    encode-written
+    (record {
+      layoutsLength = c .before .before .before .before .before .before .before .before .before .before .before .before .before .before .before .before .before .before .before .plan-tables .kept .1 .1 .1 .1 .0;
+      entriesLength = c .before .before .before .before .before .before .before .before .before .before .before .before .before .before .before .before .before .before .before .plan-tables .kept .1 .1 .1 .1 .1 .0;
+      placesLength = c .before .before .before .before .before .before .before .before .before .before .before .before .before .before .before .before .before .before .before .plan-tables .kept .1 .1 .1 .1 .1 .1 .0;
+      monitoredLength = c .before .before .before .before .before .before .before .before .before .before .before .before .before .before .before .before .before .before .before .plan-tables .kept .1 .1 .1 .1 .1 .1 .1 .0;
+    })
+    (replicate 4096 0)
+    refl
+    (c .before .before .before .before .before .before .before .before .before .before .before .before .before .before .before .before .before .before .before .before .before .before .before .before .before .before .before .before .args .register)
+    (passed
+    (c .before .before .before .before .before .before .before .before .before .before .before .before .before .before .before .before .before .before .before .plan-tables .ensures)
+    (c .before .before .before .before .before .before .before .before .before .before .before .before .before .before .check-inputs .ensures)
+    (c .before .before .before .before .before .before .before .before .before .before .before .before .checked2 .given .1))
+    (c .before .before .before .write-symbol .ensures)
 
 pub encode-spec : {M : Type 1} → statement M
 encode-spec =

@@ -1,3 +1,4 @@
+-- `symbol::read` meets its contract: refused by the tables or the other inputs, or the symbol read by the plan.
 use Rattle.symbol.proofs.WholeSymbol.{read-needs, read-refused, read-done}
 use Rattle.symbol.proofs.PlannedInputs.{passed}
 use mathlib.Core.Path.{refl}
@@ -49,16 +50,51 @@ slice-aggregate-read-symbol-6 : tie.Need-slice-aggregate-read-symbol-6
 slice-aggregate-read-symbol-6 c = search needs
 
 read-symbol-requires : tie.Need-read-symbol-requires
-read-symbol-requires c κs = read-needs (record { layoutsLength = c .before .before .before .before .before .before .before .before .before .before .before .before .before .before .before .plan-tables .kept .1 .1 .1 .1 .0; entriesLength = c .before .before .before .before .before .before .before .before .before .before .before .before .before .before .before .plan-tables .kept .1 .1 .1 .1 .1 .0; placesLength = c .before .before .before .before .before .before .before .before .before .before .before .before .before .before .before .plan-tables .kept .1 .1 .1 .1 .1 .1 .0; monitoredLength = c .before .before .before .before .before .before .before .before .before .before .before .before .before .before .before .plan-tables .kept .1 .1 .1 .1 .1 .1 .1 .0 }) (replicate 4096 0) refl (c .before .before .before .before .before .before .before .before .before .before .before .before .before .before .before .before .before .before .before .before .before .before .before .before .args .register) refl (passed (c .before .before .before .before .before .before .before .before .before .before .before .before .before .before .before .plan-tables .ensures) (c .before .before .before .before .before .before .before .before .before .before .check-inputs .ensures) (c .before .before .before .before .before .before .before .before .checked2 .given .1))
+read-symbol-requires c κs =
+    read-needs
+    (record {
+      layoutsLength = c .before .before .before .before .before .before .before .before .before .before .before .before .before .before .before .plan-tables .kept .1 .1 .1 .1 .0;
+      entriesLength = c .before .before .before .before .before .before .before .before .before .before .before .before .before .before .before .plan-tables .kept .1 .1 .1 .1 .1 .0;
+      placesLength = c .before .before .before .before .before .before .before .before .before .before .before .before .before .before .before .plan-tables .kept .1 .1 .1 .1 .1 .1 .0;
+      monitoredLength = c .before .before .before .before .before .before .before .before .before .before .before .before .before .before .before .plan-tables .kept .1 .1 .1 .1 .1 .1 .1 .0;
+    })
+    (replicate 4096 0)
+    refl
+    (c .before .before .before .before .before .before .before .before .before .before .before .before .before .before .before .before .before .before .before .before .before .before .before .before .args .register)
+    refl
+    (passed
+    (c .before .before .before .before .before .before .before .before .before .before .before .before .before .before .before .plan-tables .ensures)
+    (c .before .before .before .before .before .before .before .before .before .before .check-inputs .ensures)
+    (c .before .before .before .before .before .before .before .before .checked2 .given .1))
 
 returns : tie.Need-returns
-returns c = read-refused (c .before .before .before .before .before .before .before .before .plan-tables .ensures .answer) (c .before .before .before .check-inputs .ensures) (c .before .checked .given .1)
+returns c =
+    read-refused
+    (c .before .before .before .before .before .before .before .before .plan-tables .ensures .answer)
+    (c .before .before .before .check-inputs .ensures)
+    (c .before .checked .given .1)
 
 same-length : tie.Need-same-length
 same-length c = search needs
 
 returns-2 : tie.Need-returns-2
-returns-2 c = read-done (record { layoutsLength = c .before .before .before .before .before .before .before .before .before .before .before .before .before .before .before .before .before .before .before .before .plan-tables .kept .1 .1 .1 .1 .0; entriesLength = c .before .before .before .before .before .before .before .before .before .before .before .before .before .before .before .before .before .before .before .before .plan-tables .kept .1 .1 .1 .1 .1 .0; placesLength = c .before .before .before .before .before .before .before .before .before .before .before .before .before .before .before .before .before .before .before .before .plan-tables .kept .1 .1 .1 .1 .1 .1 .0; monitoredLength = c .before .before .before .before .before .before .before .before .before .before .before .before .before .before .before .before .before .before .before .before .plan-tables .kept .1 .1 .1 .1 .1 .1 .1 .0 }) (replicate 4096 0) refl (c .before .before .before .before .before .before .before .before .before .before .before .before .before .before .before .before .before .before .before .before .before .before .before .before .before .before .before .before .before .args .register) refl (passed (c .before .before .before .before .before .before .before .before .before .before .before .before .before .before .before .before .before .before .before .before .plan-tables .ensures) (c .before .before .before .before .before .before .before .before .before .before .before .before .before .before .before .check-inputs .ensures) (c .before .before .before .before .before .before .before .before .before .before .before .before .before .checked2 .given .1)) (c .before .before .before .before .read-symbol .ensures)
+returns-2 c =
+    read-done
+    (record {
+      layoutsLength = c .before .before .before .before .before .before .before .before .before .before .before .before .before .before .before .before .before .before .before .before .plan-tables .kept .1 .1 .1 .1 .0;
+      entriesLength = c .before .before .before .before .before .before .before .before .before .before .before .before .before .before .before .before .before .before .before .before .plan-tables .kept .1 .1 .1 .1 .1 .0;
+      placesLength = c .before .before .before .before .before .before .before .before .before .before .before .before .before .before .before .before .before .before .before .before .plan-tables .kept .1 .1 .1 .1 .1 .1 .0;
+      monitoredLength = c .before .before .before .before .before .before .before .before .before .before .before .before .before .before .before .before .before .before .before .before .plan-tables .kept .1 .1 .1 .1 .1 .1 .1 .0;
+    })
+    (replicate 4096 0)
+    refl
+    (c .before .before .before .before .before .before .before .before .before .before .before .before .before .before .before .before .before .before .before .before .before .before .before .before .before .before .before .before .before .args .register)
+    refl
+    (passed
+    (c .before .before .before .before .before .before .before .before .before .before .before .before .before .before .before .before .before .before .before .before .plan-tables .ensures)
+    (c .before .before .before .before .before .before .before .before .before .before .before .before .before .before .before .check-inputs .ensures)
+    (c .before .before .before .before .before .before .before .before .before .before .before .before .before .checked2 .given .1))
+    (c .before .before .before .before .read-symbol .ensures)
 
 pub read-spec : {M : Type 1} → statement M
 read-spec =

@@ -1,4 +1,4 @@
--- `symbol::reading::read_frame` meets its contract: shared labels joined, then collected, or read by the trellis code.
+-- `passes::read::read_frame` meets its contract: shared labels joined, then collected, or read by the trellis code.
 use native.Mathlib.Omega.{arith}
 use Rattle.passes.proofs.ReadPlaces.{join-needs, collect-needs, trellis-needs, collected, broken-found, none-broken, broken-room, collect-room}
 use Rattle.frame.proofs.Stores.{finished}

@@ -1,4 +1,4 @@
--- `symbol::encoding::label_frame` meets its contract, by the mode.
+-- `passes::write::label_frame` meets its contract, by the mode.
 use borrow.Author.Needs.{needs}
 use Rattle.passes.proofs.write.label_frame.Statement.{statement}
 use Rattle.passes.proofs.write.label_frame.Tie as tie

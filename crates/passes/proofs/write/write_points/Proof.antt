@@ -1,4 +1,4 @@
--- `symbol::encoding::write_points` meets its contract: shared labels split, filler bits set, and the points are those of the labels.
+-- `passes::write::write_points` meets its contract: shared labels split, filler bits set, and the points are those of the labels.
 use mathlib.Core.Path.{_∙_}
 use Rattle.passes.proofs.WritePoints.{shared-inside, filler-needs, put-needs, written}
 use borrow.Author.Needs.{needs}
