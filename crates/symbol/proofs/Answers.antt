@@ -13,12 +13,11 @@ use Rattle.g9932.specs.Filler.{registerAfter}
 use Rattle.g9932.specs.Symbol.{classesOf, sizeOf, readingIn, writtenPoints}
 use Rattle.g9932.specs.Answers.{verdictOf, reportOf, reportBy, onDone, frameIn, encodeInputs, encodeVerdict, Encodes, pointsVerdict, readInputs, readVerdict, Reads}
 use Rattle.g9932.specs.declared.Refusal.{Refusal}
-use Rattle.g9932.specs.declared.Checked.{Checked}
 use Rattle.g9932.specs.declared.Checked.the-variants.{Refused}
 use Rattle.g9932.specs.declared.Answer.{Answer}
 use Rattle.g9932.specs.declared.Answer.the-variants.{Done, Refused as NotDone}
 use Rattle.g9932.proofs.Accepted.{accepted-tables}
-use Rattle.symbol.specs.Reading.{ReadsPoints}
+use Rattle.passes.specs.ReadSymbol.{ReadsPoints}
 use Rattle.g9932.proofs.Verdicts.{test-past, test-none, and-refused, and-accepted, done-refused, done-accepted, report-refused, report-done}
 
 -- ---- ROOM of two lists
@@ -45,10 +44,6 @@ rooms-none a b n c m e f g = rw (room-none a b n e f, eq-eqb c m g)
 -- L as it was answered
 pub size-is : (T : Tables) {l : ℕ} → accepted l ≡ tableVerdict T → l ≡ sizeOf T
 size-is T e = ap (λ (v : Verdict). v .size) (e ∙ accepted-tables T (ap (λ (v : Verdict). v .number) (sym e)) .verdict)
-
--- an answer as a match told it
-pub as-told : {a b : Checked} {v : Verdict} → verdictOf a ≡ v → a ≡ b → verdictOf b ≡ v
-as-told e is = sym (ap verdictOf is) ∙ e
 
 -- an accepted verdict has the size that the chain ends with
 number-zero : {l : ℕ} {v : Verdict} → accepted l ≡ v → v .number ≡ 0

@@ -1,12 +1,5 @@
-pub mod LabelPlaces
-pub mod PlanLabels
-pub mod OneTone
-pub mod FillerPlaces
-pub mod SymbolPoints
-pub mod WritePoints
-pub mod ReadPlaces
 pub mod Answers
 pub mod TablePlan
-pub mod Points
+pub mod PlannedInputs
 pub mod WholeSymbol
 pub mod RoundTrip

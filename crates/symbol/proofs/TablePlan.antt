@@ -23,10 +23,10 @@ use Rattle.plan.proofs.Classes.{plan-of}
 use Rattle.plan.specs.Classes.{PlanOf}
 use Rattle.plan.specs.Plan.{leastOwn, sharing, PlanIs}
 use Rattle.plan.specs.declared.Sizes.{Sizes}
-use Rattle.symbol.specs.Reading.{FrameRoom, readingBy}
-use Rattle.symbol.specs.Writing.{LabelNeeds, sentFor}
+use Rattle.passes.specs.ReadSymbol.{FrameRoom, readingBy}
+use Rattle.passes.specs.WriteSymbol.{LabelFrameNeeds, sentFor}
 use Rattle.trellis.specs.Coding.{FrameNeeds}
-use Rattle.symbol.proofs.PlanLabels.{plan-placed}
+use Rattle.passes.proofs.PlanLabels.{plan-placed}
 
 -- ---- uncoded: the entries are the counts that are not 0
 
@@ -110,13 +110,13 @@ module _ (T : Tables) (ok : tableVerdict T .number ≡ 0) where
       bytes : length f ≡ bytesFor (sizeOf T)
       bytes = frame-length (sizeOf T) f accepted
 
-      pub label-needs : (labels : List ℕ) → length labels ≡ length (classesOf T) → LabelNeeds (T .mode) f 0 es ps labels
+      pub label-needs : (labels : List ℕ) → length labels ≡ length (classesOf T) → LabelFrameNeeds (T .mode) f 0 es ps labels
       label-needs labels n = go (T .mode) refl
         where
           placed : Placed es ps labels
           placed = plan-placed the-plan labels n
 
-          go : (m : Mode) → T .mode ≡ m → LabelNeeds m f 0 es ps labels
+          go : (m : Mode) → T .mode ≡ m → LabelFrameNeeds m f 0 es ps labels
           go Uncoded e =
               let s = plain-sum e in
               let b = bytes in

@@ -1,49 +1,45 @@
 -- A whole symbol from the plan of accepted tables: what writing and reading ask, and what they find.
-use Prim.Native.Nat.{ℕ, _≤_}
+use Prim.Native.Nat.{ℕ}
 use mathlib.Core.Bool.{false}
 use mathlib.Core.List.{List}
 use mathlib.Core.Path.{_≡_, refl, sym, ap, _∙_}
-use native.Mathlib.Omega.{arith}
 use lib.IntN.{ℤ}
 use lib.ListN.{length, take}
-use Rattle.frame.specs.Written.{Framed}
+use lib.Seq.{length-take-le}
 use Rattle.g9932.proofs.Accepted.{accepted-tables}
 use Rattle.g9932.proofs.Formed.{formed-ok}
-use Rattle.g9932.proofs.Packed.{Bytes}
 use Rattle.g9932.proofs.Pairs.{length-read}
 use Rattle.g9932.proofs.Search.{first-no, found-not}
 use Rattle.g9932.proofs.Symbols.{length-gather}
-use Rattle.g9932.specs.Answers.{breakIn, frameIn}
+use Rattle.g9932.specs.Answers.{breakIn, frameIn, encodeInputs, readInputs, Encodes, Reads}
 use Rattle.g9932.specs.Bits.{first}
 use Rattle.g9932.specs.Order.{sum, bitsOf}
-use Rattle.g9932.specs.Refusals.{Verdict, accepted, tableVerdict, frameTest}
-use Rattle.g9932.specs.Sizes.{Tables, Point, points, bytesFor, pack}
-use Rattle.g9932.specs.Symbol.{classesOf, pairsIn, sizeOf, offgridTest, gatherBits, readingIn, sentIn}
+use Rattle.g9932.specs.Refusals.{tableVerdict, frameTest}
+use Rattle.g9932.specs.Sizes.{Tables, Point, bytesFor, mostTones}
+use Rattle.g9932.specs.Symbol.{classesOf, pairsIn, sizeOf, offgridTest, gatherBits, readingIn, writtenPoints}
 use Rattle.g9932.specs.Trellis.{Reading, frame, breaks, zeroState, readPairs, readingOf}
-use Rattle.g9932.specs.declared.Found.{Found}
-use Rattle.g9932.specs.declared.Found.the-variants.{At, Nothing}
+use Rattle.g9932.specs.declared.Answer.{Answer}
+use Rattle.g9932.specs.declared.Answer.the-variants.{Done, Refused as NotDone}
+use Rattle.g9932.specs.declared.Found.the-variants.{Nothing}
 use Rattle.g9932.specs.declared.Mode.{Mode}
 use Rattle.g9932.specs.declared.Mode.the-variants.{Uncoded, Coded}
-use Rattle.g9932.proofs.PointLists.{length-points}
+use Rattle.g9932.specs.declared.Refusal.{Refusal}
 use Rattle.g9932.proofs.Sent.{length-classes}
 use Rattle.g9932.proofs.Sent.{loads-sum, size-uncoded}
-use Rattle.plan.specs.Plan.{plannedVerdict, PlanIs, Plans}
+use Rattle.plan.specs.Plan.{plannedVerdict, PlanIs, Arrays}
 use Rattle.plan.specs.declared.Planned.{Planned}
-use Rattle.plan.specs.declared.Planned.the-variants.{Ready}
+use Rattle.plan.specs.declared.Planned.the-variants.{Refused}
 use Rattle.plan.specs.declared.Sizes.{Sizes}
-use Rattle.symbol.specs.Reading.{ReadOf, PlacesOf, ReadsPlaces, FrameOf, ReadsFrame}
-use Rattle.symbol.specs.Writing.{Labels, PointsOf, SymbolOf, sentFor}
-use Rattle.symbol.specs.declared.reading.PlacesRead.{PlacesRead}
-use Rattle.symbol.proofs.Points.{Decoded, framed-bytes}
-use Rattle.symbol.proofs.TablePlan.{the-plan, label-needs, sent-is, frame-room, reading-is, tones-most}
+use Rattle.symbol.specs.Inputs.{ChecksInputs}
+use Rattle.passes.specs.ReadSymbol.{ReadOf, ReadBy, ReadNeeds, ReadsSymbol}
+use Rattle.passes.specs.WriteSymbol.{SymbolOf, SymbolBy, SymbolNeeds, WritesSymbol}
+use Rattle.symbol.proofs.Answers.{size-is, inputs-encoded, inputs-read, encode-tables, encode-inputs, encode-done, read-tables, read-inputs, read-points}
+use Rattle.symbol.proofs.PlannedInputs.{refused-answer, Passed, accepts, lists-fit}
+use Rattle.symbol.proofs.TablePlan.{the-plan, label-needs, sent-is, frame-room, reading-is}
 
 -- ---- from the tables' plan
 
 module _ (T : Tables) (ok : tableVerdict T .number ≡ 0) (p : Sizes) {layouts entries places monitored : List ℕ} (is : PlanIs T p layouts entries places monitored) where
-  -- the arrays hold the lists
-  pub lists-fit : {n : ℕ} → n ≡ 4096 → (p .entries ≤ n) × (p .monitored ≤ n) × (length (T .tones) ≤ n)
-  lists-fit e = let m = tones-most T ok in (omega (arith, is .entriesMost), omega (arith, is .monitoredMost), omega arith)
-
   pub symbol-of : (f labels : List ℕ) (xs ys : List ℤ) → frameTest (sizeOf T) f ≡ false → length labels ≡ length (T .tones) → length xs ≡ length (T .tones) → length ys ≡ length (T .tones)
       → SymbolOf T (T .mode) (p .shared) f (take (p .entries) entries) (take (p .entries) places) (take (p .monitored) monitored) (take (length (T .tones)) layouts) labels xs ys
   symbol-of f labels xs ys fits n nx ny =
@@ -99,59 +95,45 @@ module _ (T : Tables) (ok : tableVerdict T .number ≡ 0) (p : Sizes) {layouts e
         whole = frame-whole;
       }
 
--- ---- writing
+-- ---- from the answers of planning and of checking the inputs
 
-pub points-of : {T : Tables} {m : Mode} {from : ℕ} {f es ps ms layouts labels after : List ℕ} {xs ys : List ℤ} → SymbolOf T m from f es ps ms layouts labels xs ys
-    → length after ≡ length labels → Labels (sentFor m f 0 es) es ps after → PointsOf (classesOf T) (sentIn T f) from es ps ms layouts after xs ys
-points-of s n l =
-    record {
-      plan = s .plan;
-      labelled = rw (s .sent) at l;
-      labelsLength = n ∙ s .labelsLength;
-      xsLength = s .xsLength;
-      ysLength = s .ysLength;
-    }
+module _ {T : Tables} {p : Sizes} {layouts entries places monitored : List ℕ} (a : Arrays layouts entries places monitored) (labels : List ℕ) (n : length labels ≡ mostTones) where
+  module _ {f : List ℕ} (r : ℕ) {xs ys : List ℤ} (h : Passed T (λ size. encodeInputs size (length (T .tones)) (length xs) (length ys) f r) p layouts entries places monitored) where
+    symbol-by : SymbolBy T (T .mode) p (length (T .tones)) f layouts entries places monitored labels xs ys
+    symbol-by =
+        let z = inputs-encoded (p .size) (length (T .tones)) (length xs) (length ys) f r (p .size) (h .inputsPass) in
+        symbol-of T (accepts h) p (h .plan) f (take (length (T .tones)) labels) xs ys (rw (size-is T (h .tablesPass)) at (z .1)) (length-take-le _ labels (lists-fit h a {labels = labels} n .labelsFit)) (z .0 .0) (z .0 .1)
 
--- ---- reading
+    pub symbol-needs : SymbolNeeds (T .mode) p (length (T .tones)) f layouts entries places monitored labels xs ys
+    symbol-needs = record { fits = lists-fit h a n; tables = T; planned = symbol-by }
 
-module _ {T : Tables} {m : Mode} {from size : ℕ} {es ps ms layouts labels held f : List ℕ} {xs ys : List ℤ} (s : ReadOf T m from size es ps ms layouts xs ys labels held f) where
-  pub places-of : PlacesOf (classesOf T) from es ps ms layouts labels xs ys
-  places-of = record { plan = s .plan; labelsLength = s .labelsLength; xsLength = s .xsLength; ysLength = s .ysLength }
+    pub encode-written : {after : ℕ} {xsAfter ysAfter : List ℤ} → WritesSymbol (T .mode) p (length (T .tones)) f layouts entries places monitored labels xs ys r after xsAfter ysAfter
+        → Encodes T f r xs ys (Done (p .size) after) xsAfter ysAfter
+    unfolding writtenPoints
+    encode-written writes = let w = writes T symbol-by in encode-done T f r xs ys (h .tablesPass) _ _ _ _ (h .inputsPass) (w .registerIs) (w .xsHold) (w .ysHold)
 
-  module _ {r : ℕ} {t : PlacesRead} {after : List ℕ} (d : ReadsPlaces (classesOf T) r (points xs ys) t after) where
-    pub decoded : Decoded T (points xs ys) r (t .offgrid) (t .monitor) (t .register)
-    decoded =
-        record {
-          offgridIs = d .offgridIs ∙ rw (s .tonesAre);
-          monitorIs = λ on. d .monitorIs on ∙ rw (s .tonesAre);
-          registerIs = d .registerIs;
-        }
+  module _ (r : ℕ) {xs ys : List ℤ} {held f : List ℕ} (nh : length held ≡ 7688)
+      (h : Passed T (λ size. readInputs size (length (T .tones)) (length xs) (length ys) (length f) r) p layouts entries places monitored) where
+    read-by : ReadBy T (T .mode) p (length (T .tones)) layouts entries places monitored xs ys labels held f
+    read-by =
+        let z = inputs-read (p .size) (length (T .tones)) (length xs) (length ys) (length f) r (p .size) (h .inputsPass) in
+        let s : p .size ≡ sizeOf T = size-is T (h .tablesPass) in
+        read-of T (accepts h) p (h .plan) (p .size) xs ys (take (length (T .tones)) labels) held f (length-take-le _ labels (lists-fit h a {labels = labels} n .labelsFit)) (z .0 .0 .0) (z .0 .0 .1) nh s
+        (z .0 .1 ∙ ap bytesFor s)
 
-    module _ (on : t .offgrid ≡ Nothing) where
-      pub frame-of : FrameOf m (classesOf T) (gatherBits (classesOf T) (points xs ys)) from es ps ms layouts after held
-      frame-of = record { plan = s .plan; labelled = d .labelsAre on; room = s .room }
+    pub read-needs : ReadNeeds (T .mode) p (length (T .tones)) layouts entries places monitored xs ys labels held f
+    read-needs = record { fits = lists-fit h a n; tables = T; planned = read-by }
 
-      module _ {b : Found} {stored : List ℕ} (reads : ReadsFrame m es (gatherBits (classesOf T) (points xs ys)) b stored) where
-        pub breaks-at : b ≡ breakIn (readingIn T (points xs ys))
-        breaks-at = reads .brokenIs ∙ ap breakIn (s .readings (points xs ys))
+    pub read-done : {answer : Answer} {after : List ℕ} → ReadsSymbol (T .mode) p (length (T .tones)) layouts entries places monitored xs ys labels held f r answer after
+        → Reads T xs ys r f answer after
+    read-done reads = read-points T xs ys r f (h .tablesPass) (h .inputsPass) _ _ (reads T read-by)
 
-        pub frame-fits : length stored ≡ length held → length f ≤ length stored
-        frame-fits e = omega (arith, s .frameLength, s .heldLength, s .sizeMost)
+pub encode-refused : {T : Tables} {f : List ℕ} {r : ℕ} {xs ys : List ℤ} {planned q : Planned} {x : Refusal} → plannedVerdict planned ≡ tableVerdict T
+    → ChecksInputs (λ size. encodeInputs size (length (T .tones)) (length xs) (length ys) f r) planned q → q ≡ Refused x → Encodes T f r xs ys (NotDone x r) xs ys
+encode-refused {T} {f} {r} {xs} {ys} {x = x} t c e =
+    refused-answer T _ _ t c e (Encodes T f r xs ys (NotDone x r) xs ys) (encode-tables T f r xs ys x) (λ l ok. encode-inputs T f r xs ys ok x)
 
-        pub frame-read : length stored ≡ length held → Bytes stored → b ≡ Nothing → (out : List ℕ) → out ≡ take (length f) stored → out ≡ pack (frameIn (readingIn T (points xs ys)))
-        frame-read same bytes none out o =
-            let q : List Point = points xs ys in
-            let framed : Framed (frameIn (readingIn T q)) stored = rw (s .readings q) at (reads .framed none) in
-            let nq : length q ≡ length (classesOf T) = length-points xs ys (s .xsLength ∙ sym (s .ysLength)) ∙ s .xsLength in
-            let n : length f ≡ bytesFor (length (frameIn (readingIn T q))) =
-            s .frameLength ∙ ap bytesFor (sym (s .whole q (sym (decoded .offgridIs) ∙ on) nq (sym breaks-at ∙ none))) in
-            o ∙ framed-bytes (frameIn (readingIn T q)) stored (length f) n (frame-fits same) framed bytes
-
--- ---- the plan that planning answered
-
-pub ready : {T : Tables} {r : Planned} {layouts entries places monitored : List ℕ} → Plans T r layouts entries places monitored → {p : Sizes} → r ≡ Ready p
-    → (accepted (p .size) ≡ tableVerdict T) × PlanIs T p layouts entries places monitored
-ready w e = (ap plannedVerdict (sym e) ∙ w .answer, rw e at (w .made))
-
-pub planned-none : (T : Tables) {l : ℕ} → accepted l ≡ tableVerdict T → tableVerdict T .number ≡ 0
-planned-none T e = ap (λ (v : Verdict). v .number) (sym e)
+pub read-refused : {T : Tables} {xs ys : List ℤ} {r : ℕ} {f : List ℕ} {planned q : Planned} {x : Refusal} → plannedVerdict planned ≡ tableVerdict T
+    → ChecksInputs (λ size. readInputs size (length (T .tones)) (length xs) (length ys) (length f) r) planned q → q ≡ Refused x → Reads T xs ys r f (NotDone x r) f
+read-refused {T} {xs} {ys} {r} {f} {x = x} t c e =
+    refused-answer T _ _ t c e (Reads T xs ys r f (NotDone x r) f) (read-tables T xs ys r f x) (λ l ok. read-inputs T xs ys r f ok x)

@@ -1,3 +1,2 @@
--- What the parts of a symbol ask and do, between the tables' plan and the answers.
-pub mod Writing
-pub mod Reading
+-- Between the plan of the tables and the passes over a symbol.
+pub mod Inputs

@@ -6,6 +6,7 @@ ghost use Rattle.g9932.specs.Sizes.{tables};
 ghost use Rattle.g9932.specs.Answers.{Encodes, Reads};
 use g9932::Answer;
 use g9932::Mode;
+use plan::Planned;
 
 // Encodes a frame: refusals 1 to 12. Where nothing is refused, writes all of X and Y, and answers L and the register after
 // the draws; else writes nothing. A call takes some 45 KiB of stack, no heap and no global.
@@ -26,21 +27,41 @@ pub fn encode(
     let mut places = [0u16; 4096];
     let mut monitored = [0u16; 4096];
     let mut labels = [0u16; 4096];
-    encoding::encode_through(
+    let n = tones.len();
+    let planned = plan::plan_tables(
         mode,
         bits,
         gains,
         tones,
-        frame,
-        register,
-        xs,
-        ys,
         &mut layouts,
         &mut entries,
         &mut places,
         &mut monitored,
-        &mut labels,
-    )
+    );
+    let checked = encoding::check_inputs(planned, n, xs.len(), ys.len(), frame, register);
+    match checked {
+        Planned::Refused(refusal) => Answer::Refused { refusal, register },
+        Planned::Ready(p) => {
+            let after = passes::write::write_symbol(
+                mode,
+                p,
+                n,
+                frame,
+                register,
+                &layouts,
+                &entries,
+                &places,
+                &monitored,
+                &mut labels,
+                xs,
+                ys,
+            );
+            Answer::Done {
+                size: p.size,
+                register: after,
+            }
+        }
+    }
 }
 
 // Reads a symbol: refusals 1 to 10 and 12, then 13 at every place, 14 at every place, and 15. Where nothing is refused, writes
@@ -64,20 +85,36 @@ pub fn read(
     let mut monitored = [0u16; 4096];
     let mut labels = [0u16; 4096];
     let mut held = [0u8; 7688];
-    reading::read_through(
+    let n = tones.len();
+    let planned = plan::plan_tables(
         mode,
         bits,
         gains,
         tones,
-        xs,
-        ys,
-        register,
-        frame,
         &mut layouts,
         &mut entries,
         &mut places,
         &mut monitored,
-        &mut labels,
-        &mut held,
-    )
+    );
+    let checked = reading::check_inputs(planned, n, xs.len(), ys.len(), frame.len(), register);
+    match checked {
+        Planned::Refused(refusal) => Answer::Refused { refusal, register },
+        Planned::Ready(p) => {
+            passes::read::read_symbol(
+                mode,
+                p,
+                n,
+                &layouts,
+                &entries,
+                &places,
+                &monitored,
+                xs,
+                ys,
+                register,
+                &mut labels,
+                &mut held,
+                frame,
+            )
+        }
+    }
 }

@@ -1,52 +1,94 @@
--- `symbol::encoding::check_inputs` meets its contract: ROOM of both lists, FRAME, SEED, in this order; past all of them L stands.
-use mathlib.Core.Path.{refl, sym, _∙_}
-use Rattle.symbol.proofs.Answers.{room-x, room-y, room-none}
-use Rattle.g9932.specs.Answers.{encodeInputs}
+-- `symbol::encoding::check_inputs` meets its contract: the tables' refusal, or ROOM of both lists, FRAME, SEED, in this order; past
+-- all of them the plan stands.
 use Rattle.g9932.proofs.Verdicts.{test-here, test-past}
+use Rattle.g9932.specs.Answers.{encodeInputs}
+use Rattle.symbol.proofs.PlannedInputs.{tables-refused, inputs-refused, inputs-pass}
+use Rattle.symbol.proofs.Answers.{room-x, room-y, room-none}
+use mathlib.Core.Path.{refl, sym, _∙_}
 use borrow.Author.Needs.{needs}
 use Rattle.symbol.proofs.encoding.check_inputs.Statement.{statement}
 use Rattle.symbol.proofs.encoding.check_inputs.Tie as tie
 
+enum-known-planned : tie.Need-enum-known-planned
+enum-known-planned c = search needs
+
 returns : tie.Need-returns
-unfolding encodeInputs
-returns c = test-here 10 _ (room-x (c .before .before .args .x-len) (c .before .before .args .y-len) (c .before .before .args .nsc) (c .if1 .taken))
+returns c = tables-refused (c .before .planned .given .1)
+
+enum-known-planned-2 : tie.Need-enum-known-planned-2
+enum-known-planned-2 c = search needs
 
 returns-2 : tie.Need-returns-2
 unfolding encodeInputs
-returns-2 c = test-here 10 _ (room-y (c .before .before .before .args .x-len) (c .before .before .before .args .y-len) (c .before .before .before .args .nsc) (c .before .if1 .left) (c .if2 .taken))
-
-frame-refused-requires : tie.Need-frame-refused-requires
-frame-refused-requires c κs = search needs
+returns-2 c =
+    let p = c .before .before .planned2 in
+    let s = c .before .before .before .before .before in
+    let x = c .if1 in
+    inputs-refused (p .given .1) _ (test-here 10 _ (room-x (s .args .x-len) (s .args .y-len) (s .args .nsc) (x .taken)))
 
 returns-3 : tie.Need-returns-3
 unfolding encodeInputs
 returns-3 c =
-    let n = room-none (c .before .before .before .before .before .args .x-len) (c .before .before .before .before .before .args .y-len) (c .before .before .before .before .before .args .nsc) (c .before .before .before .if1 .left) (c .before .before .if2 .left) in
-    test-past 10 n (test-here 11 _ (sym (c .before .frame-refused .ensures) ∙ c .if3 .taken))
+    let p = c .before .before .before .planned2 in
+    let s = c .before .before .before .before .before .before in
+    let x = c .before .if1 in
+    let y = c .if2 in
+    inputs-refused (p .given .1) _ (test-here 10 _ (room-y (s .args .x-len) (s .args .y-len) (s .args .nsc) (x .left) (y .taken)))
 
-seed-refused-requires : tie.Need-seed-refused-requires
-seed-refused-requires c κs = search needs
+frame-refused-requires : tie.Need-frame-refused-requires
+frame-refused-requires c κs = search needs
 
 returns-4 : tie.Need-returns-4
 unfolding encodeInputs
 returns-4 c =
-    let n = room-none (c .before .before .before .before .before .before .before .args .x-len) (c .before .before .before .before .before .before .before .args .y-len) (c .before .before .before .before .before .before .before .args .nsc) (c .before .before .before .before .before .if1 .left) (c .before .before .before .before .if2 .left) in
-    test-past 10 n (test-past 11 (sym (c .before .before .before .frame-refused .ensures) ∙ c .before .before .if3 .left) (test-here 12 _ (sym (c .before .seed-refused .ensures) ∙ c .if4 .taken)))
+    let p = c .before .before .before .before .before .planned2 in
+    let s = c .before .before .before .before .before .before .before .before in
+    let x = c .before .before .before .if1 in
+    let y = c .before .before .if2 in
+    let f = c .before .frame-refused in
+    let z = c .if3 in
+    inputs-refused (p .given .1) _ (test-past 10 (room-none (s .args .x-len) (s .args .y-len) (s .args .nsc) (x .left) (y .left)) (test-here 11 _ (sym (f .ensures) ∙ z .taken)))
+
+seed-refused-requires : tie.Need-seed-refused-requires
+seed-refused-requires c κs = search needs
 
 returns-5 : tie.Need-returns-5
 unfolding encodeInputs
 returns-5 c =
-    let n = room-none (c .before .before .before .before .before .before .before .args .x-len) (c .before .before .before .before .before .before .before .args .y-len) (c .before .before .before .before .before .before .before .args .nsc) (c .before .before .before .before .before .if1 .left) (c .before .before .before .before .if2 .left) in
-    test-past 10 n (test-past 11 (sym (c .before .before .before .frame-refused .ensures) ∙ c .before .before .if3 .left) (test-past 12 (sym (c .before .seed-refused .ensures) ∙ c .if4 .left) refl))
+    let p = c .before .before .before .before .before .before .before .planned2 in
+    let s = c .before .before .before .before .before .before .before .before .before .before in
+    let x = c .before .before .before .before .before .if1 in
+    let y = c .before .before .before .before .if2 in
+    let f = c .before .before .before .frame-refused in
+    let z = c .before .before .if3 in
+    let r = c .before .seed-refused in
+    let q = c .if4 in
+    inputs-refused (p .given .1) _ (test-past 10 (room-none (s .args .x-len) (s .args .y-len) (s .args .nsc) (x .left) (y .left)) (test-past 11 (sym (f .ensures) ∙ z .left) (test-here 12 _ (sym (r .ensures) ∙ q .taken))))
+
+returns-6 : tie.Need-returns-6
+unfolding encodeInputs
+returns-6 c =
+    let p = c .before .before .before .before .before .before .before .planned2 in
+    let s = c .before .before .before .before .before .before .before .before .before .before in
+    let x = c .before .before .before .before .before .if1 in
+    let y = c .before .before .before .before .if2 in
+    let f = c .before .before .before .frame-refused in
+    let z = c .before .before .if3 in
+    let r = c .before .seed-refused in
+    let q = c .if4 in
+    inputs-pass (p .given .1) (test-past 10 (room-none (s .args .x-len) (s .args .y-len) (s .args .nsc) (x .left) (y .left)) (test-past 11 (sym (f .ensures) ∙ z .left) (test-past 12 (sym (r .ensures) ∙ q .left) refl)))
 
 pub check-inputs-spec : {M : Type 1} → statement M
 check-inputs-spec =
     tie.close
     (tie.spec
+    enum-known-planned
     returns
+    enum-known-planned-2
     returns-2
-    frame-refused-requires
     returns-3
-    seed-refused-requires
+    frame-refused-requires
     returns-4
-    returns-5)
+    seed-refused-requires
+    returns-5
+    returns-6)

@@ -1,21 +1,41 @@
--- `symbol::reading::check_inputs` meets its contract: ROOM of the lists and of the frame, then SEED; past both L stands.
-use mathlib.Core.Path.{refl, sym, _∙_}
-use native.Mathlib.Omega.{arith}
-use Rattle.symbol.proofs.Answers.{room-x, room-y, rooms-two, rooms-frame, rooms-none}
-use Rattle.g9932.specs.Answers.{readInputs}
+-- `symbol::reading::check_inputs` meets its contract: the tables' refusal, or ROOM of the lists and of the frame, then SEED; past
+-- all of them the plan stands.
 use Rattle.g9932.proofs.Verdicts.{test-here, test-past}
 use Rattle.g9932.specs.Sizes.{bytesFor}
+use Rattle.g9932.specs.Answers.{readInputs}
+use Rattle.symbol.proofs.PlannedInputs.{tables-refused, inputs-refused, inputs-pass}
+use Rattle.symbol.proofs.Answers.{room-x, room-y, rooms-two, rooms-frame, rooms-none}
+use native.Mathlib.Omega.{arith}
+use mathlib.Core.Path.{refl, sym, _∙_}
 use borrow.Author.Needs.{needs}
 use Rattle.symbol.proofs.reading.check_inputs.Statement.{statement}
 use Rattle.symbol.proofs.reading.check_inputs.Tie as tie
 
+enum-known-planned : tie.Need-enum-known-planned
+enum-known-planned c = search needs
+
 returns : tie.Need-returns
-unfolding readInputs
-returns c = test-here 10 _ (rooms-two (c .before .args .x-len) (c .before .args .y-len) (c .before .args .nsc) (c .before .args .frame-len) (bytesFor (c .before .args .size)) (room-x (c .before .args .x-len) (c .before .args .y-len) (c .before .args .nsc) (c .if1 .taken)))
+returns c = tables-refused (c .before .planned .given .1)
+
+enum-known-planned-2 : tie.Need-enum-known-planned-2
+enum-known-planned-2 c = search needs
 
 returns-2 : tie.Need-returns-2
 unfolding readInputs
-returns-2 c = test-here 10 _ (rooms-two (c .before .before .args .x-len) (c .before .before .args .y-len) (c .before .before .args .nsc) (c .before .before .args .frame-len) (bytesFor (c .before .before .args .size)) (room-y (c .before .before .args .x-len) (c .before .before .args .y-len) (c .before .before .args .nsc) (c .before .if1 .left) (c .if2 .taken)))
+returns-2 c =
+    let p = c .before .before .planned2 in
+    let s = c .before .before .before .before in
+    let x = c .if1 in
+    inputs-refused (p .given .1) _ (test-here 10 _ (rooms-two (s .args .x-len) (s .args .y-len) (s .args .nsc) (s .args .frame-len) (bytesFor (p .given .0 .0 .size)) (room-x (s .args .x-len) (s .args .y-len) (s .args .nsc) (x .taken))))
+
+returns-3 : tie.Need-returns-3
+unfolding readInputs
+returns-3 c =
+    let p = c .before .before .before .planned2 in
+    let s = c .before .before .before .before .before in
+    let x = c .before .if1 in
+    let y = c .if2 in
+    inputs-refused (p .given .1) _ (test-here 10 _ (rooms-two (s .args .x-len) (s .args .y-len) (s .args .nsc) (s .args .frame-len) (bytesFor (p .given .0 .0 .size)) (room-y (s .args .x-len) (s .args .y-len) (s .args .nsc) (x .left) (y .taken))))
 
 add-if3 : tie.Need-add-if3
 add-if3 c = search needs
@@ -23,34 +43,55 @@ add-if3 c = search needs
 add-if3-2 : tie.Need-add-if3-2
 add-if3-2 c = search needs
 
-returns-3 : tie.Need-returns-3
+returns-4 : tie.Need-returns-4
 unfolding readInputs
-returns-3 c = test-here 10 _ (rooms-frame (c .before .before .before .args .x-len) (c .before .before .before .args .y-len) (c .before .before .before .args .nsc) (c .before .before .before .args .frame-len) (bytesFor (c .before .before .before .args .size)) (c .before .before .if1 .left) (c .before .if2 .left) (λ e. c .if3 .taken (omega arith)))
+returns-4 c =
+    let p = c .before .before .before .before .planned2 in
+    let s = c .before .before .before .before .before .before in
+    let x = c .before .before .if1 in
+    let y = c .before .if2 in
+    let z = c .if3 in
+    inputs-refused (p .given .1) _ (test-here 10 _ (rooms-frame (s .args .x-len) (s .args .y-len) (s .args .nsc) (s .args .frame-len) (bytesFor (p .given .0 .0 .size)) (x .left) (y .left) (λ e. z .taken (omega arith))))
 
 seed-refused-requires : tie.Need-seed-refused-requires
 seed-refused-requires c κs = search needs
 
-returns-4 : tie.Need-returns-4
-unfolding readInputs
-returns-4 c =
-    let n = rooms-none (c .before .before .before .before .before .args .x-len) (c .before .before .before .before .before .args .y-len) (c .before .before .before .before .before .args .nsc) (c .before .before .before .before .before .args .frame-len) (bytesFor (c .before .before .before .before .before .args .size)) (c .before .before .before .before .if1 .left) (c .before .before .before .if2 .left) (omega (arith, c .before .before .if3 .left)) in
-    test-past 10 n (test-here 12 _ (sym (c .before .seed-refused .ensures) ∙ c .if4 .taken))
-
 returns-5 : tie.Need-returns-5
 unfolding readInputs
 returns-5 c =
-    let n = rooms-none (c .before .before .before .before .before .args .x-len) (c .before .before .before .before .before .args .y-len) (c .before .before .before .before .before .args .nsc) (c .before .before .before .before .before .args .frame-len) (bytesFor (c .before .before .before .before .before .args .size)) (c .before .before .before .before .if1 .left) (c .before .before .before .if2 .left) (omega (arith, c .before .before .if3 .left)) in
-    test-past 10 n (test-past 12 (sym (c .before .seed-refused .ensures) ∙ c .if4 .left) refl)
+    let p = c .before .before .before .before .before .before .planned2 in
+    let s = c .before .before .before .before .before .before .before .before in
+    let x = c .before .before .before .before .if1 in
+    let y = c .before .before .before .if2 in
+    let z = c .before .before .if3 in
+    let r = c .before .seed-refused in
+    let q = c .if4 in
+    inputs-refused (p .given .1) _ (test-past 10 (rooms-none (s .args .x-len) (s .args .y-len) (s .args .nsc) (s .args .frame-len) (bytesFor (p .given .0 .0 .size)) (x .left) (y .left) (omega (arith, z .left))) (test-here 12 _ (sym (r .ensures) ∙ q .taken)))
+
+returns-6 : tie.Need-returns-6
+unfolding readInputs
+returns-6 c =
+    let p = c .before .before .before .before .before .before .planned2 in
+    let s = c .before .before .before .before .before .before .before .before in
+    let x = c .before .before .before .before .if1 in
+    let y = c .before .before .before .if2 in
+    let z = c .before .before .if3 in
+    let r = c .before .seed-refused in
+    let q = c .if4 in
+    inputs-pass (p .given .1) (test-past 10 (rooms-none (s .args .x-len) (s .args .y-len) (s .args .nsc) (s .args .frame-len) (bytesFor (p .given .0 .0 .size)) (x .left) (y .left) (omega (arith, z .left))) (test-past 12 (sym (r .ensures) ∙ q .left) refl))
 
 pub check-inputs-spec : {M : Type 1} → statement M
 check-inputs-spec =
     tie.close
     (tie.spec
+    enum-known-planned
     returns
+    enum-known-planned-2
     returns-2
+    returns-3
     add-if3
     add-if3-2
-    returns-3
-    seed-refused-requires
     returns-4
-    returns-5)
+    seed-refused-requires
+    returns-5
+    returns-6)

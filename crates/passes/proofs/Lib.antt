@@ -1,0 +1,9 @@
+pub mod LabelPlaces
+pub mod PlanLabels
+pub mod OneTone
+pub mod FillerPlaces
+pub mod SymbolPoints
+pub mod WritePoints
+pub mod ReadPlaces
+pub mod Points
+pub mod SymbolPasses

@@ -1,0 +1,202 @@
+-- Reading points to labels by place, and these to a frame: what the steps ask, and what they find.
+use Prim.Native.Nat.{ℕ, _+_, _-_, _*_, _^_, _≤_, _<_}
+use mathlib.Core.Bool.{Bool}
+use mathlib.Core.List.{List, map}
+use mathlib.Core.Path.{_≡_, refl, sym, ap, _∙_}
+use native.Mathlib.Omega.{arith}
+use lib.Dec.{eqb}
+use lib.IntN.{ℤ}
+use lib.ListN.{length, getD, length-map, length-drop}
+use lib.Seq.{getD-drop}
+use Rattle.constellation.specs.Layouts.{classLayout}
+use Rattle.frame.proofs.Stores.{written-empty, empty-waits}
+use Rattle.frame.specs.Labels.{bitsOfLabels, labelsAt, Placed}
+use Rattle.frame.specs.Written.{emptyWriter, written, Framed}
+use Rattle.frame.specs.declared.BitWriter.{BitWriter}
+use Rattle.g9932.proofs.PointLists.{length-points}
+use Rattle.g9932.proofs.Search.{found-not}
+use Rattle.g9932.proofs.Verdicts.{found-here, found-past}
+use Rattle.g9932.specs.Answers.{breakIn}
+use Rattle.g9932.specs.Bits.{num, first}
+use Rattle.g9932.specs.Filler.{drawn, afterDraws}
+use Rattle.g9932.specs.Order.{pairsOf}
+use Rattle.g9932.specs.Sizes.{entry, origin, points}
+use Rattle.g9932.specs.Symbol.{load, isMonitored, isFiller, offgridTest, monitorTest}
+use Rattle.g9932.specs.Trellis.{zeroState, readPairs}
+use Rattle.g9932.specs.declared.Class.{Class}
+use Rattle.g9932.specs.declared.Class.the-variants.{Monitored, Silent}
+use Rattle.g9932.specs.declared.Found.{Found}
+use Rattle.g9932.specs.declared.Found.the-variants.{At, Nothing}
+use Rattle.g9932.specs.declared.Mode.{Mode}
+use Rattle.g9932.specs.declared.Mode.the-variants.{Uncoded, Coded}
+use Rattle.g9932.specs.declared.Place.{Place}
+use Rattle.g9932.specs.declared.Refusal.the-variants.{Offgrid, Monitor}
+use Rattle.mapper.specs.Reading.{LabelNeeds, LabelIs, DemapsPoints, wrongFiller, ChecksFiller, JoinNeeds, CollectNeeds, CollectsLabels}
+use Rattle.mapper.specs.Writing.{FillerNeeds}
+use Rattle.mapper.specs.declared.read.FillerRead.{FillerRead}
+use Rattle.passes.specs.ReadSymbol.{PlacesOf, ReadsPlaces, FrameRoom, FrameOf, ReadsFrame}
+use Rattle.passes.specs.declared.read.PlacesRead.the-variants.{Refused, Done}
+use Rattle.trellis.specs.Reading.{LabelNeeds as TrellisNeeds, readingOfAll, ReadsLabels}
+use Rattle.trellis.specs.declared.read.PairsRead.{PairsRead}
+use Rattle.passes.proofs.FillerPlaces.{register-places, wrong-first}
+use Rattle.passes.proofs.PlanLabels.{joined, joined-count, by-entry, joined-within, ones-small, plan-placed, where-inside, all-count}
+use Rattle.passes.proofs.SymbolPoints.{class-at, load-at, tone-layout, offgrid-first, label-is, carried, label-small, tells-filler, gathered}
+
+-- ---- the places
+
+module _ {cs : List Class} {from : ℕ} {es ps ms layouts labels : List ℕ} {xs ys : List ℤ} (w : PlacesOf cs from es ps ms layouts labels xs ys) where
+  same : length ys ≡ length xs
+  same = w .ysLength ∙ sym (w .xsLength)
+
+  pub demap-needs : LabelNeeds layouts xs ys labels
+  demap-needs =
+      record {
+        points =
+            record {
+              layoutsLength = ap length (w .plan .layoutsAre) ∙ length-map cs classLayout ∙ sym (w .xsLength);
+              ysLength = same;
+              ofTones = λ k h.
+                  let i : k < length cs = rw (w .xsLength) at h in
+                  rw (w .plan .layoutsAre, class-at cs k i) (tone-layout (getD cs k Silent) (w .plan .carries k i));
+            };
+        labelsLength = w .labelsLength ∙ sym (w .xsLength);
+      }
+
+  pub filler-needs : (ls : List ℕ) → length ls ≡ length cs → FillerNeeds ms ls
+  filler-needs ls n =
+      record {
+        below = λ k h.
+            let m = w .plan .monitoredAre in
+            let i = where-inside isMonitored 0 cs k (rw m at h) in
+            rw m (omega (arith, i .1));
+      }
+
+  module _ {ls : List ℕ} {f : Found} (d : DemapsPoints layouts xs ys ls f) where
+    offgrid-is : f ≡ first (offgridTest cs (points xs ys)) (length cs)
+    offgrid-is = offgrid-first cs (w .plan .carries) xs ys (w .xsLength) same f (rw (w .plan .layoutsAre) at (d .off))
+
+    -- 13
+    pub off-found : {k : Place} → f ≡ At (k .0) → (r : ℕ) → ReadsPlaces cs r (points xs ys) (Refused (Offgrid k)) ls
+    off-found e r = record { answer = λ v. found-here 13 _ (sym offgrid-is ∙ e) }
+
+    module _ (on : f ≡ Nothing) {r : ℕ} {c : FillerRead} (k : ChecksFiller ms r ls c) where
+      label : (i : ℕ) → i < length cs → LabelIs (classLayout (getD cs i Silent)) (getD (points xs ys) i origin) (entry ls i)
+      label = label-is cs (w .plan .carries) xs ys (w .xsLength) same ls (rw (w .plan .layoutsAre) at (d .labelled on))
+
+      tells : (i : ℕ) → i < length cs → getD cs i Silent ≡ Monitored → (s : ℕ) → eqb (entry ls i) (num (drawn 2 s)) ≡ isFiller Monitored s (getD (points xs ys) i origin)
+      tells i h mon s = tells-filler (getD (points xs ys) i origin) (entry ls i) (rw mon at (label i h)) s
+
+      monitor-is : c .monitor ≡ first (monitorTest r cs (points xs ys)) (length cs)
+      monitor-is = k .monitorIs ∙ ap (λ (l : List ℕ). wrongFiller r l ls Nothing) (w .plan .monitoredAre) ∙ wrong-first r cs (points xs ys) ls tells
+
+      -- 14
+      pub filler-found : {j : Place} → c .monitor ≡ At (j .0) → ReadsPlaces cs r (points xs ys) (Refused (Monitor j)) ls
+      filler-found e = record { answer = λ v. found-past 13 (sym offgrid-is ∙ on) (found-here 14 _ (sym monitor-is ∙ e)) }
+
+      pub none-found : c .monitor ≡ Nothing → ReadsPlaces cs r (points xs ys) (Done (c .register)) ls
+      none-found e =
+          let n : length ls ≡ length cs = d .labelsLength ∙ w .xsLength in
+          record {
+            answer =
+                record {
+                  onGrid = sym offgrid-is ∙ on;
+                  matched = sym monitor-is ∙ e;
+                  registerIs = k .registerIs ∙ ap (λ (l : List ℕ). afterDraws (2 * length l) r) (w .plan .monitoredAre) ∙ register-places cs 0 r;
+                  labelsAre =
+                      record {
+                        bitsAre = gathered cs (points xs ys) ls (length-points xs ys (sym same) ∙ w .xsLength) n
+                            (λ i h. carried (getD cs i Silent) (getD (points xs ys) i origin) (entry ls i) (w .plan .carries i h) (label i h));
+                        small = λ i h. rw (load-at cs i h) (label-small (getD cs i Silent) (getD (points xs ys) i origin) (entry ls i) (w .plan .carries i h) (label i h));
+                        labelsLength = n;
+                      };
+                };
+          }
+
+-- ---- the frame
+
+module _ {m : Mode} {cs : List Class} {d : List Bool} {from : ℕ} {es ps ms layouts labels held : List ℕ} (w : FrameOf m cs d from es ps ms layouts labels held) where
+  abbrev small : (k : ℕ) → k < length cs → 1 ≤ entry (map load cs) k → entry labels k < 2 ^ entry (map load cs) k
+  small = w .labelled .small
+
+  abbrev n : length labels ≡ length cs
+  n = w .labelled .labelsLength
+
+  abbrev ls : List ℕ
+  ls = joined (w .plan) labels n
+
+  pub join-needs : JoinNeeds labels from
+  join-needs =
+      record {
+        inside = omega (arith, all-count (w .plan), n);
+        ones = λ i l h.
+            let k : from + (i - from) ≡ i = omega arith in
+            rw (getD-drop from labels (i - from) 0, k) at (ones-small (w .plan) labels n small (i - from) (omega (arith, length-drop from labels)));
+      }
+
+  placed : Placed es ps ls
+  placed = plan-placed (w .plan) ls (joined-count (w .plan) labels n)
+
+  bits-are : bitsOfLabels es (labelsAt ps ls) ≡ d
+  bits-are = by-entry (w .plan) labels n small ∙ w .labelled .bitsAre
+
+  pub collect-needs : m ≡ Uncoded → CollectNeeds emptyWriter es ps ls held
+  collect-needs e =
+      let r : FrameRoom Uncoded es (length held) = rw e at (w .room) in
+      record {
+        same = placed .same;
+        counts = r .0;
+        places = placed .rising;
+        within = joined-within (w .plan) labels n small;
+        bytes = omega (arith, r .1);
+        waits = empty-waits;
+      }
+
+  pub trellis-needs : m ≡ Coded → Placed es ps ls × TrellisNeeds emptyWriter es (labelsAt ps ls) held
+  trellis-needs e =
+      let r : FrameRoom Coded es (length held) = rw e at (w .room) in
+      let t : TrellisNeeds emptyWriter es (labelsAt ps ls) held =
+      record {
+        wide = r .0;
+        few = r .1;
+        many = r .2;
+        within = joined-within (w .plan) labels n small;
+        bytes = omega (arith, r .3);
+        waits = empty-waits;
+      } in
+      (placed, t)
+
+  -- uncoded, the frame's bits are the labels'
+  pub collected : m ≡ Uncoded → (v : BitWriter) (mid after : List ℕ) → CollectsLabels emptyWriter es ps ls held v mid → Framed (written v mid) after → ReadsFrame m es d Nothing after
+  collected e v mid after c f =
+      rw e
+      (record {
+        brokenIs = refl;
+        framed = λ _. rw (c .whole, written-empty held, bits-are) at f;
+      })
+
+  -- coded, the code is read
+  module _ (e : m ≡ Coded) {p : PairsRead} {mid : List ℕ} (c : ReadsLabels emptyWriter es (labelsAt ps ls) held p mid) where
+    reading-is : readingOfAll es (labelsAt ps ls) ≡ readPairs zeroState (pairsOf es) d
+    reading-is = rw bits-are
+
+    pub broken-found : {k : ℕ} (after : List ℕ) → p .broken ≡ At k → ReadsFrame m es d (At k) after
+    broken-found after b = rw e (record { brokenIs = sym b ∙ c .broken ∙ ap breakIn reading-is; framed = λ z. absurd (found-not z) })
+
+    pub none-broken : (after : List ℕ) → p .broken ≡ Nothing → Framed (written (p .writer) mid) after → ReadsFrame m es d Nothing after
+    none-broken after b f =
+        rw e
+        (record {
+          brokenIs = sym b ∙ c .broken ∙ ap breakIn reading-is;
+          framed = λ _. rw (c .whole b, written-empty held, reading-is) at f;
+        })
+
+    -- the last byte is there
+    pub broken-room : p .broken ≡ Nothing → length mid ≡ length held → p .writer .next < length mid
+    broken-room b same =
+        let r : FrameRoom Coded es (length held) = rw e at (w .room) in
+        omega (arith, c .counted b, r .3)
+
+  pub collect-room : m ≡ Uncoded → {v : BitWriter} {mid : List ℕ} → CollectsLabels emptyWriter es ps ls held v mid → length mid ≡ length held → v .next < length mid
+  collect-room e c same =
+      let r : FrameRoom Uncoded es (length held) = rw e at (w .room) in
+      omega (arith, c .counted, r .1)

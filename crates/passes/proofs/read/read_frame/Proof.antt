@@ -1,0 +1,116 @@
+-- `passes::read::read_frame` meets its contract: shared labels joined, then collected, or read by the trellis code.
+use native.Mathlib.Omega.{arith}
+use Rattle.passes.proofs.ReadPlaces.{join-needs, collect-needs, trellis-needs, collected, broken-found, none-broken, broken-room, collect-room}
+use Rattle.frame.proofs.Stores.{finished}
+use borrow.Author.Needs.{needs}
+use Rattle.passes.proofs.read.read_frame.Statement.{statement}
+use Rattle.passes.proofs.read.read_frame.Tie as tie
+
+join-shared-requires : tie.Need-join-shared-requires
+join-shared-requires c κs = join-needs (c .before .before .before .before .before .pre .4)
+
+enum-told : tie.Need-enum-told
+enum-told c = search needs
+
+new-requires : tie.Need-new-requires
+new-requires c κs = search needs
+
+collect-labels-requires : tie.Need-collect-labels-requires
+collect-labels-requires c κs = rw (c .before .before .new .ensures, c .before .before .before .before .before .before .before .join-shared .ensures) (collect-needs (c .before .before .before .before .before .before .before .before .before .before .before .before .before .pre .4) (c .before .before .before .enum-told .given .1))
+
+finish-requires : tie.Need-finish-requires
+finish-requires c κs =
+    let s = c .before .before .before .before .before .before .before .before .before .before .before .before .before .before .before .before .before in
+    let w = c .before .before .before .collect-labels in
+    let e = rw (c .before .before .before .before .before .before .new .ensures, c .before .before .before .before .before .before .before .before .before .before .before .join-shared .ensures) at (w .ensures) in
+    (collect-room (s .pre .4) (c .before .before .before .before .before .before .before .enum-told .given .1) e (w .kept .1 .1 .1 .1 .0), e .waits)
+
+enum-told-2 : tie.Need-enum-told-2
+enum-told-2 c = search needs
+
+new-requires-2 : tie.Need-new-requires-2
+new-requires-2 c κs = search needs
+
+read-labels-requires : tie.Need-read-labels-requires
+read-labels-requires c κs = rw (c .before .before .new2 .ensures, c .before .before .before .before .before .before .before .join-shared .ensures) (trellis-needs (c .before .before .before .before .before .before .before .before .before .before .before .before .before .pre .4) (c .before .before .before .enum-told2 .given .1))
+
+enum-known-broken : tie.Need-enum-known-broken
+enum-known-broken c = search needs
+
+same-length : tie.Need-same-length
+same-length c = search needs
+
+same-length-2 : tie.Need-same-length-2
+same-length-2 c = search needs
+
+returns : tie.Need-returns
+returns c =
+    let p = c .before .before .before .before .before .before .read-labels in
+    let e = rw (c .before .before .before .before .before .before .before .before .before .new2 .ensures, c .before .before .before .before .before .before .before .before .before .before .before .before .before .before .join-shared .ensures) at (p .ensures) in
+    λ cs d ms layouts w. broken-found w (c .before .before .before .before .before .before .before .before .before .before .enum-told2 .given .1) e (p .last .1 .1 .1 .1 .0) (c .before .broken .given .1)
+
+enum-told-3 : tie.Need-enum-told-3
+enum-told-3 c = search needs
+
+finish-requires-2 : tie.Need-finish-requires-2
+finish-requires-2 c κs =
+    let s = c .before .before .before .before .before .before .before .before .before .before .before .before .before .before .before .before .before .before .before .before in
+    let p = c .before .before .before .before .before .before .read-labels in
+    let e = rw (c .before .before .before .before .before .before .before .before .before .new2 .ensures, c .before .before .before .before .before .before .before .before .before .before .before .before .before .before .join-shared .ensures) at (p .ensures) in
+    (broken-room (s .pre .4) (c .before .before .before .before .before .before .before .before .before .before .enum-told2 .given .1) e (c .before .enum-told3 .given .1) (p .kept .1 .1 .1 .1 .0), e .waits)
+
+same-length-3 : tie.Need-same-length-3
+same-length-3 c = search needs
+
+same-length-4 : tie.Need-same-length-4
+same-length-4 c = search needs
+
+returns-2 : tie.Need-returns-2
+returns-2 c =
+    let w = c .before .before .before .before .before .before .collect-labels in
+    let e = rw (c .before .before .before .before .before .before .before .before .before .new .ensures, c .before .before .before .before .before .before .before .before .before .before .before .before .before .before .join-shared .ensures) at (w .ensures) in
+    let f = c .before .before .finish in
+    λ cs d ms layouts s.
+    let h = collect-room s (c .before .before .before .before .before .before .before .before .before .before .enum-told .given .1) e (w .kept .1 .1 .1 .1 .0) in
+    collected s (c .before .before .before .before .before .before .before .before .before .before .enum-told .given .1) (w .result) (w .last .1 .1 .1 .1 .0) (f .last .1 .0) e (finished (w .result) (w .last .1 .1 .1 .1 .0) (f .last .1 .0) (omega arith) (omega (arith, f .kept .1 .0)) (e .waits) (f .ensures))
+
+same-length-5 : tie.Need-same-length-5
+same-length-5 c = search needs
+
+same-length-6 : tie.Need-same-length-6
+same-length-6 c = search needs
+
+returns-3 : tie.Need-returns-3
+returns-3 c =
+    let p = c .before .before .before .before .before .before .before .before .before .read-labels in
+    let e = rw (c .before .before .before .before .before .before .before .before .before .before .before .before .new2 .ensures, c .before .before .before .before .before .before .before .before .before .before .before .before .before .before .before .before .before .join-shared .ensures) at (p .ensures) in
+    let f = c .before .before .finish2 in
+    let none = c .before .before .before .before .enum-told3 .given .1 in
+    λ cs d ms layouts s.
+    let h = broken-room s (c .before .before .before .before .before .before .before .before .before .before .before .before .before .enum-told2 .given .1) e none (p .kept .1 .1 .1 .1 .0) in
+    none-broken s (c .before .before .before .before .before .before .before .before .before .before .before .before .before .enum-told2 .given .1) e (f .last .1 .0) none (finished (p .result .writer) (p .last .1 .1 .1 .1 .0) (f .last .1 .0) (omega arith) (omega (arith, f .kept .1 .0)) (e .waits) (f .ensures))
+
+pub read-frame-spec : {M : Type 1} → statement M
+read-frame-spec =
+    tie.close
+    (tie.spec
+    join-shared-requires
+    enum-told
+    new-requires
+    collect-labels-requires
+    finish-requires
+    enum-told-2
+    new-requires-2
+    read-labels-requires
+    enum-known-broken
+    same-length
+    same-length-2
+    returns
+    enum-told-3
+    finish-requires-2
+    same-length-3
+    same-length-4
+    returns-2
+    same-length-5
+    same-length-6
+    returns-3)

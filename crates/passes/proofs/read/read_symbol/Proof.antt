@@ -1,0 +1,152 @@
+-- `passes::read::read_symbol` meets its contract: 13 and 14 by the places, 15 by the pairs, or the frame copied. The labels are
+-- sliced twice, and the second time are as they were written.
+use Rattle.passes.proofs.SymbolPasses.{again, again-length, places-of, place-refused, frame-of, pair-refused, frame-fits, frame-read}
+use Rattle.g9932.specs.Symbol.{classesOf}
+use lib.Seq.{length-take-le}
+use native.Mathlib.Omega.{arith}
+use mathlib.Core.Path.{sym}
+use borrow.Author.Needs.{needs}
+use Rattle.passes.proofs.read.read_symbol.Statement.{statement}
+use Rattle.passes.proofs.read.read_symbol.Tie as tie
+
+slice-aggregate-read-places : tie.Need-slice-aggregate-read-places
+slice-aggregate-read-places c =
+    let s = c .before .before .before .before .before .before .before .before in
+    sym (length-take-le _ (s .args .monitored .now) (s .pre .fits .monitoredFit))
+
+slice-aggregate-read-places-2 : tie.Need-slice-aggregate-read-places-2
+slice-aggregate-read-places-2 c =
+    let s = c .before .before .before .before .before .before .before .before .before in
+    sym (length-take-le _ (s .args .layouts .now) (s .pre .fits .layoutsFit))
+
+slice-relend-prefix-read-places : tie.Need-slice-relend-prefix-read-places
+slice-relend-prefix-read-places c = search needs
+
+slice-aggregate-read-places-3 : tie.Need-slice-aggregate-read-places-3
+slice-aggregate-read-places-3 c =
+    let s = c .before .before .before .before .before .before .before .before .before .before in
+    sym (length-take-le _ (s .args .labels .now) (s .pre .fits .labelsFit))
+
+read-places-requires : tie.Need-read-places-requires
+read-places-requires c κs =
+    let s = c .before .before .before .before .before .before .before .before .before .before in
+    (_, _, _, _, places-of (s .pre .planned))
+
+enum-known-t : tie.Need-enum-known-t
+enum-known-t c = search needs
+
+same-length : tie.Need-same-length
+same-length c = search needs
+
+returns : tie.Need-returns
+returns c =
+    let d = c .before .before .before .before .before .read-places in
+    let t = c .before .t in
+    λ T g. place-refused g (d .ensures (classesOf T) _ _ _ (places-of g)) (t .given .1)
+
+enum-known-t-2 : tie.Need-enum-known-t-2
+enum-known-t-2 c = search needs
+
+slice-aggregate-read-frame : tie.Need-slice-aggregate-read-frame
+slice-aggregate-read-frame c =
+    let s = c .before .before .before .before .before .before .before .before .before .before .before .before .before .before .before .before .before in
+    sym (length-take-le _ (s .args .entries .now) (s .pre .fits .entriesFit))
+
+slice-aggregate-read-frame-2 : tie.Need-slice-aggregate-read-frame-2
+slice-aggregate-read-frame-2 c =
+    let s = c .before .before .before .before .before .before .before .before .before .before .before .before .before .before .before .before .before .before in
+    sym (length-take-le _ (s .args .places .now) (s .pre .fits .placesFit))
+
+slice-relend-prefix-read-frame : tie.Need-slice-relend-prefix-read-frame
+slice-relend-prefix-read-frame c = search needs
+
+slice-aggregate-read-frame-3 : tie.Need-slice-aggregate-read-frame-3
+slice-aggregate-read-frame-3 c =
+    let d = c .before .before .before .before .before .before .before .before .read-places in
+    let s = c .before .before .before .before .before .before .before .before .before .before .before .before .before .before .before .before .before .before .before in
+    again-length (d .last .1 .1 .1 .1 .1 .0) (s .args .labels .now) _ (s .pre .fits .labelsFit) (d .kept .1 .1 .1 .1 .1 .0)
+
+read-frame-requires : tie.Need-read-frame-requires
+read-frame-requires c κs =
+    let s = c .before .before .before .before .before .before .before .before .before .before .before .before .before .before .before .before .before .before .before .before in
+    let d = c .before .before .before .before .before .before .before .before .before .read-places in
+    let t = c .before .before .before .before .before .t2 in
+    (_, _, _, _, frame-of (s .pre .planned) (d .ensures (classesOf (s .pre .tables)) _ _ _ (places-of (s .pre .planned))) (t .given .1) (again _ (s .args .labels .now) _ (s .pre .fits .labelsFit) (d .kept .1 .1 .1 .1 .1 .0)))
+
+enum-known-broken : tie.Need-enum-known-broken
+enum-known-broken c = search needs
+
+same-length-2 : tie.Need-same-length-2
+same-length-2 c = search needs
+
+same-length-3 : tie.Need-same-length-3
+same-length-3 c = search needs
+
+returns-2 : tie.Need-returns-2
+returns-2 c =
+    let d = c .before .before .before .before .before .before .before .before .before .before .before .before .before .before .before .before .before .read-places in
+    let t = c .before .before .before .before .before .before .before .before .before .before .before .before .before .t2 in
+    let b = c .before .before .before .before .before .before .before .read-frame in
+    let s = c .before .before .before .before .before .before .before .before .before .before .before .before .before .before .before .before .before .before .before .before .before .before .before .before .before .before .before .before in
+    let k = c .before .broken in
+    λ T g. pair-refused g (d .ensures (classesOf T) _ _ _ (places-of g)) (t .given .1) (b .ensures (classesOf T) _ _ _ (frame-of g (d .ensures (classesOf T) _ _ _ (places-of g)) (t .given .1) (again _ (s .args .labels .now) _ (s .pre .fits .labelsFit) (d .kept .1 .1 .1 .1 .1 .0)))) (k .given .1)
+
+enum-told : tie.Need-enum-told
+enum-told c = search needs
+
+copy-requires : tie.Need-copy-requires
+copy-requires c κs =
+    let s = c .before .before .before .before .before .before .before .before .before .before .before .before .before .before .before .before .before .before .before .before .before .before .before .before .before .before .before .before .before in
+    let d = c .before .before .before .before .before .before .before .before .before .before .before .before .before .before .before .before .before .before .read-places in
+    let t = c .before .before .before .before .before .before .before .before .before .before .before .before .before .before .t2 in
+    let b = c .before .before .before .before .before .before .before .before .read-frame in
+    frame-fits (s .pre .planned) (d .ensures (classesOf (s .pre .tables)) _ _ _ (places-of (s .pre .planned))) (t .given .1) (b .ensures (classesOf (s .pre .tables)) _ _ _ (frame-of (s .pre .planned) (d .ensures (classesOf (s .pre .tables)) _ _ _ (places-of (s .pre .planned))) (t .given .1) (again _ (s .args .labels .now) _ (s .pre .fits .labelsFit) (d .kept .1 .1 .1 .1 .1 .0)))) (b .kept .1 .1 .1 .1 .1 .0)
+
+same-length-4 : tie.Need-same-length-4
+same-length-4 c = search needs
+
+same-length-5 : tie.Need-same-length-5
+same-length-5 c = search needs
+
+same-length-6 : tie.Need-same-length-6
+same-length-6 c = search needs
+
+returns-3 : tie.Need-returns-3
+returns-3 c =
+    let d = c .before .before .before .before .before .before .before .before .before .before .before .before .before .before .before .before .before .before .before .before .before .read-places in
+    let t = c .before .before .before .before .before .before .before .before .before .before .before .before .before .before .before .before .before .t2 in
+    let b = c .before .before .before .before .before .before .before .before .before .before .before .read-frame in
+    let s = c .before .before .before .before .before .before .before .before .before .before .before .before .before .before .before .before .before .before .before .before .before .before .before .before .before .before .before .before .before .before .before .before in
+    let e = c .before .before .before .before .before .enum-told in
+    let h = c .before .before .before .before .before .before .before .slice-known6 in
+    let o = c .before .before .copy in
+    λ T g. frame-read g (d .ensures (classesOf T) _ _ _ (places-of g)) (t .given .1) (b .ensures (classesOf T) _ _ _ (frame-of g (d .ensures (classesOf T) _ _ _ (places-of g)) (t .given .1) (again _ (s .args .labels .now) _ (s .pre .fits .labelsFit) (d .kept .1 .1 .1 .1 .1 .0)))) (b .kept .1 .1 .1 .1 .1 .0) (e .given .1) (λ k i. omega (arith, h .given k)) (o .last .1 .0) (o .ensures)
+
+pub read-symbol-spec : {M : Type 1} → statement M
+read-symbol-spec =
+    tie.close
+    (tie.spec
+    slice-aggregate-read-places
+    slice-aggregate-read-places-2
+    slice-relend-prefix-read-places
+    slice-aggregate-read-places-3
+    read-places-requires
+    enum-known-t
+    same-length
+    returns
+    enum-known-t-2
+    slice-aggregate-read-frame
+    slice-aggregate-read-frame-2
+    slice-relend-prefix-read-frame
+    slice-aggregate-read-frame-3
+    read-frame-requires
+    enum-known-broken
+    same-length-2
+    same-length-3
+    returns-2
+    enum-told
+    copy-requires
+    same-length-4
+    same-length-5
+    same-length-6
+    returns-3)

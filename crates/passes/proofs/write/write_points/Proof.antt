@@ -1,0 +1,45 @@
+-- `passes::write::write_points` meets its contract: shared labels split, filler bits set, and the points are those of the labels.
+use mathlib.Core.Path.{_∙_}
+use Rattle.passes.proofs.WritePoints.{shared-inside, filler-needs, put-needs, written}
+use borrow.Author.Needs.{needs}
+use Rattle.passes.proofs.write.write_points.Statement.{statement}
+use Rattle.passes.proofs.write.write_points.Tie as tie
+
+split-shared-requires : tie.Need-split-shared-requires
+split-shared-requires c κs = shared-inside (c .before .before .before .before .pre .4)
+
+set-filler-requires : tie.Need-set-filler-requires
+set-filler-requires c κs = rw (c .before .before .before .split-shared .ensures) (filler-needs (c .before .before .before .before .before .before .before .before .pre .4))
+
+put-points-requires : tie.Need-put-points-requires
+put-points-requires c κs =
+    let f = c .before .before .before .before .before .set-filler .ensures .labelsAre in
+    rw (f, c .before .before .before .before .before .before .before .before .before .split-shared .ensures) (put-needs (c .before .before .before .before .before .before .before .before .before .before .before .before .before .before .pre .4) (c .before .before .before .before .before .before .before .before .before .before .before .before .before .before .args .register))
+
+same-length : tie.Need-same-length
+same-length c = c .before .before .before .before .before .before .before .before .set-filler .kept .1 .1 .0 ∙ c .before .before .before .before .before .before .before .before .before .before .before .before .split-shared .kept .0
+
+same-length-2 : tie.Need-same-length-2
+same-length-2 c = search needs
+
+same-length-3 : tie.Need-same-length-3
+same-length-3 c = search needs
+
+returns : tie.Need-returns
+returns c =
+    let a = c .before .before .before .before .before .before .before .before .before .before .before .before .before .before .before .before .before .args in
+    let f = c .before .before .before .before .before .before .before .before .set-filler .ensures in
+    let p = c .before .before .put-points in
+    λ cs d es ps w. written w (a .register) (c .before .before .before .before .before .before .before .before .set-filler .result) (p .last .1 .1 .0) (p .last .1 .1 .1 .0) (f .registerIs) (p .kept .1 .1 .0) (p .kept .1 .1 .1 .0) (rw (f .labelsAre, c .before .before .before .before .before .before .before .before .before .before .before .before .split-shared .ensures) at (p .ensures))
+
+pub write-points-spec : {M : Type 1} → statement M
+write-points-spec =
+    tie.close
+    (tie.spec
+    split-shared-requires
+    set-filler-requires
+    put-points-requires
+    same-length
+    same-length-2
+    same-length-3
+    returns)

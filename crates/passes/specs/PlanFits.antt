@@ -1,0 +1,13 @@
+-- The lists of a plan in their arrays.
+use Prim.Native.Nat.{ℕ, _≤_}
+use mathlib.Core.List.{List}
+use lib.ListN.{length}
+use Rattle.plan.specs.declared.Sizes.{Sizes}
+
+-- the lists of a plan for n tones, and the labels by place, stand within their arrays
+pub record PlanFits (p : Sizes) (n : ℕ) (layouts entries places monitored labels : List ℕ) : Type 0 where
+  pub layoutsFit : n ≤ length layouts
+  pub entriesFit : p .entries ≤ length entries
+  pub placesFit : p .entries ≤ length places
+  pub monitoredFit : p .monitored ≤ length monitored
+  pub labelsFit : n ≤ length labels

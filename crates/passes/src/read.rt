@@ -1,0 +1,131 @@
+// Reading a symbol.
+ghost use Rattle.passes.specs.ReadSymbol.{PlaceNeeds, ReadsAll, ReadFrameNeeds, ReadsFrames, ReadNeeds, ReadsSymbol};
+use frame::BitWriter;
+use g9932::Answer;
+use g9932::Found;
+use g9932::Mode;
+use g9932::Place;
+use g9932::Refusal;
+use plan::Sizes;
+
+// The places read: what 13 or 14 refuses, or else the register after the draws, with the labels by place.
+pub enum PlacesRead {
+    Refused(Refusal),
+    Done(u32),
+}
+
+// The labels of the points by place, or 13 at the first one off its constellation, or else 14 at the first whose label is not the
+// filler bits.
+fn read_places(
+    monitored: &[u16],
+    layouts: &[u16],
+    xs: &[i16],
+    ys: &[i16],
+    register: u32,
+    labels: &mut [u16],
+) -> PlacesRead
+    requires { ⌜ PlaceNeeds (now monitored) (now layouts) (now labels) (now xs) (now ys) ⌝ }
+    ensures { λ r. ⌜ ReadsAll (now (monitored .entry)) (now (layouts .entry)) (now (labels .entry)) (now (xs .entry)) (now (ys .entry)) register r (now (labels .exit)) ⌝ }
+{
+    let offgrid = mapper::read::demap_points(layouts, xs, ys, labels);
+    if let Found::At(k) = offgrid {
+        return PlacesRead::Refused(Refusal::Offgrid(Place(k)));
+    }
+    let f = mapper::read::check_filler(monitored, register, labels);
+    let monitor = f.monitor;
+    if let Found::At(k) = monitor {
+        return PlacesRead::Refused(Refusal::Monitor(Place(k)));
+    }
+    PlacesRead::Done(f.register)
+}
+
+// The frame of labels by place, at the start of a buffer, or else the first pair that breaks the code. From place `shared` on two
+// tones share a label.
+fn read_frame(
+    mode: Mode,
+    shared: usize,
+    entries: &[u8],
+    places: &[u16],
+    labels: &mut [u16],
+    held: &mut [u8],
+) -> Found
+    requires { ⌜ ReadFrameNeeds mode shared (now entries) (now places) (now labels) (now held) ⌝ }
+    ensures { λ r. ⌜ ReadsFrames mode shared (now (entries .entry)) (now (places .entry)) (now (labels .entry)) (now (held .entry)) r (now (held .exit)) ⌝ }
+{
+    mapper::read::join_shared(labels, shared);
+    match mode {
+        Mode::Uncoded => {
+            let w = mapper::read::collect_labels(BitWriter::new(), entries, places, labels, held);
+            w.finish(held);
+            Found::Nothing
+        }
+        Mode::Coded => {
+            let p = trellis::read::read_labels(BitWriter::new(), labels, entries, places, held);
+            let broken = p.broken;
+            let w = p.writer;
+            if let Found::At(k) = broken {
+                return Found::At(k);
+            }
+            w.finish(held);
+            Found::Nothing
+        }
+    }
+}
+
+// Refusals 13 to 15 of the points of a symbol of n tones, by the plan of its tables in four arrays; or else writes the frame. The
+// frame is held in a buffer until it is known to be whole. Called by proved code only.
+pub fn read_symbol(
+    mode: Mode,
+    p: Sizes,
+    n: usize,
+    layouts: &[u16],
+    entries: &[u8],
+    places: &[u16],
+    monitored: &[u16],
+    xs: &[i16],
+    ys: &[i16],
+    register: u32,
+    labels: &mut [u16],
+    held: &mut [u8],
+    frame: &mut [u8],
+) -> Answer
+    requires { ⌜ ReadNeeds mode p n (now layouts) (now entries) (now places) (now monitored) (now xs) (now ys) (now labels) (now held) (now frame) ⌝ }
+    ensures { λ r. ⌜ ReadsSymbol mode p n (now (layouts .entry)) (now (entries .entry)) (now (places .entry)) (now (monitored .entry)) (now (xs .entry)) (now (ys .entry)) (now (labels .entry)) (now (held .entry)) (now (frame .entry)) register r (now (frame .exit)) ⌝ }
+{
+    let e = p.entries;
+    let m = p.monitored;
+    let t = read_places(
+        &monitored[..m],
+        &layouts[..n],
+        xs,
+        ys,
+        register,
+        &mut labels[..n],
+    );
+    match t {
+        PlacesRead::Refused(refusal) => {
+            return Answer::Refused { refusal, register };
+        }
+        PlacesRead::Done(after) => {
+            let broken = read_frame(
+                mode,
+                p.shared,
+                &entries[..e],
+                &places[..e],
+                &mut labels[..n],
+                held,
+            );
+            if let Found::At(k) = broken {
+                return Answer::Refused {
+                    refusal: Refusal::Trellis(k),
+                    register,
+                };
+            }
+            frame::copy(held, frame);
+            return Answer::Done {
+                size: p.size,
+                register: after,
+            };
+        }
+    }
+}

@@ -1,0 +1,81 @@
+// Writing a symbol.
+ghost use Rattle.passes.specs.WriteSymbol.{LabelFrameNeeds, sentFor, Labels, PointNeeds, WritesAll, SymbolNeeds, WritesSymbol};
+use g9932::Mode;
+use plan::Sizes;
+
+// The labels of a frame whose bits begin at bit `start`, each at its entry's place: coded, the trellis makes them.
+fn label_frame(
+    mode: Mode,
+    frame: &[u8],
+    start: usize,
+    entries: &[u8],
+    places: &[u16],
+    labels: &mut [u16],
+)
+    requires { ⌜ LabelFrameNeeds mode (now frame) start (now entries) (now places) (now labels) ⌝ }
+    ensures { λ _. ⌜ Labels (sentFor mode (now (frame .entry)) start (now (entries .entry))) (now (entries .entry)) (now (places .entry)) (now (labels .exit)) ⌝ }
+{
+    match mode {
+        Mode::Uncoded => mapper::write::cut_labels(frame, start, entries, places, labels),
+        Mode::Coded => trellis::encode_labels(frame, start, entries, places, labels),
+    }
+}
+
+// The points of labels at their entries' places, and the register after the draws. From place `shared` on two tones share a label.
+fn write_points(
+    shared: usize,
+    monitored: &[u16],
+    layouts: &[u16],
+    register: u32,
+    labels: &mut [u16],
+    xs: &mut [i16],
+    ys: &mut [i16],
+) -> u32
+    requires { ⌜ PointNeeds shared (now monitored) (now layouts) (now labels) (now xs) (now ys) ⌝ }
+    ensures { λ r. ⌜ WritesAll shared (now (monitored .entry)) (now (layouts .entry)) (now (labels .entry)) (now (xs .entry)) (now (ys .entry)) register r (now (xs .exit)) (now (ys .exit)) ⌝ }
+{
+    mapper::write::split_shared(labels, shared);
+    let after = mapper::write::set_filler(monitored, register, labels);
+    mapper::write::put_points(layouts, labels, xs, ys);
+    after
+}
+
+// The symbol of an accepted frame of n tones, by the plan of its tables in four arrays, and the register after the draws. Called by
+// proved code only.
+pub fn write_symbol(
+    mode: Mode,
+    p: Sizes,
+    n: usize,
+    frame: &[u8],
+    register: u32,
+    layouts: &[u16],
+    entries: &[u8],
+    places: &[u16],
+    monitored: &[u16],
+    labels: &mut [u16],
+    xs: &mut [i16],
+    ys: &mut [i16],
+) -> u32
+    requires { ⌜ SymbolNeeds mode p n (now frame) (now layouts) (now entries) (now places) (now monitored) (now labels) (now xs) (now ys) ⌝ }
+    ensures { λ r. ⌜ WritesSymbol mode p n (now (frame .entry)) (now (layouts .entry)) (now (entries .entry)) (now (places .entry)) (now (monitored .entry)) (now (labels .entry)) (now (xs .entry)) (now (ys .entry)) register r (now (xs .exit)) (now (ys .exit)) ⌝ }
+{
+    let e = p.entries;
+    let m = p.monitored;
+    label_frame(
+        mode,
+        frame,
+        0,
+        &entries[..e],
+        &places[..e],
+        &mut labels[..n],
+    );
+    write_points(
+        p.shared,
+        &monitored[..m],
+        &layouts[..n],
+        register,
+        &mut labels[..n],
+        xs,
+        ys,
+    )
+}
