@@ -1,7 +1,8 @@
 -- The free pairs: the state as a number, and the table of the encoder's steps.
-use Prim.Native.Nat.{ℕ, zero, suc, _+_, _-_, _*_, _/_, _^_, _<_}
+use Prim.Native.Nat.{ℕ, zero, suc, _+_, _-_, _*_, _/_, _%_, _^_, _<_}
 use mathlib.Core.Bool.{Bool, false}
 use mathlib.Core.List.{List, [], _∷_}
+use mathlib.Core.Path.{_≡_}
 use Rattle.g9932.specs.Bits.{weight, odd}
 use Rattle.g9932.specs.Order.{pair}
 use Rattle.g9932.specs.Trellis.{lowBits, nextState}
@@ -10,6 +11,7 @@ use Rattle.g9932.specs.declared.TrellisState.{TrellisState}
 use Rattle.trellis.specs.Coding.{CodesPair}
 use Rattle.trellis.specs.declared.Coder.{Coder}
 use Rattle.trellis.specs.declared.pairs.FreePair.{FreePair}
+use Rattle.trellis.specs.declared.pairs.NumberStep.{NumberStep}
 
 -- a state (S3, S2, S1, S0) as a number, and the state of a number
 unfoldable pub stateNumber : TrellisState → ℕ
@@ -45,7 +47,14 @@ maskList = valuesFrom (λ k. 2 ^ k - 1) 0 14
 abbrev pub coderAt : ℕ → ℕ → Coder
 coderAt state at = record { state = stateAt state; at = at }
 
+-- what a step hands back, by its number
+pub record StepsBy (t : ℕ) (r : NumberStep) : Type 0 where
+  pub nextIs : r .next .0 ≡ t / 16
+  pub vIs : r .v ≡ t % 4
+  pub wIs : r .w ≡ t / 4 % 4
+  pub small : t < 256
+
 -- a free pair coded
 pub record CodesFreePair (state at x y : ℕ) (frame : List ℕ) (r : FreePair) : Type 0 where
-  pub small : r .state < 16
-  pub codes : CodesPair (coderAt state at) false (pair x y) frame (record { v = r .v; w = r .w; coder = coderAt (r .state) (at + (x + y - 1)) })
+  pub small : r .state .0 < 16
+  pub codes : CodesPair (coderAt state at) false (pair x y) frame (record { v = r .v; w = r .w; coder = coderAt (r .state .0) (at + (x + y - 1)) })

@@ -1,5 +1,5 @@
 // The pairs of two entries: the free pairs, then the last two, whose u1 and u2 are forced. The free pairs are nearly all, so there the
-// state is a plain number, and one look-up takes a step.
+// state is one number, and one look-up takes a step.
 ghost use mathlib.Core.Path.{_≡_};
 ghost use mathlib.Core.Bool.{true, false};
 ghost use Prim.Native.Nat.{_+_, _-_, _*_, _/_, _%_, _^_, _≤_, _<_};
@@ -10,7 +10,7 @@ ghost use Rattle.g9932.specs.Order.{pair};
 ghost use Rattle.g9932.specs.Sizes.{mostTones};
 ghost use Rattle.g9932.specs.Trellis.{lowBits, nextState};
 ghost use Rattle.trellis.specs.Coding.{CodePairNeeds, CodesPair, CodeNeeds, CodesFrom, Wide};
-ghost use Rattle.trellis.specs.Steps.{stateNumber, stateAt, stepNumber, stepList, maskList, coderAt, CodesFreePair};
+ghost use Rattle.trellis.specs.Steps.{stateNumber, stateAt, stepNumber, stepList, maskList, coderAt, StepsBy, CodesFreePair};
 use super::Coder;
 use super::PairCode;
 use super::entry;
@@ -68,7 +68,32 @@ fn mask_table() -> [u64; 14]
     ]
 }
 
-// A state as a number.
+// A state of the encoder as one number: S0 + 2 S1 + 4 S2 + 8 S3.
+pub struct StateNumber(pub usize);
+
+// What a step hands back: the next state, and the two lowest bits of the labels v and w.
+pub struct NumberStep {
+    pub next: StateNumber,
+    pub v: u32,
+    pub w: u32,
+}
+
+impl StateNumber {
+    // One step of the encoder by u1 to u3, the lowest bits of the word.
+    fn step(self, steps: &[u8; 128], word: u64) -> NumberStep
+        requires { ⌜ (now steps ≡ stepList) × (self .0 < 16) ⌝ }
+        ensures { λ r. ⌜ StepsBy (stepNumber (stateAt (self .0)) (odd word) (odd (word / 2)) (odd (word / 4))) r ⌝ }
+    {
+        let t = steps[8 * self.0 + (word % 8) as usize] as u32;
+        NumberStep {
+            next: StateNumber((t / 16) as usize),
+            v: t % 4,
+            w: t / 4 % 4,
+        }
+    }
+}
+
+// The number of a state.
 fn state_number(s: TrellisState) -> usize
     ensures { λ r. ⌜ (r ≡ stateNumber s) × (r < 16) ⌝ }
 {
@@ -87,14 +112,6 @@ fn state_of(k: usize) -> TrellisState
     }
 }
 
-// The step from a state by u1 to u3, the lowest bits of the word.
-fn step_by(steps: &[u8; 128], state: usize, word: u64) -> u32
-    requires { ⌜ (now steps ≡ stepList) × (state < 16) ⌝ }
-    ensures { λ r. ⌜ (r ≡ stepNumber (stateAt state) (odd word) (odd (word / 2)) (odd (word / 4))) × (r < 256) ⌝ }
-{
-    steps[8 * state + (word % 8) as usize] as u32
-}
-
 // The k lowest bits of a word.
 fn lowest_by(masks: &[u64; 14], k: usize, word: u64) -> u32
     requires { ⌜ (now masks ≡ maskList) × (k < 14) ⌝ }
@@ -107,28 +124,29 @@ fn lowest_by(masks: &[u64; 14], k: usize, word: u64) -> u32
 pub struct FreePair {
     pub v: u32,
     pub w: u32,
-    pub state: usize,
+    pub state: StateNumber,
 }
 
 // Codes a free pair.
 fn code_free_pair(
     frame: &[u8],
     at: usize,
-    state: usize,
+    state: StateNumber,
     x: usize,
     y: usize,
     steps: &[u8; 128],
     masks: &[u64; 14],
 ) -> FreePair
-    requires { ⌜ (now steps ≡ stepList) × (now masks ≡ maskList) × (state < 16) × (2 ≤ x) × (x ≤ 15) × (2 ≤ y) × (y ≤ 15) × CodePairNeeds (coderAt state at) false (pair x y) (now frame) ⌝ }
-    ensures { λ r. ⌜ CodesFreePair state at x y (now (frame .entry)) r ⌝ }
+    requires { ⌜ (now steps ≡ stepList) × (now masks ≡ maskList) × (state .0 < 16) × (2 ≤ x) × (x ≤ 15) × (2 ≤ y) × (y ≤ 15) × CodePairNeeds (coderAt (state .0) at) false (pair x y) (now frame) ⌝ }
+    ensures { λ r. ⌜ CodesFreePair (state .0) at x y (now (frame .entry)) r ⌝ }
 {
     let word = frame::ahead(frame, at);
-    let t = step_by(steps, state, word);
+    let t = state.step(steps, word);
+    let next = t.next;
     FreePair {
-        v: t % 4 + 4 * lowest_by(masks, x - 2, word >> 3),
-        w: t / 4 % 4 + 4 * lowest_by(masks, y - 2, word >> (x + 1)),
-        state: (t / 16) as usize,
+        v: t.v + 4 * lowest_by(masks, x - 2, word >> 3),
+        w: t.w + 4 * lowest_by(masks, y - 2, word >> (x + 1)),
+        state: next,
     }
 }
 
@@ -218,7 +236,7 @@ pub fn code_from(
 {
     let steps = step_table();
     let masks = mask_table();
-    let mut state = state_number(c.state);
+    let mut state = StateNumber(state_number(c.state));
     let mut at = c.at;
     let mut i = from;
     while i + 5 < entries.len() {
@@ -230,5 +248,5 @@ pub fn code_from(
         at += x + y - 1;
         i += 2;
     }
-    code_forced_pairs(state, at, frame, entries, places, i, labels);
+    code_forced_pairs(state.0, at, frame, entries, places, i, labels);
 }

@@ -1,8 +1,10 @@
 -- `trellis::pairs::code_free_pair` meets its contract: the step and the masked word make the pair's labels.
-use Rattle.trellis.proofs.FreePair.{free-coded}
+use mathlib.Core.Path.{refl, ap₂}
+use Prim.Native.Nat.{ℕ, _+_, _*_, _/_}
 use native.Mathlib.Omega.{arith}
-use mathlib.Core.Path.{ap}
-use Prim.Native.Nat.{ℕ, _+_, _*_, _/_, _%_}
+use Rattle.g9932.specs.Bits.{odd}
+use Rattle.trellis.proofs.FreePair.{free-coded}
+use Rattle.trellis.specs.Steps.{stateAt, stepNumber}
 use borrow.Author.Needs.{needs}
 use Rattle.trellis.proofs.pairs.code_free_pair.Statement.{statement}
 use Rattle.trellis.proofs.pairs.code_free_pair.Tie as tie
@@ -10,8 +12,8 @@ use Rattle.trellis.proofs.pairs.code_free_pair.Tie as tie
 ahead-requires : tie.Need-ahead-requires
 ahead-requires c κs = search needs
 
-step-by-requires : tie.Need-step-by-requires
-step-by-requires c κs = search needs
+step-requires : tie.Need-step-requires
+step-requires c κs = search needs
 
 sub-lowest-by : tie.Need-sub-lowest-by
 sub-lowest-by c = search needs
@@ -37,35 +39,31 @@ shr-lowest-by c = search needs
 lowest-by-requires-2 : tie.Need-lowest-by-requires-2
 lowest-by-requires-2 c κs = search needs
 
-mul-t23 : tie.Need-mul-t23
-mul-t23 c = search needs
+mul-t21 : tie.Need-mul-t21
+mul-t21 c = search needs
 
-add-t24 : tie.Need-add-t24
-add-t24 c = search needs
-
-cast-t26 : tie.Need-cast-t26
-cast-t26 c = search needs
+add-t22 : tie.Need-add-t22
+add-t22 c = search needs
 
 returns : tie.Need-returns
 returns c =
-    let s = c .before .before .before .before .before in
+    let s = c .before .before .before .before .before .before .before .before in
     let a = s .args in
     let p = s .pre in
-    let t = c .before .before .step-by in
-    record {
-      small = omega (arith, t .ensures .1);
-      codes =
-          free-coded (a .frame .now) (a .state) (a .at) (a .x) (a .y) (c .before .before .before .ahead .result) (t .result) (p .3) (p .4) (p .5) (p .6) (p .7 .bits)
-          (c .before .before .before .ahead .ensures) (t .ensures .0) _ _ (ap (λ (n : ℕ). t .result % 4 + 4 * n) (c .before .lowest-by .ensures .0))
-          (ap (λ (n : ℕ). t .result / 4 % 4 + 4 * n) (c .lowest-by2 .ensures .0));
-    }
+    let word = c .before .before .before .before .before .before .ahead .result in
+    let t = c .before .before .before .before .before .step .ensures in
+    let n : ℕ = stepNumber (stateAt (a .state .0)) (odd word) (odd (word / 2)) (odd (word / 4)) in
+    let codes =
+    free-coded (a .frame .now) (a .state .0) (a .at) (a .x) (a .y) word n (p .3) (p .4) (p .5) (p .6) (p .7 .bits) (c .before .before .before .before .before .before .ahead .ensures) refl _ _
+    (ap₂ (λ (v k : ℕ). v + 4 * k) (t .vIs) (c .before .before .before .lowest-by .ensures .0)) (ap₂ (λ (w k : ℕ). w + 4 * k) (t .wIs) (c .before .lowest-by2 .ensures .0)) in
+    record { small = omega (arith, t .nextIs, t .small); codes = rw (t .nextIs) codes }
 
 pub code-free-pair-spec : {M : Type 1} → statement M
 code-free-pair-spec =
     tie.close
     (tie.spec
     ahead-requires
-    step-by-requires
+    step-requires
     sub-lowest-by
     lowest-by-requires
     mul-t14
@@ -74,7 +72,6 @@ code-free-pair-spec =
     add-lowest-by
     shr-lowest-by
     lowest-by-requires-2
-    mul-t23
-    add-t24
-    cast-t26
+    mul-t21
+    add-t22
     returns)

@@ -16,7 +16,7 @@ use Rattle.trellis.proofs.pairs.code_from.Tie as tie
 
 abbrev Inv-loop : tie.InvT-loop
 Inv-loop frame entries places from labels₀ steps masks state₀ at₀ i₀ labels state at i =
-    CodesUpTo (coderAt state₀ at₀) (coderAt state at) entries frame (labelsAt places labels₀) (labelsAt places labels) i₀ i × (length labels ≡ length labels₀) × (state < 16)
+    CodesUpTo (coderAt (state₀ .0) at₀) (coderAt (state .0) at) entries frame (labelsAt places labels₀) (labelsAt places labels) i₀ i × (length labels ≡ length labels₀) × (state .0 < 16)
 
 abbrev μ-loop : tie.MeasureT-loop
 μ-loop frame entries places from labels₀ steps masks state₀ at₀ i₀ labels state at i = length entries - i
@@ -25,7 +25,7 @@ abbrev μ-loop : tie.MeasureT-loop
 at-pair : (c : tie.After-entry2 Inv-loop μ-loop) → let n = c .before .before .before .before in
     let l = c .before .before .before .loop in
     let a = n .before .before .before .before .before .before .before .args in
-    AtPair (coderAt (n .state-number .result) (a .c .at)) (coderAt (l .state) (l .at)) (a .entries .now) (a .frame .now) (labelsAt (a .places .now) (a .labels .now))
+    AtPair (coderAt (n .state-number .result) (a .c .at)) (coderAt (l .state .0) (l .at)) (a .entries .now) (a .frame .now) (labelsAt (a .places .now) (a .labels .now))
     (labelsAt (a .places .now) (l .labels)) (a .from) (l .i) (c .before .entry .result) (c .entry2 .result) false
 at-pair c =
     let s = c .before .before .before .before .before .before .before .before .before .before .before in
@@ -79,14 +79,14 @@ put-pair-requires c κs =
     (omega (arith, s .pre .2 .same), q .0, q .1, rw (c .before .before .before .before .before .before .before .loop .inv .1) (s .pre .2 .rising))
 
 add-at : tie.Need-add-at Inv-loop μ-loop
-add-at c = omega (arith, at-wide (at-pair (c .before .before .before .before .before .before .before)))
+add-at c = omega (arith, at-wide (at-pair (c .before .before .before .before .before .before .before .before)))
 
 sub-at : tie.Need-sub-at Inv-loop μ-loop
-sub-at c = omega (arith, at-wide (at-pair (c .before .before .before .before .before .before .before)))
+sub-at c = omega (arith, at-wide (at-pair (c .before .before .before .before .before .before .before .before)))
 
 add-at-2 : tie.Need-add-at-2 Inv-loop μ-loop
 add-at-2 c =
-    let n = pair-needs (at-pair (c .before .before .before .before .before .before .before)) in
+    let n = pair-needs (at-pair (c .before .before .before .before .before .before .before .before)) in
     omega (arith, n .bits, n .small)
 
 add-i : tie.Need-add-i Inv-loop μ-loop
@@ -97,9 +97,9 @@ loop-less c = omega arith
 
 loop-again : tie.Need-loop-again Inv-loop μ-loop
 loop-again c =
-    let w = c .before .before .put-pair in
-    let q = c .before .before .before .before .code-free-pair .ensures in
-    (rw (w .ensures) (going-step (at-pair (c .before .before .before .before .before .before .before)) (q .codes)), w .kept .0 ∙ c .before .before .before .before .before .before .before .before .before .before .loop .inv .1, q .small)
+    let w = c .before .before .before .put-pair in
+    let q = c .before .before .before .before .before .code-free-pair .ensures in
+    (rw (w .ensures) (going-step (at-pair (c .before .before .before .before .before .before .before .before)) (q .codes)), w .kept .0 ∙ c .before .before .before .before .before .before .before .before .before .before .before .loop .inv .1, q .small)
 
 code-forced-pairs-requires : tie.Need-code-forced-pairs-requires Inv-loop μ-loop
 code-forced-pairs-requires c κs =
