@@ -2,13 +2,14 @@
 use mathlib.Core.Path.{_≡_, refl, sym, ap, _∙_}
 use mathlib.Core.Bool.{Bool, true, false}
 use mathlib.Core.List.{List, [], _∷_}
-use Prim.Native.Nat.{ℕ, suc, _+_, _-_, _%_, _≤_, _<_}
+use Prim.Native.Nat.{ℕ, suc, _+_, _-_, _%_, _^_, _≤_, _<_}
 use native.Mathlib.Numerals.{add-one, add-two}
 use native.Mathlib.Omega.{arith}
 use borrow.Author.Tests.{lt-ltb, le-ltb, ltb-true, ltb-false, eq-eqb, ne-eqb}
 use lib.Dec.{ltb}
 use lib.ListN.{length, drop, getD, length-drop}
 use lib.Seq.{drop-cons}
+use Rattle.g9932.specs.Sizes.{mostTones}
 use Rattle.g9932.specs.Order.{pair, inTwos, pairsOf}
 use Rattle.g9932.specs.Trellis.{lastTwo, taken, takenTotal}
 use Rattle.trellis.specs.Coding.{Wide}
@@ -71,3 +72,22 @@ not-forced es few odd = sym (lastTwo-length (drop 1 es) ∙ le-ltb (length (drop
 pub padded-taken : (es : List ℕ) (y : ℕ) → 4 ≤ length es → length es % 2 ≡ 1 → y ≡ getD es 0 0
     → takenTotal (pairsOf es) ≡ taken false (pair 0 y) + takenTotal (inTwos (drop 1 es))
 padded-taken es y few odd hy = rw (padded-pairs es y few odd hy, ← (not-forced es few odd))
+
+-- ---- a place among the entries, as the loops ask for it
+
+pub record PairRoom (i n : ℕ) : Type 0 where
+  pub here : i < n
+  pub next : i + 1 < 2 ^ 64
+  pub after : i + 2 < 2 ^ 64
+  pub less : n - (i + 2) < n - i
+
+pub pair-room : {i n : ℕ} → i + 1 < n → n ≤ mostTones → PairRoom i n
+pair-room h m = record { here = omega arith; next = omega arith; after = omega arith; less = omega arith }
+
+-- a free pair has two pairs after it
+pub record FreeRoom (i n : ℕ) : Type 0 where
+  pub more : i + 1 < n
+  pub six : 6 ≤ n - i
+
+pub free-room : {i n : ℕ} → i + 5 < n → FreeRoom i n
+free-room h = record { more = omega arith; six = omega arith }

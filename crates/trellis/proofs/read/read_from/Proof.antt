@@ -6,7 +6,7 @@ use lib.ListN.{length}
 use borrow.Author.Tests.{not-true, not-false}
 use native.Mathlib.Omega.{arith}
 use Rattle.trellis.proofs.DecodeLoop.{Decoding, decoding-start, decoding-end, pair-needs, decoding-broken, decoding-step}
-use Rattle.trellis.proofs.Entries.{pair-wide}
+use Rattle.trellis.proofs.Entries.{pair-wide, pair-room}
 use Rattle.frame.specs.Labels.{labelsAt}
 use borrow.Author.Needs.{needs}
 use Rattle.trellis.proofs.read.read_from.Statement.{statement}
@@ -28,22 +28,26 @@ sub-forced : tie.Need-sub-forced Inv-loop μ-loop
 sub-forced c = omega arith
 
 entry-requires : tie.Need-entry-requires Inv-loop μ-loop
-entry-requires c κs = omega arith
+entry-requires c κs = (pair-room (c .loop-test .taken) (c .before .before .before .before .before .before .pre .1)) .here
 
 add-entry : tie.Need-add-entry Inv-loop μ-loop
-add-entry c = omega arith
+add-entry c = record { fits = (pair-room (c .before .loop-test .taken) (c .before .before .before .before .before .before .before .pre .1)) .next }
 
 entry-requires-2 : tie.Need-entry-requires-2 Inv-loop μ-loop
-entry-requires-2 c κs = omega arith
+entry-requires-2 c κs = c .before .loop-test .taken
 
 entry-label-requires : tie.Need-entry-label-requires Inv-loop μ-loop
-entry-label-requires c κs = (omega (arith, c .before .before .before .before .before .before .before .before .pre .2 .same), c .before .before .before .before .before .before .before .before .pre .2 .rising)
+entry-label-requires c κs =
+    let s = c .before .before .before .before .before .before .before .before in
+    (rw (s .pre .2 .same) ((pair-room (c .before .before .loop-test .taken) (c .before .before .before .before .before .before .before .before .pre .1)) .here), s .pre .2 .rising)
 
 add-entry-label : tie.Need-add-entry-label Inv-loop μ-loop
-add-entry-label c = omega arith
+add-entry-label c = record { fits = (pair-room (c .before .before .before .loop-test .taken) (c .before .before .before .before .before .before .before .before .before .pre .1)) .next }
 
 entry-label-requires-2 : tie.Need-entry-label-requires-2 Inv-loop μ-loop
-entry-label-requires-2 c κs = (omega (arith, c .before .before .before .before .before .before .before .before .before .pre .2 .same), c .before .before .before .before .before .before .before .before .before .pre .2 .rising)
+entry-label-requires-2 c κs =
+    let s = c .before .before .before .before .before .before .before .before .before in
+    (rw (s .pre .2 .same) (c .before .before .before .loop-test .taken), s .pre .2 .rising)
 
 read-pair-requires : tie.Need-read-pair-requires Inv-loop μ-loop
 read-pair-requires c κs =
@@ -54,12 +58,12 @@ read-pair-requires c κs =
     let y = c .before .before .before .entry2 in
     let v = c .before .before .entry-label in
     let w = c .before .entry-label2 in
-    let q = pair-wide (a .entries .now) (l .i) (x .result) (y .result) (s .pre .0) (omega arith) (x .ensures) (y .ensures) in
-    let r = pair-needs (a .c) (l .k) (a .entries .now) (labelsAt (a .places .now) (a .labels .now)) (a .frame .now) (l .frame) (a .from) (l .i) (x .result) (y .result) _ (s .pre .0) (l .inv) (omega arith) (x .ensures) (y .ensures) refl (v .result) (w .result) (v .ensures) (w .ensures) in
+    let q = pair-wide (a .entries .now) (l .i) (x .result) (y .result) (s .pre .0) (c .before .before .before .before .before .loop-test .taken) (x .ensures) (y .ensures) in
+    let r = pair-needs (a .c) (l .k) (a .entries .now) (labelsAt (a .places .now) (a .labels .now)) (a .frame .now) (l .frame) (a .from) (l .i) (x .result) (y .result) _ (s .pre .0) (l .inv) (c .before .before .before .before .before .loop-test .taken) (x .ensures) (y .ensures) refl (v .result) (w .result) (v .ensures) (w .ensures) in
     (q .0, q .1, q .2, q .3, r)
 
 add-t23 : tie.Need-add-t23 Inv-loop μ-loop
-add-t23 c = omega arith
+add-t23 c = record { fits = (pair-room (c .before .before .before .before .before .before .before .before .before .before .loop-test .taken) (c .before .before .before .before .before .before .before .before .before .before .before .before .before .before .before .before .pre .1)) .next }
 
 same-length : tie.Need-same-length Inv-loop μ-loop
 same-length c = c .before .before .before .before .read-pair .kept .1 .1 .1 .1 .1 .1 .0 ∙ c .before .before .before .before .before .before .before .before .before .before .before .loop .inv .kept
@@ -74,14 +78,14 @@ returns c =
     let v = c .before .before .before .before .before .before .before .entry-label in
     let w = c .before .before .before .before .before .before .entry-label2 in
     let p = c .before .before .before .before .read-pair in
-    decoding-broken (a .c) (l .k) (a .entries .now) (labelsAt (a .places .now) (a .labels .now)) (a .frame .now) (l .frame) (a .from) (l .i) (x .result) (y .result) _ (s .pre .0) (l .inv) (omega (arith, c .before .before .before .before .before .before .before .before .before .before .loop-test .taken)) (x .ensures) (y .ensures) refl (v .result) (w .result) (v .ensures) (w .ensures)
+    decoding-broken (a .c) (l .k) (a .entries .now) (labelsAt (a .places .now) (a .labels .now)) (a .frame .now) (l .frame) (a .from) (l .i) (x .result) (y .result) _ (s .pre .0) (l .inv) (c .before .before .before .before .before .before .before .before .before .before .loop-test .taken) (x .ensures) (y .ensures) refl (v .result) (w .result) (v .ensures) (w .ensures)
     (p .result) (p .last .1 .1 .1 .1 .1 .1 .0) (p .ensures) (not-true _ (c .if1 .taken))
 
 add-i : tie.Need-add-i Inv-loop μ-loop
-add-i c = omega arith
+add-i c = record { fits = (pair-room (c .before .before .before .before .before .before .before .before .before .before .before .loop-test .taken) (c .before .before .before .before .before .before .before .before .before .before .before .before .before .before .before .before .before .pre .1)) .after }
 
 loop-less : tie.Need-loop-less Inv-loop μ-loop
-loop-less c = omega arith
+loop-less c = (pair-room (c .before .before .before .before .before .before .before .before .before .before .before .loop-test .taken) (c .before .before .before .before .before .before .before .before .before .before .before .before .before .before .before .before .before .pre .1)) .less
 
 loop-again : tie.Need-loop-again Inv-loop μ-loop
 loop-again c =
@@ -93,7 +97,7 @@ loop-again c =
     let v = c .before .before .before .before .before .before .before .before .entry-label in
     let w = c .before .before .before .before .before .before .before .entry-label2 in
     let p = c .before .before .before .before .before .read-pair in
-    decoding-step (a .c) (l .k) (a .entries .now) (labelsAt (a .places .now) (a .labels .now)) (a .frame .now) (l .frame) (a .from) (l .i) (x .result) (y .result) _ (s .pre .0) (l .inv) (omega (arith, c .before .before .before .before .before .before .before .before .before .before .before .loop-test .taken)) (x .ensures) (y .ensures) refl (v .result) (w .result) (v .ensures) (w .ensures)
+    decoding-step (a .c) (l .k) (a .entries .now) (labelsAt (a .places .now) (a .labels .now)) (a .frame .now) (l .frame) (a .from) (l .i) (x .result) (y .result) _ (s .pre .0) (l .inv) (c .before .before .before .before .before .before .before .before .before .before .before .loop-test .taken) (x .ensures) (y .ensures) refl (v .result) (w .result) (v .ensures) (w .ensures)
     (p .result) (p .last .1 .1 .1 .1 .1 .1 .0) (p .ensures) (not-false _ (c .before .if1 .left)) (p .kept .1 .1 .1 .1 .1 .1 .0)
 
 same-length-2 : tie.Need-same-length-2 Inv-loop μ-loop
