@@ -91,10 +91,10 @@ add-at-2 c =
     omega (arith, n .bits, n .small)
 
 add-i : tie.Need-add-i Inv-loop μ-loop
-add-i c = record { fits = (pair-room (free-room (c .before .before .before .before .before .before .before .before .before .loop-test .taken) .more) (c .before .before .before .before .before .before .before .before .before .before .before .before .before .before .before .before .before .before .pre .1)) .after }
+add-i c = record { fits = (pair-room (free-room (c .before .before .before .before .before .before .before .before .before .before .loop-test .taken) .more) (c .before .before .before .before .before .before .before .before .before .before .before .before .before .before .before .before .before .before .before .pre .1)) .after }
 
 loop-less : tie.Need-loop-less Inv-loop μ-loop
-loop-less c = (pair-room (free-room (c .before .before .before .before .before .before .before .before .before .loop-test .taken) .more) (c .before .before .before .before .before .before .before .before .before .before .before .before .before .before .before .before .before .before .pre .1)) .less
+loop-less c = (pair-room (free-room (c .before .before .before .before .before .before .before .before .before .before .loop-test .taken) .more) (c .before .before .before .before .before .before .before .before .before .before .before .before .before .before .before .before .before .before .before .pre .1)) .less
 
 loop-again : tie.Need-loop-again Inv-loop μ-loop
 loop-again c =
