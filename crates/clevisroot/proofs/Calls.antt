@@ -14,7 +14,7 @@ use Rattle.g9932.specs.declared.Mode.{Mode}
 use Rattle.g9932.specs.declared.Mode.the-variants.{Coded}
 use Rattle.g9932.specs.declared.Checked.{Checked}
 use Rattle.g9932.specs.declared.Answer.{Answer}
-use Rattle.clevisroot.specs.CAnswers.{modeOf, answerOf, reported, Small, Reordering, Encoding, Reading}
+use Rattle.clevisroot.specs.CAnswers.{modeOf, answerOf, reported, Small, ReorderAnswered, EncodeAnswered, ReadAnswered}
 use Rattle.clevisroot.specs.declared.SymbolAnswer.{SymbolAnswer}
 use Rattle.clevisroot.specs.declared.PointAnswer.{PointAnswer}
 use Rattle.clevisroot.proofs.Places.{small-table, small-order, small-encode, small-read}
@@ -60,7 +60,7 @@ module _ {m n : Mode} (b g t : List ℕ) (e : m ≡ n) where
   order-small {order = order} {ents = ents} h = rw (h .answer) (small-order (tables m b g t) (length order) (length ents))
 
   pub order-told : {a : Checked} {v : SymbolAnswer} {order ents orderAfter entsAfter : List ℕ} → Reorders (tables m b g t) order ents a orderAfter entsAfter → v ≡ answerOf (verdictOf a) 0
-      → Reordering (tables n b g t) order ents v orderAfter entsAfter
+      → ReorderAnswered (tables n b g t) order ents v orderAfter entsAfter
   order-told h k = rw (sym e) (record { answer = k ∙ ap (λ (w : Verdict). answerOf w 0) (h .answer); tonesHold = h .tonesHold; bitsHold = h .bitsHold })
 
   pub encode-small : {f : List ℕ} {r : ℕ} {xs ys xsAfter ysAfter : List ℤ} {a : Answer} → Encodes (tables m b g t) f r xs ys a xsAfter ysAfter → Small (reportOf a .verdict)
@@ -68,7 +68,7 @@ module _ {m n : Mode} (b g t : List ℕ) (e : m ≡ n) where
   encode-small {f = f} {r = r} {xs = xs} {ys = ys} h = rw (h .answer) (small-encode (tables m b g t) f r (length xs) (length ys))
 
   pub encode-told : {f : List ℕ} {r : ℕ} {xs ys xsAfter ysAfter : List ℤ} {a : Answer} {v : SymbolAnswer} → Encodes (tables m b g t) f r xs ys a xsAfter ysAfter → v ≡ reported (reportOf a)
-      → Encoding (tables n b g t) f r xs ys v xsAfter ysAfter
+      → EncodeAnswered (tables n b g t) f r xs ys v xsAfter ysAfter
   encode-told h k = rw (sym e) (record { answer = k ∙ ap reported (h .answer); xsHold = h .xsHold; ysHold = h .ysHold })
 
   pub read-small : {f fAfter : List ℕ} {r : ℕ} {xs ys : List ℤ} {a : Answer} → Reads (tables m b g t) xs ys r f a fAfter → Small (reportOf a .verdict)
@@ -76,5 +76,5 @@ module _ {m n : Mode} (b g t : List ℕ) (e : m ≡ n) where
   read-small {f = f} {r = r} {xs = xs} {ys = ys} h = rw (h .answer) (small-read (tables m b g t) xs ys r (length f))
 
   pub read-told : {f fAfter : List ℕ} {r : ℕ} {xs ys : List ℤ} {a : Answer} {v : SymbolAnswer} → Reads (tables m b g t) xs ys r f a fAfter → v ≡ reported (reportOf a)
-      → Reading (tables n b g t) xs ys r f v fAfter
+      → ReadAnswered (tables n b g t) xs ys r f v fAfter
   read-told h k = rw (sym e) (record { answer = k ∙ ap reported (h .answer); frameHolds = h .frameHolds })

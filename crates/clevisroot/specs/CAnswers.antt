@@ -34,17 +34,17 @@ pub record Small (v : Verdict) : Type 0 where
   pub placeMost : v .place ≤ mostTones
   pub sizeMost : v .number ≡ 0 → v .size ≤ mostBits
 
-pub record Reordering (T : Tables) (tones bits : List ℕ) (a : SymbolAnswer) (tonesAfter bitsAfter : List ℕ) : Type 0 where
+pub record ReorderAnswered (T : Tables) (tones bits : List ℕ) (a : SymbolAnswer) (tonesAfter bitsAfter : List ℕ) : Type 0 where
   pub answer : a ≡ answerOf (reorderOf T tones bits .verdict) 0
   pub tonesHold : tonesAfter ≡ reorderOf T tones bits .tones
   pub bitsHold : bitsAfter ≡ reorderOf T tones bits .bits
 
-pub record Encoding (T : Tables) (f : List ℕ) (r : ℕ) (xs ys : List ℤ) (a : SymbolAnswer) (xsAfter ysAfter : List ℤ) : Type 0 where
+pub record EncodeAnswered (T : Tables) (f : List ℕ) (r : ℕ) (xs ys : List ℤ) (a : SymbolAnswer) (xsAfter ysAfter : List ℤ) : Type 0 where
   pub answer : a ≡ reported (encodeOf T f r xs ys .report)
   pub xsHold : xsAfter ≡ encodeOf T f r xs ys .xs
   pub ysHold : ysAfter ≡ encodeOf T f r xs ys .ys
 
-pub record Reading (T : Tables) (xs ys : List ℤ) (r : ℕ) (f : List ℕ) (a : SymbolAnswer) (fAfter : List ℕ) : Type 0 where
+pub record ReadAnswered (T : Tables) (xs ys : List ℤ) (r : ℕ) (f : List ℕ) (a : SymbolAnswer) (fAfter : List ℕ) : Type 0 where
   pub answer : a ≡ reported (readOf T xs ys r f .report)
   pub frameHolds : fAfter ≡ readOf T xs ys r f .frame
 

@@ -4,7 +4,7 @@ ghost use Prim.Native.Nat.{_≤_};
 ghost use Rattle.g9932.specs.Sizes.{tables, mostTones, point};
 ghost use Rattle.g9932.specs.Refusals.{numberOf, placeOf, refused, tableVerdict};
 ghost use Rattle.g9932.specs.Answers.{verdictOf, reportOf, mapLabel, readPoint, drawAnswer};
-ghost use Rattle.clevisroot.specs.CAnswers.{modeOf, answerOf, reported, pointAnswered, labelAnswered, drawAnswered, Small, Reordering, Encoding, Reading};
+ghost use Rattle.clevisroot.specs.CAnswers.{modeOf, answerOf, reported, pointAnswered, labelAnswered, drawAnswered, Small, ReorderAnswered, EncodeAnswered, ReadAnswered};
 use g9932::Answer;
 use g9932::Checked;
 use g9932::Drawn;
@@ -123,7 +123,7 @@ pub extern "C" fn clevisroot_reorder(
     reordered_tones: &mut [u16],
     reordered_bits: &mut [u8],
 ) -> SymbolAnswer
-    ensures { λ r. ⌜ Reordering (tables (modeOf coded) (now (bits .entry)) (now (gains .entry)) (now (tones .entry))) (now («reordered_tones» .entry)) (now («reordered_bits» .entry)) r (now («reordered_tones» .exit)) (now («reordered_bits» .exit)) ⌝ }
+    ensures { λ r. ⌜ ReorderAnswered (tables (modeOf coded) (now (bits .entry)) (now (gains .entry)) (now (tones .entry))) (now («reordered_tones» .entry)) (now («reordered_bits» .entry)) r (now («reordered_tones» .exit)) (now («reordered_bits» .exit)) ⌝ }
 {
     checked(ordering::reorder(
         mode_of(coded),
@@ -146,7 +146,7 @@ pub extern "C" fn clevisroot_encode(
     x: &mut [i16],
     y: &mut [i16],
 ) -> SymbolAnswer
-    ensures { λ r. ⌜ Encoding (tables (modeOf coded) (now (bits .entry)) (now (gains .entry)) (now (tones .entry))) (now (frame .entry)) reg (now (x .entry)) (now (y .entry)) r (now (x .exit)) (now (y .exit)) ⌝ }
+    ensures { λ r. ⌜ EncodeAnswered (tables (modeOf coded) (now (bits .entry)) (now (gains .entry)) (now (tones .entry))) (now (frame .entry)) reg (now (x .entry)) (now (y .entry)) r (now (x .exit)) (now (y .exit)) ⌝ }
 {
     answered(symbol::encode(mode_of(coded), bits, gains, tones, frame, reg, x, y))
 }
@@ -162,7 +162,7 @@ pub extern "C" fn clevisroot_read(
     reg: u32,
     frame: &mut [u8],
 ) -> SymbolAnswer
-    ensures { λ r. ⌜ Reading (tables (modeOf coded) (now (bits .entry)) (now (gains .entry)) (now (tones .entry))) (now (x .entry)) (now (y .entry)) reg (now (frame .entry)) r (now (frame .exit)) ⌝ }
+    ensures { λ r. ⌜ ReadAnswered (tables (modeOf coded) (now (bits .entry)) (now (gains .entry)) (now (tones .entry))) (now (x .entry)) (now (y .entry)) reg (now (frame .entry)) r (now (frame .exit)) ⌝ }
 {
     answered(symbol::read(mode_of(coded), bits, gains, tones, x, y, reg, frame))
 }

@@ -16,7 +16,7 @@ use Rattle.g9932.specs.Sizes.{entry, Point, point}
 use Rattle.g9932.specs.declared.Found.{Found}
 use Rattle.g9932.specs.declared.Found.the-variants.{Nothing}
 use Rattle.mapper.specs.Writing.{PutsPoints}
-use Rattle.mapper.specs.Reading.{pointAt, DemapNeeds, LabelIs, Off, DemapsAll, OffAt, DemapsPoints, OnOrOff, LabelNeeds}
+use Rattle.mapper.specs.Reading.{pointAt, DemapNeeds, LabelIs, Off, DemapsAll, OffAt, DemapsPoints, OnOrOff, DemapAllNeeds}
 
 -- ---- points put
 
@@ -133,7 +133,7 @@ module _ (layouts : List ℕ) (xs ys : List ℤ) (i : ℕ) (needs : DemapNeeds l
   one-point : pointAt (part xs i) (part ys i) 0 ≡ pointAt xs ys i
   one-point = rw (part-at xs i (pos 0), part-at ys i (pos 0))
 
-  pub one-needs : (labels : List ℕ) → length labels ≡ 1 → LabelNeeds (part layouts i) (part xs i) (part ys i) labels
+  pub one-needs : (labels : List ℕ) → length labels ≡ 1 → DemapAllNeeds (part layouts i) (part xs i) (part ys i) labels
   one-needs labels n =
       let x = length-part xs i h in
       let y = length-part ys i (omega (arith, needs .ysLength)) in

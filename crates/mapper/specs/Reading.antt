@@ -29,7 +29,7 @@ pub record DemapNeeds (layouts : List ℕ) (xs ys : List ℤ) : Type 0 where
   pub ysLength : length ys ≡ length xs
   pub ofTones : (i : ℕ) → i < length xs → ToneLayout (entry layouts i)
 
-pub record LabelNeeds (layouts : List ℕ) (xs ys : List ℤ) (labels : List ℕ) : Type 0 where
+pub record DemapAllNeeds (layouts : List ℕ) (xs ys : List ℤ) (labels : List ℕ) : Type 0 where
   pub points : DemapNeeds layouts xs ys
   pub labelsLength : length labels ≡ length xs
 

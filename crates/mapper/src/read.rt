@@ -7,7 +7,7 @@ ghost use Rattle.g9932.specs.Bits.{orAt};
 ghost use Rattle.g9932.specs.Sizes.{entry};
 ghost use Prim.Native.Nat.{_<_};
 ghost use Rattle.mapper.specs.Writing.{FillerNeeds};
-ghost use Rattle.mapper.specs.Reading.{joinOnes, DemapNeeds, LabelNeeds, DemapsAll, pointAt, OnOrOff, OffAt, DemapsPoints, ChecksFiller, JoinNeeds, CollectNeeds, CollectsLabels};
+ghost use Rattle.mapper.specs.Reading.{joinOnes, DemapNeeds, DemapAllNeeds, DemapsAll, pointAt, OnOrOff, OffAt, DemapsPoints, ChecksFiller, JoinNeeds, CollectNeeds, CollectsLabels};
 use frame::BitWriter;
 use frame::by_place::label_at;
 use frame::by_place::place_at;
@@ -17,7 +17,7 @@ use g9932::Place;
 // The labels of all points, by the layouts of the places, and whether every point has one. There is no early exit: the compiler takes
 // several places at a time.
 fn demap_all(layouts: &[u16], xs: &[i16], ys: &[i16], labels: &mut [u16]) -> bool
-    requires { ⌜ LabelNeeds (now layouts) (now xs) (now ys) (now labels) ⌝ }
+    requires { ⌜ DemapAllNeeds (now layouts) (now xs) (now ys) (now labels) ⌝ }
     ensures { λ r. ⌜ DemapsAll (now (layouts .entry)) (now (xs .entry)) (now (ys .entry)) (now (labels .exit)) r ⌝ }
 {
     let mut all = true;
@@ -59,7 +59,7 @@ fn first_offgrid(layouts: &[u16], xs: &[i16], ys: &[i16]) -> Found
 
 // The first place that 13 refuses, and the labels of all points where there is none. Called by proved code only.
 pub fn demap_points(layouts: &[u16], xs: &[i16], ys: &[i16], labels: &mut [u16]) -> Found
-    requires { ⌜ LabelNeeds (now layouts) (now xs) (now ys) (now labels) ⌝ }
+    requires { ⌜ DemapAllNeeds (now layouts) (now xs) (now ys) (now labels) ⌝ }
     ensures { λ r. ⌜ DemapsPoints (now (layouts .entry)) (now (xs .entry)) (now (ys .entry)) (now (labels .exit)) r ⌝ }
 {
     if demap_all(layouts, xs, ys, labels) {

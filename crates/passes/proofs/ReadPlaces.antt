@@ -31,12 +31,12 @@ use Rattle.g9932.specs.declared.Mode.{Mode}
 use Rattle.g9932.specs.declared.Mode.the-variants.{Uncoded, Coded}
 use Rattle.g9932.specs.declared.Place.{Place}
 use Rattle.g9932.specs.declared.Refusal.the-variants.{Offgrid, Monitor}
-use Rattle.mapper.specs.Reading.{LabelNeeds, LabelIs, DemapsPoints, wrongFiller, ChecksFiller, JoinNeeds, CollectNeeds, CollectsLabels}
+use Rattle.mapper.specs.Reading.{DemapAllNeeds, LabelIs, DemapsPoints, wrongFiller, ChecksFiller, JoinNeeds, CollectNeeds, CollectsLabels}
 use Rattle.mapper.specs.Writing.{FillerNeeds}
 use Rattle.mapper.specs.declared.read.FillerRead.{FillerRead}
 use Rattle.passes.specs.ReadSymbol.{PlacesOf, ReadsPlaces, FrameRoom, FrameOf, ReadsFrame}
 use Rattle.passes.specs.declared.read.PlacesRead.the-variants.{Refused, Done}
-use Rattle.trellis.specs.Reading.{LabelNeeds as TrellisNeeds, readingOfAll, ReadsLabels}
+use Rattle.trellis.specs.Reading.{ReadLabelNeeds as TrellisNeeds, readingOfAll, ReadsLabels}
 use Rattle.trellis.specs.declared.read.PairsRead.{PairsRead}
 use Rattle.passes.proofs.FillerPlaces.{register-places, wrong-first}
 use Rattle.passes.proofs.PlanLabels.{joined, joined-count, by-entry, joined-within, ones-small, plan-placed, where-inside, all-count}
@@ -48,7 +48,7 @@ module _ {cs : List Class} {from : ℕ} {es ps ms layouts labels : List ℕ} {xs
   same : length ys ≡ length xs
   same = w .ysLength ∙ sym (w .xsLength)
 
-  pub demap-needs : LabelNeeds layouts xs ys labels
+  pub demap-needs : DemapAllNeeds layouts xs ys labels
   demap-needs =
       record {
         points =

@@ -2,10 +2,10 @@
 use Prim.Native.Nat.{ℕ, _≤_}
 use mathlib.Core.List.{List}
 use lib.ListN.{length}
-use Rattle.plan.specs.declared.Sizes.{Sizes}
+use Rattle.plan.specs.declared.PlanSizes.{PlanSizes}
 
 -- the lists of a plan for n tones, and the labels by place, stand within their arrays
-pub record PlanFits (p : Sizes) (n : ℕ) (layouts entries places monitored labels : List ℕ) : Type 0 where
+pub record PlanFits (p : PlanSizes) (n : ℕ) (layouts entries places monitored labels : List ℕ) : Type 0 where
   pub layoutsFit : n ≤ length layouts
   pub entriesFit : p .entries ≤ length entries
   pub placesFit : p .entries ≤ length places

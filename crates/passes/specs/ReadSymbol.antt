@@ -22,7 +22,7 @@ use Rattle.g9932.specs.declared.Found.the-variants.{Nothing}
 use Rattle.g9932.specs.declared.Mode.{Mode}
 use Rattle.g9932.specs.declared.Mode.the-variants.{Uncoded, Coded}
 use Rattle.plan.specs.Classes.{PlanOf}
-use Rattle.plan.specs.declared.Sizes.{Sizes}
+use Rattle.plan.specs.declared.PlanSizes.{PlanSizes}
 use Rattle.passes.specs.PlanFits.{PlanFits}
 use Rattle.passes.specs.declared.read.PlacesRead.{PlacesRead}
 use Rattle.passes.specs.declared.read.PlacesRead.the-variants.{Refused, Done}
@@ -43,8 +43,8 @@ pub record PlacesOf (cs : List Class) (from : ℕ) (es ps ms layouts labels : Li
   pub xsLength : length xs ≡ length cs
   pub ysLength : length ys ≡ length cs
 
-abbrev pub PlaceNeeds : List ℕ → List ℕ → List ℕ → List ℤ → List ℤ → Type 0
-PlaceNeeds ms layouts labels xs ys = (cs : List Class) × (from : ℕ) × (es : List ℕ) × (ps : List ℕ) × PlacesOf cs from es ps ms layouts labels xs ys
+abbrev pub ReadPlacesNeeds : List ℕ → List ℕ → List ℕ → List ℤ → List ℤ → Type 0
+ReadPlacesNeeds ms layouts labels xs ys = (cs : List Class) × (from : ℕ) × (es : List ℕ) × (ps : List ℕ) × PlacesOf cs from es ps ms layouts labels xs ys
 
 -- labels by place: those of the tones' bits, none larger than its tone allows
 pub record ToneLabels (cs : List Class) (d : List Bool) (labels : List ℕ) : Type 0 where
@@ -115,12 +115,12 @@ pub record ReadOf (T : Tables) (m : Mode) (from size : ℕ) (es ps ms layouts : 
   pub whole : (q : List Point) → first (offgridTest (classesOf T) q) (length (T .tones)) ≡ Nothing → length q ≡ length (classesOf T)
       → breakIn (readingIn T q) ≡ Nothing → length (frameIn (readingIn T q)) ≡ sizeOf T
 
-abbrev pub ReadBy : Tables → Mode → Sizes → ℕ → List ℕ → List ℕ → List ℕ → List ℕ → List ℤ → List ℤ → List ℕ → List ℕ → List ℕ → Type 0
+abbrev pub ReadBy : Tables → Mode → PlanSizes → ℕ → List ℕ → List ℕ → List ℕ → List ℕ → List ℤ → List ℤ → List ℕ → List ℕ → List ℕ → Type 0
 ReadBy T m p n layouts entries places monitored xs ys labels held f =
     ReadOf T m (p .shared) (p .size) (take (p .entries) entries) (take (p .entries) places) (take (p .monitored) monitored) (take n layouts) xs ys (take n labels) held f
 
 -- the arrays begin with the lists of some tables' plan
-pub record ReadNeeds (m : Mode) (p : Sizes) (n : ℕ) (layouts entries places monitored : List ℕ) (xs ys : List ℤ) (labels held f : List ℕ) : Type 0 where
+pub record ReadSymbolNeeds (m : Mode) (p : PlanSizes) (n : ℕ) (layouts entries places monitored : List ℕ) (xs ys : List ℤ) (labels held f : List ℕ) : Type 0 where
   pub fits : PlanFits p n layouts entries places monitored labels
   pub tables : Tables
   pub planned : ReadBy tables m p n layouts entries places monitored xs ys labels held f
@@ -130,6 +130,6 @@ pub record ReadsPoints (T : Tables) (q : List Point) (r : ℕ) (before : List �
   pub frameHolds : after ≡ onDone (pointsVerdict T q r) (pack (frameIn (readingIn T q))) before
 
 -- whatever tables they are
-abbrev pub ReadsSymbol : Mode → Sizes → ℕ → List ℕ → List ℕ → List ℕ → List ℕ → List ℤ → List ℤ → List ℕ → List ℕ → List ℕ → ℕ → Answer → List ℕ → Type 0
+abbrev pub ReadsSymbol : Mode → PlanSizes → ℕ → List ℕ → List ℕ → List ℕ → List ℕ → List ℤ → List ℤ → List ℕ → List ℕ → List ℕ → ℕ → Answer → List ℕ → Type 0
 ReadsSymbol m p n layouts entries places monitored xs ys labels held f r a after =
     (T : Tables) → ReadBy T m p n layouts entries places monitored xs ys labels held f → ReadsPoints T (points xs ys) r f a after

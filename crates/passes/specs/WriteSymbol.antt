@@ -16,7 +16,7 @@ use Rattle.g9932.specs.declared.Mode.{Mode}
 use Rattle.g9932.specs.declared.Mode.the-variants.{Uncoded, Coded}
 use Rattle.mapper.specs.Writing.{CutNeeds}
 use Rattle.plan.specs.Classes.{PlanOf}
-use Rattle.plan.specs.declared.Sizes.{Sizes}
+use Rattle.plan.specs.declared.PlanSizes.{PlanSizes}
 use Rattle.passes.specs.PlanFits.{PlanFits}
 use Rattle.trellis.specs.Coding.{FrameNeeds}
 
@@ -70,17 +70,17 @@ pub record SymbolOf (T : Tables) (m : Mode) (from : ℕ) (f es ps ms layouts lab
   pub xsLength : length xs ≡ length (classesOf T)
   pub ysLength : length ys ≡ length (classesOf T)
 
-abbrev pub SymbolBy : Tables → Mode → Sizes → ℕ → List ℕ → List ℕ → List ℕ → List ℕ → List ℕ → List ℕ → List ℤ → List ℤ → Type 0
+abbrev pub SymbolBy : Tables → Mode → PlanSizes → ℕ → List ℕ → List ℕ → List ℕ → List ℕ → List ℕ → List ℕ → List ℤ → List ℤ → Type 0
 SymbolBy T m p n f layouts entries places monitored labels xs ys =
     SymbolOf T m (p .shared) f (take (p .entries) entries) (take (p .entries) places) (take (p .monitored) monitored) (take n layouts) (take n labels) xs ys
 
 -- the arrays begin with the lists of some tables' plan
-pub record SymbolNeeds (m : Mode) (p : Sizes) (n : ℕ) (f layouts entries places monitored labels : List ℕ) (xs ys : List ℤ) : Type 0 where
+pub record SymbolNeeds (m : Mode) (p : PlanSizes) (n : ℕ) (f layouts entries places monitored labels : List ℕ) (xs ys : List ℤ) : Type 0 where
   pub fits : PlanFits p n layouts entries places monitored labels
   pub tables : Tables
   pub planned : SymbolBy tables m p n f layouts entries places monitored labels xs ys
 
 -- whatever tables they are
-abbrev pub WritesSymbol : Mode → Sizes → ℕ → List ℕ → List ℕ → List ℕ → List ℕ → List ℕ → List ℕ → List ℤ → List ℤ → ℕ → ℕ → List ℤ → List ℤ → Type 0
+abbrev pub WritesSymbol : Mode → PlanSizes → ℕ → List ℕ → List ℕ → List ℕ → List ℕ → List ℕ → List ℕ → List ℤ → List ℤ → ℕ → ℕ → List ℤ → List ℤ → Type 0
 WritesSymbol m p n f layouts entries places monitored labels xs ys r after xsAfter ysAfter =
     (T : Tables) → SymbolBy T m p n f layouts entries places monitored labels xs ys → WritesPoints (classesOf T) r (sentIn T f) after xsAfter ysAfter

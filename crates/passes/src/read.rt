@@ -1,12 +1,12 @@
 // Reading a symbol.
-ghost use Rattle.passes.specs.ReadSymbol.{PlaceNeeds, ReadsAll, ReadFrameNeeds, ReadsFrames, ReadNeeds, ReadsSymbol};
+ghost use Rattle.passes.specs.ReadSymbol.{ReadPlacesNeeds, ReadsAll, ReadFrameNeeds, ReadsFrames, ReadSymbolNeeds, ReadsSymbol};
 use frame::BitWriter;
 use g9932::Answer;
 use g9932::Found;
 use g9932::Mode;
 use g9932::Place;
 use g9932::Refusal;
-use plan::Sizes;
+use plan::PlanSizes;
 
 // The places read: what 13 or 14 refuses, or else the register after the draws, with the labels by place.
 pub enum PlacesRead {
@@ -24,7 +24,7 @@ fn read_places(
     register: u32,
     labels: &mut [u16],
 ) -> PlacesRead
-    requires { ⌜ PlaceNeeds (now monitored) (now layouts) (now labels) (now xs) (now ys) ⌝ }
+    requires { ⌜ ReadPlacesNeeds (now monitored) (now layouts) (now labels) (now xs) (now ys) ⌝ }
     ensures { λ r. ⌜ ReadsAll (now (monitored .entry)) (now (layouts .entry)) (now (labels .entry)) (now (xs .entry)) (now (ys .entry)) register r (now (labels .exit)) ⌝ }
 {
     let offgrid = mapper::read::demap_points(layouts, xs, ys, labels);
@@ -76,7 +76,7 @@ fn read_frame(
 // frame is held in a buffer until it is known to be whole. Called by proved code only.
 pub fn read_symbol(
     mode: Mode,
-    p: Sizes,
+    p: PlanSizes,
     n: usize,
     layouts: &[u16],
     entries: &[u8],
@@ -89,7 +89,7 @@ pub fn read_symbol(
     held: &mut [u8],
     frame: &mut [u8],
 ) -> Answer
-    requires { ⌜ ReadNeeds mode p n (now layouts) (now entries) (now places) (now monitored) (now xs) (now ys) (now labels) (now held) (now frame) ⌝ }
+    requires { ⌜ ReadSymbolNeeds mode p n (now layouts) (now entries) (now places) (now monitored) (now xs) (now ys) (now labels) (now held) (now frame) ⌝ }
     ensures { λ r. ⌜ ReadsSymbol mode p n (now (layouts .entry)) (now (entries .entry)) (now (places .entry)) (now (monitored .entry)) (now (xs .entry)) (now (ys .entry)) (now (labels .entry)) (now (held .entry)) (now (frame .entry)) register r (now (frame .exit)) ⌝ }
 {
     let e = p.entries;

@@ -1,7 +1,7 @@
 // Writing a symbol.
 ghost use Rattle.passes.specs.WriteSymbol.{LabelFrameNeeds, sentFor, Labels, PointNeeds, WritesAll, SymbolNeeds, WritesSymbol};
 use g9932::Mode;
-use plan::Sizes;
+use plan::PlanSizes;
 
 // The labels of a frame whose bits begin at bit `start`, each at its entry's place: coded, the trellis makes them.
 fn label_frame(
@@ -44,7 +44,7 @@ fn write_points(
 // proved code only.
 pub fn write_symbol(
     mode: Mode,
-    p: Sizes,
+    p: PlanSizes,
     n: usize,
     frame: &[u8],
     register: u32,

@@ -14,7 +14,7 @@ use Rattle.g9932.specs.declared.Class.the-variants.{Data, Monitored, Silent}
 use Rattle.plan.specs.Classes.{PlanOf}
 use Rattle.plan.specs.Plan.{Carries, leastOwn, everySecond, PlanIs, classesBy, isPlaced, only}
 use Rattle.tables.specs.Modes.{sharing}
-use Rattle.plan.specs.declared.Sizes.{Sizes}
+use Rattle.plan.specs.declared.PlanSizes.{PlanSizes}
 use Rattle.plan.proofs.Steps.{carried}
 use Rattle.plan.proofs.Whole.{least-own, classes-plan, placed-count, plan-entries, plan-places}
 
@@ -40,7 +40,7 @@ class-carries b g [] most k h = absurd (omega arith)
 class-carries b g (a ∷ t) most zero h = carried (entry b a) (entry g a) (most a)
 class-carries b g (a ∷ t) most (suc k) h = class-carries b g t most k (omega arith)
 
-pub plan-of : (T : Tables) (p : Sizes) {layouts entries places monitored : List ℕ} → ((k : ℕ) → entry (T .bits) k ≤ 15) → sharing (T .mode) (T .bits) (T .tones) % 2 ≡ 0
+pub plan-of : (T : Tables) (p : PlanSizes) {layouts entries places monitored : List ℕ} → ((k : ℕ) → entry (T .bits) k ≤ 15) → sharing (T .mode) (T .bits) (T .tones) % 2 ≡ 0
     → PlanIs T p layouts entries places monitored
     → PlanOf (classesOf T) (p .shared) (take (p .entries) entries) (take (p .entries) places) (take (p .monitored) monitored) (take (length (T .tones)) layouts)
 plan-of T p most even is =

@@ -18,8 +18,8 @@ use Rattle.g9932.specs.declared.Mode.the-variants.{Uncoded, Coded}
 use Rattle.tables.specs.Checks.{Below}
 pub use Rattle.tables.specs.Modes.{sharing}
 use Rattle.plan.specs.declared.Planned.{Planned}
-use Rattle.plan.specs.declared.Planned.the-variants.{Ready, Refused}
-use Rattle.plan.specs.declared.Sizes.{Sizes}
+use Rattle.plan.specs.declared.Planned.the-variants.{Lists, Refused}
+use Rattle.plan.specs.declared.PlanSizes.{PlanSizes}
 use Rattle.plan.specs.declared.filing.Cursors.{Cursors}
 
 -- ---- the plan of accepted tables
@@ -61,10 +61,10 @@ monitoredIn T = placesWhere isMonitored 0 (classesOf T)
 -- ---- what planning answers
 
 abbrev pub plannedVerdict : Planned → Verdict
-plannedVerdict (Ready p) = accepted (p .size)
+plannedVerdict (Lists p) = accepted (p .size)
 plannedVerdict (Refused x) = refused (numberOf x) (placeOf x)
 
-pub record PlanIs (T : Tables) (p : Sizes) (layouts entries places monitored : List ℕ) : Type 0 where
+pub record PlanIs (T : Tables) (p : PlanSizes) (layouts entries places monitored : List ℕ) : Type 0 where
   pub layoutsAre : take (length (T .tones)) layouts ≡ layoutsIn T
   pub sharedIs : p .shared ≡ sharedFrom T
   pub entriesAre : take (p .entries) entries ≡ entriesIn T
@@ -74,7 +74,7 @@ pub record PlanIs (T : Tables) (p : Sizes) (layouts entries places monitored : L
   pub monitoredMost : p .monitored ≤ length (T .tones)
 
 abbrev pub Made : Tables → Planned → List ℕ → List ℕ → List ℕ → List ℕ → Type 0
-Made T (Ready p) layouts entries places monitored = PlanIs T p layouts entries places monitored
+Made T (Lists p) layouts entries places monitored = PlanIs T p layouts entries places monitored
 Made T (Refused x) layouts entries places monitored = Unit {0}
 
 -- the answer, and where nothing is refused the four lists

@@ -10,7 +10,7 @@ use g9932::Refusal;
 use tables::sizes::Sized;
 
 // How far the lists of a plan reach: L, the entries, the first of the places that share entries, and the monitored places.
-pub struct Sizes {
+pub struct PlanSizes {
     pub size: usize,
     pub entries: usize,
     pub shared: usize,
@@ -19,7 +19,7 @@ pub struct Sizes {
 
 // The answer of planning.
 pub enum Planned {
-    Ready(Sizes),
+    Lists(PlanSizes),
     Refused(Refusal),
 }
 
@@ -45,7 +45,7 @@ fn file_plan(
     entries: &mut [u8],
     places: &mut [u16],
     monitored: &mut [u16],
-) -> Sizes
+) -> PlanSizes
     requires { ⌜ PlanNeeds mode sharers (now bits) (now gains) (now tones) (now layouts) (now entries) (now places) (now monitored) ⌝ }
     ensures { λ r. ⌜ PlanIs (tables mode (now (bits .entry)) (now (gains .entry)) (now (tones .entry))) r (now (layouts .exit)) (now (entries .exit)) (now (places .exit)) (now (monitored .exit)) × (r .size ≡ size) ⌝ }
 {
@@ -73,7 +73,7 @@ fn file_plan(
         entries,
         places,
     );
-    Sizes {
+    PlanSizes {
         size,
         entries: entry + sharers / 2,
         shared: place,
@@ -112,7 +112,7 @@ pub fn plan_tables(
                 places,
                 monitored,
             );
-            Planned::Ready(p)
+            Planned::Lists(p)
         }
     }
 }

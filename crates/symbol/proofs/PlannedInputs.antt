@@ -14,8 +14,8 @@ use Rattle.g9932.specs.declared.Checked.the-variants.{Refused as NotAccepted}
 use Rattle.g9932.specs.declared.Refusal.{Refusal}
 use Rattle.plan.specs.Plan.{plannedVerdict, PlanIs, Plans, Arrays}
 use Rattle.plan.specs.declared.Planned.{Planned}
-use Rattle.plan.specs.declared.Planned.the-variants.{Ready, Refused}
-use Rattle.plan.specs.declared.Sizes.{Sizes}
+use Rattle.plan.specs.declared.Planned.the-variants.{Lists, Refused}
+use Rattle.plan.specs.declared.PlanSizes.{PlanSizes}
 use Rattle.symbol.specs.Inputs.{afterPlan, ChecksInputs}
 use Rattle.passes.specs.PlanFits.{PlanFits}
 use Rattle.symbol.proofs.TablePlan.{tones-most}
@@ -26,7 +26,7 @@ module _ {v : ℕ → Verdict} {planned : Planned} where
   pub tables-refused : {x : Refusal} → planned ≡ Refused x → ChecksInputs v planned (Refused x)
   tables-refused e = record { answer = sym (ap (afterPlan v) e); passed = λ p z. e ∙ z }
 
-  module _ {p : Sizes} (e : planned ≡ Ready p) where
+  module _ {p : PlanSizes} (e : planned ≡ Lists p) where
     pub inputs-refused : (x : Refusal) → verdictOf (NotAccepted x) ≡ v (p .size) → ChecksInputs v planned (Refused x)
     inputs-refused x q =
         record {
@@ -34,7 +34,7 @@ module _ {v : ℕ → Verdict} {planned : Planned} where
           passed = λ p z. absurd (true≢false (sym (ap (λ (r : Planned). eqb (plannedVerdict r .number) 0) z) ∙ number-some x));
         }
 
-    pub inputs-pass : accepted (p .size) ≡ v (p .size) → ChecksInputs v planned (Ready p)
+    pub inputs-pass : accepted (p .size) ≡ v (p .size) → ChecksInputs v planned (Lists p)
     inputs-pass q = record { answer = q ∙ sym (ap (afterPlan v) e); passed = λ p z. e ∙ z }
 
 -- ---- what they say together
@@ -43,16 +43,16 @@ module _ {v : ℕ → Verdict} {planned : Planned} where
 pub refused-answer : (T : Tables) (v : ℕ → Verdict) (planned : Planned) {r : Planned} → plannedVerdict planned ≡ tableVerdict T → ChecksInputs v planned r → {x : Refusal} → r ≡ Refused x
     → (A : Type 0) → (verdictOf (NotAccepted x) ≡ tableVerdict T → A) → ((l : ℕ) → accepted l ≡ tableVerdict T → verdictOf (NotAccepted x) ≡ v l → A) → A
 refused-answer T v (Refused y) t c e A tables inputs = tables (sym (ap plannedVerdict e) ∙ c .answer ∙ t)
-refused-answer T v (Ready p) t c e A tables inputs = inputs (p .size) t (sym (ap plannedVerdict e) ∙ c .answer)
+refused-answer T v (Lists p) t c e A tables inputs = inputs (p .size) t (sym (ap plannedVerdict e) ∙ c .answer)
 
 -- nothing is refused
-pub record Passed (T : Tables) (v : ℕ → Verdict) (p : Sizes) (layouts entries places monitored : List ℕ) : Type 0 where
+pub record Passed (T : Tables) (v : ℕ → Verdict) (p : PlanSizes) (layouts entries places monitored : List ℕ) : Type 0 where
   pub tablesPass : accepted (p .size) ≡ tableVerdict T
   pub inputsPass : accepted (p .size) ≡ v (p .size)
   pub plan : PlanIs T p layouts entries places monitored
 
 pub passed : {T : Tables} {v : ℕ → Verdict} {planned r : Planned} {layouts entries places monitored : List ℕ} → Plans T planned layouts entries places monitored → ChecksInputs v planned r
-    → {p : Sizes} → r ≡ Ready p → Passed T v p layouts entries places monitored
+    → {p : PlanSizes} → r ≡ Lists p → Passed T v p layouts entries places monitored
 passed {T} {v} w c {p} e =
     let is = c .passed p e in
     record {
@@ -61,7 +61,7 @@ passed {T} {v} w c {p} e =
       plan = rw is at (w .made);
     }
 
-module _ {T : Tables} {v : ℕ → Verdict} {p : Sizes} {layouts entries places monitored : List ℕ} (h : Passed T v p layouts entries places monitored) where
+module _ {T : Tables} {v : ℕ → Verdict} {p : PlanSizes} {layouts entries places monitored : List ℕ} (h : Passed T v p layouts entries places monitored) where
   pub accepts : tableVerdict T .number ≡ 0
   accepts = ap (λ (v : Verdict). v .number) (sym (h .tablesPass))
 

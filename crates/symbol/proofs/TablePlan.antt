@@ -22,7 +22,7 @@ use Rattle.g9932.proofs.Sent.{load-classes, size-uncoded}
 use Rattle.plan.proofs.Classes.{plan-of}
 use Rattle.plan.specs.Classes.{PlanOf}
 use Rattle.plan.specs.Plan.{leastOwn, sharing, PlanIs}
-use Rattle.plan.specs.declared.Sizes.{Sizes}
+use Rattle.plan.specs.declared.PlanSizes.{PlanSizes}
 use Rattle.passes.specs.ReadSymbol.{FrameRoom, readingBy}
 use Rattle.passes.specs.WriteSymbol.{LabelFrameNeeds, sentFor}
 use Rattle.trellis.specs.Coding.{FrameNeeds}
@@ -66,7 +66,7 @@ module _ (T : Tables) (ok : tableVerdict T .number ≡ 0) where
       go Uncoded e = refl
       go Coded e = known .coded e .onesEven
 
-  module _ (p : Sizes) {layouts entries places monitored : List ℕ} (is : PlanIs T p layouts entries places monitored) where
+  module _ (p : PlanSizes) {layouts entries places monitored : List ℕ} (is : PlanIs T p layouts entries places monitored) where
     abbrev es : List ℕ
     es = take (p .entries) entries
 

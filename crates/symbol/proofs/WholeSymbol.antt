@@ -29,9 +29,9 @@ use Rattle.g9932.proofs.Sent.{loads-sum, size-uncoded}
 use Rattle.plan.specs.Plan.{plannedVerdict, PlanIs, Arrays}
 use Rattle.plan.specs.declared.Planned.{Planned}
 use Rattle.plan.specs.declared.Planned.the-variants.{Refused}
-use Rattle.plan.specs.declared.Sizes.{Sizes}
+use Rattle.plan.specs.declared.PlanSizes.{PlanSizes}
 use Rattle.symbol.specs.Inputs.{ChecksInputs}
-use Rattle.passes.specs.ReadSymbol.{ReadOf, ReadBy, ReadNeeds, ReadsSymbol}
+use Rattle.passes.specs.ReadSymbol.{ReadOf, ReadBy, ReadSymbolNeeds, ReadsSymbol}
 use Rattle.passes.specs.WriteSymbol.{SymbolOf, SymbolBy, SymbolNeeds, WritesSymbol}
 use Rattle.symbol.proofs.Answers.{size-is, inputs-encoded, inputs-read, encode-tables, encode-inputs, encode-done, read-tables, read-inputs, read-points}
 use Rattle.symbol.proofs.PlannedInputs.{refused-answer, Passed, accepts, lists-fit}
@@ -39,7 +39,7 @@ use Rattle.symbol.proofs.TablePlan.{the-plan, label-needs, sent-is, fra
 
 -- ---- from the tables' plan
 
-module _ (T : Tables) (ok : tableVerdict T .number ≡ 0) (p : Sizes) {layouts entries places monitored : List ℕ} (is : PlanIs T p layouts entries places monitored) where
+module _ (T : Tables) (ok : tableVerdict T .number ≡ 0) (p : PlanSizes) {layouts entries places monitored : List ℕ} (is : PlanIs T p layouts entries places monitored) where
   pub symbol-of : (f labels : List ℕ) (xs ys : List ℤ) → frameTest (sizeOf T) f ≡ false → length labels ≡ length (T .tones) → length xs ≡ length (T .tones) → length ys ≡ length (T .tones)
       → SymbolOf T (T .mode) (p .shared) f (take (p .entries) entries) (take (p .entries) places) (take (p .monitored) monitored) (take (length (T .tones)) layouts) labels xs ys
   symbol-of f labels xs ys fits n nx ny =
@@ -97,7 +97,7 @@ module _ (T : Tables) (ok : tableVerdict T .number ≡ 0) (p : Sizes) {layouts e
 
 -- ---- from the answers of planning and of checking the inputs
 
-module _ {T : Tables} {p : Sizes} {layouts entries places monitored : List ℕ} (a : Arrays layouts entries places monitored) (labels : List ℕ) (n : length labels ≡ mostTones) where
+module _ {T : Tables} {p : PlanSizes} {layouts entries places monitored : List ℕ} (a : Arrays layouts entries places monitored) (labels : List ℕ) (n : length labels ≡ mostTones) where
   module _ {f : List ℕ} (r : ℕ) {xs ys : List ℤ} (h : Passed T (λ size. encodeInputs size (length (T .tones)) (length xs) (length ys) f r) p layouts entries places monitored) where
     symbol-by : SymbolBy T (T .mode) p (length (T .tones)) f layouts entries places monitored labels xs ys
     symbol-by =
@@ -121,7 +121,7 @@ module _ {T : Tables} {p : Sizes} {layouts entries places monitored : List ℕ} 
         read-of T (accepts h) p (h .plan) (p .size) xs ys (take (length (T .tones)) labels) held f (length-take-le _ labels (lists-fit h a {labels = labels} n .labelsFit)) (z .0 .0 .0) (z .0 .0 .1) nh s
         (z .0 .1 ∙ ap bytesFor s)
 
-    pub read-needs : ReadNeeds (T .mode) p (length (T .tones)) layouts entries places monitored xs ys labels held f
+    pub read-needs : ReadSymbolNeeds (T .mode) p (length (T .tones)) layouts entries places monitored xs ys labels held f
     read-needs = record { fits = lists-fit h a n; tables = T; planned = read-by }
 
     pub read-done : {answer : Answer} {after : List ℕ} → ReadsSymbol (T .mode) p (length (T .tones)) layouts entries places monitored xs ys labels held f r answer after

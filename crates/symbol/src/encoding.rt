@@ -19,7 +19,7 @@ pub fn check_inputs(
         Planned::Refused(refusal) => {
             return Planned::Refused(refusal);
         }
-        Planned::Ready(p) => {
+        Planned::Lists(p) => {
             if x_len != nsc {
                 return Planned::Refused(Refusal::Room);
             }
@@ -32,7 +32,7 @@ pub fn check_inputs(
             if prbs::seed_refused(register) {
                 return Planned::Refused(Refusal::Seed);
             }
-            return Planned::Ready(p);
+            return Planned::Lists(p);
         }
     }
 }

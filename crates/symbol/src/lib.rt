@@ -41,7 +41,7 @@ pub fn encode(
     let checked = encoding::check_inputs(planned, n, xs.len(), ys.len(), frame, register);
     match checked {
         Planned::Refused(refusal) => Answer::Refused { refusal, register },
-        Planned::Ready(p) => {
+        Planned::Lists(p) => {
             let after = passes::write::write_symbol(
                 mode,
                 p,
@@ -99,7 +99,7 @@ pub fn read(
     let checked = reading::check_inputs(planned, n, xs.len(), ys.len(), frame.len(), register);
     match checked {
         Planned::Refused(refusal) => Answer::Refused { refusal, register },
-        Planned::Ready(p) => {
+        Planned::Lists(p) => {
             passes::read::read_symbol(
                 mode,
                 p,

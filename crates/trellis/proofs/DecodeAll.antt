@@ -19,7 +19,7 @@ use Rattle.g9932.specs.Trellis.{Reading, frame, breaks, after as after', lastTw
 use Rattle.g9932.specs.declared.Found.{Found}
 use Rattle.g9932.specs.declared.Found.the-variants.{At, Nothing}
 use Rattle.frame.specs.declared.BitWriter.{BitWriter}
-use Rattle.trellis.specs.Reading.{firstReader, decodedIn, ReadPairNeeds, ReadsPair, ReadNeeds, onward, readingFrom, ReadsFrom, readingOfAll, ReadsLabels, LabelNeeds}
+use Rattle.trellis.specs.Reading.{firstReader, decodedIn, ReadPairNeeds, ReadsPair, ReadPairsNeeds, onward, readingFrom, ReadsFrom, readingOfAll, ReadsLabels, ReadLabelNeeds}
 use Rattle.trellis.specs.declared.read.PairRead.{PairRead}
 use Rattle.trellis.specs.declared.read.PairsRead.{PairsRead}
 use Rattle.trellis.proofs.Entries.{whole-pairs, padded-pairs, not-forced, padded-taken}
@@ -38,10 +38,10 @@ frame-after : (b : List Bool) (r : Reading) → onward 1 (breakIn r) ≡ Nothing
 frame-after b (frame f) z = refl
 frame-after b (breaks k) z = absurd (found-not z)
 
-module _ (w : BitWriter) (es labels out : List ℕ) (needs : LabelNeeds w es labels out) (same : length labels ≡ length es) where
+module _ (w : BitWriter) (es labels out : List ℕ) (needs : ReadLabelNeeds w es labels out) (same : length labels ≡ length es) where
   -- an even count
   module _ (even : length es % 2 ≡ 1 → ⊥) where
-    pub even-needs : ReadNeeds (firstReader w) es 0 labels out
+    pub even-needs : ReadPairsNeeds (firstReader w) es 0 labels out
     even-needs =
         record {
           inside = omega arith;
@@ -113,7 +113,7 @@ module _ (w : BitWriter) (es labels out : List ℕ) (needs : LabelNeeds w es lab
             let q = first-needs in
             first .puts .counted ∙ omega (arith, first-takes y l (q .0) (q .2 .wSmall))
 
-        pub odd-needs : length mid ≡ length out → ReadNeeds (p .reader) es 1 labels mid
+        pub odd-needs : length mid ≡ length out → ReadPairsNeeds (p .reader) es 1 labels mid
         odd-needs kept =
             let t = padded-taken es y (needs .few) odd hy in
             record {

@@ -18,7 +18,7 @@ use Rattle.g9932.specs.Order.{Pair, pair, inTwos}
 use Rattle.g9932.specs.Trellis.{Word, Reading, frame, breaks, after as after', lastTwo, taken, width, decodedWord, decodedAt, obeysCode, takenBits, nextOf, readPairs, takenTotal}
 use Rattle.g9932.specs.declared.Found.the-variants.{At, Nothing}
 use Rattle.trellis.specs.Coding.{Wide}
-use Rattle.trellis.specs.Reading.{decodedIn, ReadPairNeeds, ReadsPair, ReadNeeds, readingFrom, ReadsFrom}
+use Rattle.trellis.specs.Reading.{decodedIn, ReadPairNeeds, ReadsPair, ReadPairsNeeds, readingFrom, ReadsFrom}
 use Rattle.trellis.specs.declared.read.Reader.{Reader}
 use Rattle.trellis.specs.declared.read.PairRead.{PairRead}
 use Rattle.trellis.proofs.Entries.{cut-pair, pair-wide, inTwos-short, forced-is}
@@ -40,7 +40,7 @@ after-one n b x (breaks k) = ap breaks (let e : n + suc k ≡ n + 1 + k = omega 
 
 pub record Decoding (c k : Reader) (es labels out₀ out : List ℕ) (from i : ℕ) : Type 0 where
   pub kept : length out ≡ length out₀
-  pub needs : ReadNeeds k es i labels out
+  pub needs : ReadPairsNeeds k es i labels out
   pub pairs : ℕ
   numbered : pairs + (from + 1) / 2 ≡ (i + 1) / 2
   pub done : List Bool
@@ -48,7 +48,7 @@ pub record Decoding (c k : Reader) (es labels out₀ out : List ℕ) (from i : �
   pub rest : readingFrom c es from labels ≡ afterPairs pairs done (readingFrom k es i labels)
   pub counted : count (k .writer) + takenTotal (inTwos (drop i es)) ≡ count (c .writer) + takenTotal (inTwos (drop from es))
 
-pub decoding-start : {c : Reader} {es labels out : List ℕ} {from : ℕ} → ReadNeeds c es from labels out → Decoding c c es labels out out from from
+pub decoding-start : {c : Reader} {es labels out : List ℕ} {from : ℕ} → ReadPairsNeeds c es from labels out → Decoding c c es labels out out from from
 decoding-start {c = c} {es = es} {labels = labels} {out = out} {from = from} r =
     record {
       kept = refl;

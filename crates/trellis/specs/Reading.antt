@@ -62,7 +62,7 @@ firstReader w = record { state = zeroState; writer = w }
 
 -- ---- the pairs from an entry on; the labels are those of the entries, in their order
 
-pub record ReadNeeds (c : Reader) (es : List ℕ) (i : ℕ) (labels frame : List ℕ) : Type 0 where
+pub record ReadPairsNeeds (c : Reader) (es : List ℕ) (i : ℕ) (labels frame : List ℕ) : Type 0 where
   pub inside : i ≤ length es
   pub places : length es ≤ length labels
   pub within : Within es labels (length es)
@@ -94,7 +94,7 @@ pub record ReadsLabels (w : BitWriter) (es labels before : List ℕ) (r : PairsR
   pub waits : Waits (r .writer)
   pub counted : r .broken ≡ Nothing → count (r .writer) ≡ count w + takenTotal (pairsOf es)
 
-pub record LabelNeeds (w : BitWriter) (es labels frame : List ℕ) : Type 0 where
+pub record ReadLabelNeeds (w : BitWriter) (es labels frame : List ℕ) : Type 0 where
   pub wide : Wide es
   pub few : 4 ≤ length es
   pub many : length es ≤ mostTones

@@ -8,7 +8,7 @@ ghost use Rattle.g9932.specs.Sizes.{mostTones};
 ghost use Rattle.g9932.specs.Order.{pair};
 ghost use Rattle.g9932.specs.Trellis.{taken, nextState, obeysCode};
 ghost use Rattle.trellis.specs.Coding.{Wide};
-ghost use Rattle.trellis.specs.Reading.{firstReader, decodedOf, wordBy, takenNumber, ReadPairNeeds, ReadsPair, ReadNeeds, ReadsFrom, LabelNeeds, ReadsLabels};
+ghost use Rattle.trellis.specs.Reading.{firstReader, decodedOf, wordBy, takenNumber, ReadPairNeeds, ReadsPair, ReadPairsNeeds, ReadsFrom, ReadLabelNeeds, ReadsLabels};
 use super::entry;
 use super::label;
 use super::power;
@@ -168,7 +168,7 @@ fn read_from(
     from: usize,
     frame: &mut [u8],
 ) -> PairsRead
-    requires { ⌜ Wide (now entries) × (length (now entries) ≤ mostTones) × Placed (now entries) (now places) (now labels) × ReadNeeds c (now entries) from (labelsAt (now places) (now labels)) (now frame) ⌝ }
+    requires { ⌜ Wide (now entries) × (length (now entries) ≤ mostTones) × Placed (now entries) (now places) (now labels) × ReadPairsNeeds c (now entries) from (labelsAt (now places) (now labels)) (now frame) ⌝ }
     ensures { λ r. ⌜ ReadsFrom c (now (entries .entry)) from (labelsAt (now (places .entry)) (now (labels .entry))) (now (frame .entry)) r (now (frame .exit)) ⌝ }
 {
     let mut k = c;
@@ -211,7 +211,7 @@ pub fn read_labels(
     places: &[u16],
     frame: &mut [u8],
 ) -> PairsRead
-    requires { ⌜ Placed (now entries) (now places) (now labels) × LabelNeeds writer (now entries) (labelsAt (now places) (now labels)) (now frame) ⌝ }
+    requires { ⌜ Placed (now entries) (now places) (now labels) × ReadLabelNeeds writer (now entries) (labelsAt (now places) (now labels)) (now frame) ⌝ }
     ensures { λ r. ⌜ ReadsLabels writer (now (entries .entry)) (labelsAt (now (places .entry)) (now (labels .entry))) (now (frame .entry)) r (now (frame .exit)) ⌝ }
 {
     if entries.len() % 2 == 1 {
