@@ -12,7 +12,7 @@ use Rattle.g9932.specs.Bits.{first}
 use Rattle.g9932.specs.Filler.{registerAfter}
 use Rattle.g9932.specs.Order.{pairsOf, sum}
 use Rattle.g9932.specs.Refusals.{Verdict, refused, refuseAt, numberOf, placeOf}
-use Rattle.g9932.specs.Sizes.{Tables, entry, Point, points, bytesFor, pack}
+use Rattle.g9932.specs.Sizes.{Tables, entry, Point, points, bytesFor, pack, mostTones, mostHeld}
 use Rattle.g9932.specs.Symbol.{load, classesOf, sizeOf, offgridTest, monitorTest, gatherBits, readingIn}
 use Rattle.g9932.specs.Trellis.{Reading, frame, zeroState, readPairs, takenTotal}
 use Rattle.g9932.specs.declared.Answer.{Answer}
@@ -80,7 +80,7 @@ readingBy Coded es d = readPairs zeroState (pairsOf es) d
 -- what each mode asks of the entries and of a buffer of n bytes
 abbrev pub FrameRoom : Mode → List ℕ → ℕ → Type 0
 FrameRoom Uncoded es n = ((k : ℕ) → entry es k ≤ 15) × (sum es + 64 ≤ 8 * n)
-FrameRoom Coded es n = Wide es × (4 ≤ length es) × (length es ≤ 4096) × (takenTotal (pairsOf es) + 64 ≤ 8 * n)
+FrameRoom Coded es n = Wide es × (4 ≤ length es) × (length es ≤ mostTones) × (takenTotal (pairsOf es) + 64 ≤ 8 * n)
 
 pub record FrameOf (m : Mode) (cs : List Class) (d : List Bool) (from : ℕ) (es ps ms layouts labels held : List ℕ) : Type 0 where
   pub plan : PlanOf cs from es ps ms layouts
@@ -107,7 +107,7 @@ pub record ReadOf (T : Tables) (m : Mode) (from size : ℕ) (es ps ms layouts : 
   pub xsLength : length xs ≡ length (classesOf T)
   pub ysLength : length ys ≡ length (classesOf T)
   pub room : FrameRoom m es (length held)
-  pub heldLength : length held ≡ 7688
+  pub heldLength : length held ≡ mostHeld
   pub sizeIs : size ≡ sizeOf T
   pub frameLength : length f ≡ bytesFor (sizeOf T)
   pub sizeMost : sizeOf T ≤ 61_440

@@ -13,7 +13,7 @@ use Rattle.g9932.proofs.Packed.{frame-length}
 use Rattle.g9932.proofs.Prefixes.{encode-take}
 use Rattle.g9932.specs.Order.{Pair, consIf, filter, sum, bitsOf, entries as codedEntries, pairsOf, reorderedTones}
 use Rattle.g9932.specs.Refusals.{tableVerdict, frameTest}
-use Rattle.g9932.specs.Sizes.{Tables, entry, Point, frameBits, unpack, bytesFor}
+use Rattle.g9932.specs.Sizes.{Tables, entry, Point, frameBits, unpack, bytesFor, mostTones, mostHeld}
 use Rattle.g9932.specs.Symbol.{classesOf, pairsIn, sizeOf, sentIn, gatherBits, readingIn}
 use Rattle.g9932.specs.Trellis.{zeroState, encodePairs, readPairs, sentOf, readingOf, takenTotal}
 use Rattle.g9932.specs.declared.Mode.{Mode}
@@ -56,7 +56,7 @@ module _ (T : Tables) (ok : tableVerdict T .number ≡ 0) where
   known : Accepted T
   known = accepted-tables T ok
 
-  pub tones-most : length (T .tones) ≤ 4096
+  pub tones-most : length (T .tones) ≤ mostTones
   tones-most = omega (arith, known .tonesMost, known .tableMost)
 
   sharing-even : sharing (T .mode) (T .bits) (T .tones) % 2 ≡ 0
@@ -101,7 +101,7 @@ module _ (T : Tables) (ok : tableVerdict T .number ≡ 0) where
     coded-is : T .mode ≡ Coded → es ≡ codedEntries (T .bits) (T .tones)
     coded-is e = entries-by Coded e
 
-    coded-many : T .mode ≡ Coded → length es ≤ 4096
+    coded-many : T .mode ≡ Coded → length es ≤ mostTones
     coded-many e = omega (arith, is .entriesMost, tones-most, length-take-most (p .entries) entries)
 
     -- ---- writing
@@ -153,7 +153,7 @@ module _ (T : Tables) (ok : tableVerdict T .number ≡ 0) where
     -- ---- reading
 
     -- the buffer before the frame is known to be whole has room for it
-    pub frame-room : (held : List ℕ) → length held ≡ 7688 → FrameRoom (T .mode) es (length held)
+    pub frame-room : (held : List ℕ) → length held ≡ mostHeld → FrameRoom (T .mode) es (length held)
     frame-room held n = go (T .mode) refl
       where
         go : (m : Mode) → T .mode ≡ m → FrameRoom m es (length held)

@@ -15,7 +15,7 @@ use Rattle.g9932.specs.Answers.{breakIn, frameIn, encodeInputs, readInputs, Enc
 use Rattle.g9932.specs.Bits.{first}
 use Rattle.g9932.specs.Order.{sum, bitsOf}
 use Rattle.g9932.specs.Refusals.{tableVerdict, frameTest}
-use Rattle.g9932.specs.Sizes.{Tables, Point, bytesFor, mostTones}
+use Rattle.g9932.specs.Sizes.{Tables, Point, bytesFor, mostTones, mostHeld}
 use Rattle.g9932.specs.Symbol.{classesOf, pairsIn, sizeOf, offgridTest, gatherBits, readingIn, writtenPoints}
 use Rattle.g9932.specs.Trellis.{Reading, frame, breaks, zeroState, readPairs, readingOf}
 use Rattle.g9932.specs.declared.Answer.{Answer}
@@ -76,7 +76,7 @@ module _ (T : Tables) (ok : tableVerdict T .number ≡ 0) (p : PlanSizes) {layou
       go Coded e z = read e _ refl z
 
   pub read-of : (size : ℕ) (xs ys : List ℤ) (labels held f : List ℕ) → length labels ≡ length (T .tones) → length xs ≡ length (T .tones) → length ys ≡ length (T .tones)
-      → length held ≡ 7688 → size ≡ sizeOf T → length f ≡ bytesFor (sizeOf T)
+      → length held ≡ mostHeld → size ≡ sizeOf T → length f ≡ bytesFor (sizeOf T)
       → ReadOf T (T .mode) (p .shared) size (take (p .entries) entries) (take (p .entries) places) (take (p .monitored) monitored) (take (length (T .tones)) layouts) xs ys labels held f
   read-of size xs ys labels held f n nx ny nh s nf =
       let c = length-classes T in
@@ -112,7 +112,7 @@ module _ {T : Tables} {p : PlanSizes} {layouts entries places monitored : List �
     unfolding writtenPoints
     encode-written writes = let w = writes T symbol-by in encode-done T f r xs ys (h .tablesPass) _ _ _ _ (h .inputsPass) (w .registerIs) (w .xsHold) (w .ysHold)
 
-  module _ (r : ℕ) {xs ys : List ℤ} {held f : List ℕ} (nh : length held ≡ 7688)
+  module _ (r : ℕ) {xs ys : List ℤ} {held f : List ℕ} (nh : length held ≡ mostHeld)
       (h : Passed T (λ size. readInputs size (length (T .tones)) (length xs) (length ys) (length f) r) p layouts entries places monitored) where
     read-by : ReadBy T (T .mode) p (length (T .tones)) layouts entries places monitored xs ys labels held f
     read-by =
