@@ -36,8 +36,8 @@ use Rattle.mapper.specs.Writing.{FillerNeeds}
 use Rattle.mapper.specs.declared.read.FillerRead.{FillerRead}
 use Rattle.passes.specs.ReadSymbol.{PlacesOf, ReadsPlaces, FrameRoom, FrameOf, ReadsFrame}
 use Rattle.passes.specs.declared.read.PlacesRead.the-variants.{Refused, Done}
-use Rattle.trellis.specs.Reading.{ReadLabelNeeds as TrellisNeeds, readingOfAll, ReadsLabels}
-use Rattle.trellis.specs.declared.read.PairsRead.{PairsRead}
+use Rattle.decoder.specs.Reading.{ReadLabelNeeds as TrellisNeeds, readingOfAll, ReadsLabels}
+use Rattle.decoder.specs.declared.PairsRead.{PairsRead}
 use Rattle.passes.proofs.FillerPlaces.{register-places, wrong-first}
 use Rattle.passes.proofs.PlanLabels.{joined, joined-count, by-entry, joined-within, ones-small, plan-placed, where-inside, all-count}
 use Rattle.passes.proofs.SymbolPoints.{class-at, load-at, tone-layout, offgrid-first, label-is, carried, label-small, tells-filler, gathered}

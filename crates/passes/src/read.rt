@@ -60,7 +60,7 @@ fn read_frame(
             Found::Nothing
         }
         Mode::Coded => {
-            let p = trellis::read::read_labels(BitWriter::new(), labels, entries, places, held);
+            let p = decoder::read_labels(BitWriter::new(), labels, entries, places, held);
             let broken = p.broken;
             let w = p.writer;
             if let Found::At(k) = broken {

@@ -5,6 +5,3 @@ pub mod CodeLoop
 pub mod Steps
 pub mod FreePair
 pub mod CodeAll
-pub mod DecodePair
-pub mod DecodeLoop
-pub mod DecodeAll

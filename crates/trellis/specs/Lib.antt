@@ -1,3 +1,2 @@
 pub mod Coding
 pub mod Steps
-pub mod Reading

@@ -1,6 +1,5 @@
 // The trellis code: a frame's bits to the labels of the entries of b', pair by pair.
 mod pairs;
-pub mod read;
 
 ghost use mathlib.Core.Path.{_≡_};
 ghost use mathlib.Core.Bool.{false};
@@ -18,22 +17,22 @@ use g9932::TrellisState;
 use pairs::code_from;
 
 // A bit as a number.
-fn weight(b: bool) -> u32
+pub fn weight(b: bool) -> u32
     ensures { λ r. ⌜ (r ≡ weightOf b) × (r ≤ 1) ⌝ }
 {
     if b { 1 } else { 0 }
 }
 
-// 2 to the k.
-fn power(k: usize) -> u32
+// 2 to the k. Called by proved code only.
+pub fn power(k: usize) -> u32
     requires { ⌜ k < 32 ⌝ }
     ensures { λ r. ⌜ r ≡ 2 ^ k ⌝ }
 {
     1u32 << k
 }
 
-// A label as a number, from its two lowest bits and those above.
-fn label(b0: bool, b1: bool, high: u32) -> u32
+// A label as a number, from its two lowest bits and those above. Called by proved code only.
+pub fn label(b0: bool, b1: bool, high: u32) -> u32
     requires { ⌜ high < 2 ^ 29 ⌝ }
     ensures { λ r. ⌜ r ≡ labelNumber b0 b1 high ⌝ }
 {
@@ -54,7 +53,7 @@ pub struct PairCode {
 }
 
 // The state at the start.
-fn zero_state() -> TrellisState
+pub fn zero_state() -> TrellisState
     ensures { λ r. ⌜ r ≡ zeroState ⌝ }
 {
     TrellisState {
@@ -65,8 +64,8 @@ fn zero_state() -> TrellisState
     }
 }
 
-// An entry of b'.
-fn entry(entries: &[u8], i: usize) -> usize
+// An entry of b'. Called by proved code only.
+pub fn entry(entries: &[u8], i: usize) -> usize
     requires { ⌜ i < length (now entries) ⌝ }
     ensures { λ r. ⌜ r ≡ getD (now (entries .entry)) i 0 ⌝ }
 {

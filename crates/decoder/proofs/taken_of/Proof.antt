@@ -1,8 +1,8 @@
--- `trellis::read::taken_of` meets its contract: u3 upward, below it u1 and u2 where they are not forced.
-use Rattle.trellis.specs.Reading.{takenNumber}
+-- `decoder::taken_of` meets its contract: u3 upward, below it u1 and u2 where they are not forced.
+use Rattle.decoder.specs.Reading.{takenNumber}
 use borrow.Author.Needs.{needs}
-use Rattle.trellis.proofs.read.taken_of.Statement.{statement}
-use Rattle.trellis.proofs.read.taken_of.Tie as tie
+use Rattle.decoder.proofs.taken_of.Statement.{statement}
+use Rattle.decoder.proofs.taken_of.Tie as tie
 
 weight-requires : tie.Need-weight-requires
 weight-requires c κs = search needs

@@ -1,6 +1,6 @@
--- `trellis::read::obeys_code` meets its contract, by whether the pair is one of the last two.
-use Rattle.trellis.proofs.read.obeys_code.Statement.{statement}
-use Rattle.trellis.proofs.read.obeys_code.Tie as tie
+-- `decoder::obeys_code` meets its contract, by whether the pair is one of the last two.
+use Rattle.decoder.proofs.obeys_code.Statement.{statement}
+use Rattle.decoder.proofs.obeys_code.Tie as tie
 
 returns : tie.Need-returns
 returns c = rw (c .before .before .before .before .before .before .if1 .taken)

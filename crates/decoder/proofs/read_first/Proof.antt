@@ -1,4 +1,4 @@
--- `trellis::read::read_first` meets its contract: the pair has no v, so u0 is w0 xor w1, and w0 is u2.
+-- `decoder::read_first` meets its contract: the pair has no v, so u0 is w0 xor w1, and w0 is u2.
 use mathlib.Core.Path.{_∙_, ap}
 use mathlib.Core.Bool.{false}
 use lib.Pow.{pow-mono}
@@ -7,10 +7,10 @@ use native.Mathlib.Nat.{lt-of-lt-of-le}
 use Rattle.g9932.specs.Bits.{odd}
 use Rattle.g9932.specs.Trellis.{nextState}
 use Rattle.g9932.specs.declared.TrellisState.{TrellisState}
-use Rattle.trellis.proofs.DecodePair.{decoded-first}
+use Rattle.decoder.proofs.DecodePair.{decoded-first}
 use borrow.Author.Needs.{needs}
-use Rattle.trellis.proofs.read.read_first.Statement.{statement}
-use Rattle.trellis.proofs.read.read_first.Tie as tie
+use Rattle.decoder.proofs.read_first.Statement.{statement}
+use Rattle.decoder.proofs.read_first.Tie as tie
 
 zero-state-requires : tie.Need-zero-state-requires
 zero-state-requires c κs = search needs

@@ -1,10 +1,10 @@
--- `trellis::read::entry_label` meets its contract: the label at the place of an entry.
+-- `decoder::entry_label` meets its contract: the label at the place of an entry.
 use mathlib.Core.Path.{ap, sym, _∙_}
 use Rattle.frame.proofs.Labels.{at-get}
 use Rattle.g9932.specs.Sizes.{entry}
 use borrow.Author.Needs.{needs}
-use Rattle.trellis.proofs.read.entry_label.Statement.{statement}
-use Rattle.trellis.proofs.read.entry_label.Tie as tie
+use Rattle.decoder.proofs.entry_label.Statement.{statement}
+use Rattle.decoder.proofs.entry_label.Tie as tie
 
 place-at-requires : tie.Need-place-at-requires
 place-at-requires c κs = search needs

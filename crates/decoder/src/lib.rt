@@ -1,4 +1,4 @@
-// Reading labels back: each pair is held against the code, and its frame bits are put together.
+// The trellis code undone: labels back to a frame's bits. Each pair is held against the code, and its frame bits are put together.
 ghost use mathlib.Core.Path.{_≡_};
 ghost use mathlib.Core.Bool.{false};
 ghost use Prim.Native.Nat.{_+_, _-_, _*_, _^_, _≤_, _<_};
@@ -7,18 +7,18 @@ ghost use Rattle.frame.specs.Labels.{labelsAt, Placed, Rising};
 ghost use Rattle.g9932.specs.Sizes.{mostTones};
 ghost use Rattle.g9932.specs.Order.{pair};
 ghost use Rattle.g9932.specs.Trellis.{taken, nextState, obeysCode};
 ghost use Rattle.trellis.specs.Coding.{Wide};
-ghost use Rattle.trellis.specs.Reading.{firstReader, decodedOf, wordBy, takenNumber, ReadPairNeeds, ReadsPair, ReadPairsNeeds, ReadsFrom, ReadLabelNeeds, ReadsLabels};
-use super::entry;
-use super::label;
-use super::power;
-use super::weight;
-use super::zero_state;
+ghost use Rattle.decoder.specs.Reading.{firstReader, decodedOf, wordBy, takenNumber, ReadPairNeeds, ReadsPair, ReadPairsNeeds, ReadsFrom, ReadLabelNeeds, ReadsLabels};
 use frame::BitWriter;
 use frame::by_place::label_at;
 use frame::by_place::place_at;
 use g9932::Found;
 use g9932::TrellisState;
+use trellis::entry;
+use trellis::label;
+use trellis::power;
+use trellis::weight;
+use trellis::zero_state;
 
 // The word that a pair's labels imply: u0 to u3 and, as a number, u4 upward.
 pub struct DecodedWord {

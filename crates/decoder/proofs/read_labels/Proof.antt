@@ -1,14 +1,14 @@
--- `trellis::read::read_labels` meets its contract: an odd count of entries begins with the pair of a 0 and the first entry, which
+-- `decoder::read_labels` meets its contract: an odd count of entries begins with the pair of a 0 and the first entry, which
 -- may break the code itself; an even one with the first two.
 use mathlib.Core.Path.{_∙_}
 use borrow.Author.Tests.{not-true, not-false}
 use native.Mathlib.Omega.{arith}
-use Rattle.trellis.proofs.DecodeAll.{even-needs, even-read, first-needs, first-broken, odd-needs, odd-read}
+use Rattle.decoder.proofs.DecodeAll.{even-needs, even-read, first-needs, first-broken, odd-needs, odd-read}
 use Rattle.frame.specs.Labels.{labelsAt}
 use Rattle.frame.proofs.Labels.{placed-length}
 use borrow.Author.Needs.{needs}
-use Rattle.trellis.proofs.read.read_labels.Statement.{statement}
-use Rattle.trellis.proofs.read.read_labels.Tie as tie
+use Rattle.decoder.proofs.read_labels.Statement.{statement}
+use Rattle.decoder.proofs.read_labels.Tie as tie
 
 entry-requires : tie.Need-entry-requires
 entry-requires c κs = omega (arith, c .before .before .before .before .before .pre .1 .few)

@@ -1,16 +1,16 @@
--- `trellis::read::read_from` meets its contract. The invariant: every pair before entry i obeys the code, and their frame bits,
+-- `decoder::read_from` meets its contract. The invariant: every pair before entry i obeys the code, and their frame bits,
 -- before the reading of the pairs left, make the whole reading. The measure is the entries left.
 use mathlib.Core.Path.{refl, _∙_}
 use Prim.Native.Nat.{_-_}
 use lib.ListN.{length}
 use borrow.Author.Tests.{not-true, not-false}
 use native.Mathlib.Omega.{arith}
-use Rattle.trellis.proofs.DecodeLoop.{Decoding, decoding-start, decoding-end, pair-needs, decoding-broken, decoding-step}
+use Rattle.decoder.proofs.DecodeLoop.{Decoding, decoding-start, decoding-end, pair-needs, decoding-broken, decoding-step}
 use Rattle.trellis.proofs.Entries.{pair-wide, pair-room}
 use Rattle.frame.specs.Labels.{labelsAt}
 use borrow.Author.Needs.{needs}
-use Rattle.trellis.proofs.read.read_from.Statement.{statement}
-use Rattle.trellis.proofs.read.read_from.Tie as tie
+use Rattle.decoder.proofs.read_from.Statement.{statement}
+use Rattle.decoder.proofs.read_from.Tie as tie
 
 abbrev Inv-loop : tie.InvT-loop
 Inv-loop labels entries places from frame₀ k₀ i₀ frame k i = Decoding k₀ k entries (labelsAt places labels) frame₀ frame i₀ i

@@ -17,12 +17,12 @@ use Rattle.g9932.specs.Bits.{bits}
 use Rattle.g9932.specs.Order.{Pair, pair, inTwos}
 use Rattle.g9932.specs.Trellis.{Word, Reading, frame, breaks, after as after', lastTwo, taken, width, decodedWord, decodedAt, obeysCode, takenBits, nextOf, readPairs, takenTotal}
 use Rattle.g9932.specs.declared.Found.the-variants.{At, Nothing}
 use Rattle.trellis.specs.Coding.{Wide}
-use Rattle.trellis.specs.Reading.{decodedIn, ReadPairNeeds, ReadsPair, ReadPairsNeeds, readingFrom, ReadsFrom}
-use Rattle.trellis.specs.declared.read.Reader.{Reader}
-use Rattle.trellis.specs.declared.read.PairRead.{PairRead}
+use Rattle.decoder.specs.Reading.{decodedIn, ReadPairNeeds, ReadsPair, ReadPairsNeeds, readingFrom, ReadsFrom}
+use Rattle.decoder.specs.declared.Reader.{Reader}
+use Rattle.decoder.specs.declared.PairRead.{PairRead}
 use Rattle.trellis.proofs.Entries.{cut-pair, pair-wide, inTwos-short, forced-is}
-use Rattle.trellis.proofs.DecodePair.{length-takes}
+use Rattle.decoder.proofs.DecodePair.{length-takes}
 use Rattle.g9932.proofs.Search.{found-not}
 
 -- a reading with n pairs before it, whose frame bits are b

@@ -1,11 +1,11 @@
--- `trellis::read::decode_word` meets its contract: u4 upward fits.
+-- `decoder::decode_word` meets its contract: u4 upward fits.
 use native.Mathlib.Omega.{arith}
 use Rattle.g9932.specs.Bits.{odd}
-use Rattle.trellis.specs.Reading.{decodedOf}
-use Rattle.trellis.proofs.DecodePair.{decoded-fits}
+use Rattle.decoder.specs.Reading.{decodedOf}
+use Rattle.decoder.proofs.DecodePair.{decoded-fits}
 use borrow.Author.Needs.{needs}
-use Rattle.trellis.proofs.read.decode_word.Statement.{statement}
-use Rattle.trellis.proofs.read.decode_word.Tie as tie
+use Rattle.decoder.proofs.decode_word.Statement.{statement}
+use Rattle.decoder.proofs.decode_word.Tie as tie
 
 sub-power : tie.Need-sub-power
 sub-power c = search needs

@@ -14,11 +14,11 @@ use Rattle.g9932.specs.Order.{inTwos, pairsOf, Pair}
 use Rattle.g9932.specs.Trellis.{Word, Reading, decodedWord, obeysCode, takenBits, nextOf, zeroState, readPairs, takenTotal}
 use Rattle.g9932.specs.declared.Found.{Found}
 use Rattle.g9932.specs.declared.Found.the-variants.{At, Nothing}
 use Rattle.trellis.specs.Coding.{labelNumber, Wide}
-use Rattle.trellis.specs.declared.read.Reader.{Reader}
-use Rattle.trellis.specs.declared.read.DecodedWord.{DecodedWord}
-use Rattle.trellis.specs.declared.read.PairRead.{PairRead}
-use Rattle.trellis.specs.declared.read.PairsRead.{PairsRead}
+use Rattle.decoder.specs.declared.Reader.{Reader}
+use Rattle.decoder.specs.declared.DecodedWord.{DecodedWord}
+use Rattle.decoder.specs.declared.PairRead.{PairRead}
+use Rattle.decoder.specs.declared.PairsRead.{PairsRead}
 
 -- u0 to u3, and u4 upward as a number, from the labels of a pair, v having x bits
 unfoldable pub decodedOf : ℕ → ℕ → ℕ → DecodedWord

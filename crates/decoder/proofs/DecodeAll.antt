@@ -19,12 +19,12 @@ use Rattle.g9932.specs.Trellis.{Reading, frame, breaks, after as after', lastTw
 use Rattle.g9932.specs.declared.Found.{Found}
 use Rattle.g9932.specs.declared.Found.the-variants.{At, Nothing}
 use Rattle.frame.specs.declared.BitWriter.{BitWriter}
-use Rattle.trellis.specs.Reading.{firstReader, decodedIn, ReadPairNeeds, ReadsPair, ReadPairsNeeds, onward, readingFrom, ReadsFrom, readingOfAll, ReadsLabels, ReadLabelNeeds}
-use Rattle.trellis.specs.declared.read.PairRead.{PairRead}
-use Rattle.trellis.specs.declared.read.PairsRead.{PairsRead}
+use Rattle.decoder.specs.Reading.{firstReader, decodedIn, ReadPairNeeds, ReadsPair, ReadPairsNeeds, onward, readingFrom, ReadsFrom, readingOfAll, ReadsLabels, ReadLabelNeeds}
+use Rattle.decoder.specs.declared.PairRead.{PairRead}
+use Rattle.decoder.specs.declared.PairsRead.{PairsRead}
 use Rattle.trellis.proofs.Entries.{whole-pairs, padded-pairs, not-forced, padded-taken}
 use Rattle.g9932.proofs.Search.{found-not}
-use Rattle.trellis.proofs.DecodePair.{first-takes}
+use Rattle.decoder.proofs.DecodePair.{first-takes}
 
 onward-zero : (f : Found) → onward 0 f ≡ f
 onward-zero (At k) = ap At (zero-add k)

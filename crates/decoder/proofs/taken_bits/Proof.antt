@@ -1,8 +1,8 @@
--- `trellis::read::taken_bits` meets its contract, by whether the pair is one of the last two.
+-- `decoder::taken_bits` meets its contract, by whether the pair is one of the last two.
 use native.Mathlib.Omega.{arith}
 use borrow.Author.Needs.{needs}
-use Rattle.trellis.proofs.read.taken_bits.Statement.{statement}
-use Rattle.trellis.proofs.read.taken_bits.Tie as tie
+use Rattle.decoder.proofs.taken_bits.Statement.{statement}
+use Rattle.decoder.proofs.taken_bits.Tie as tie
 
 add-result : tie.Need-add-result
 add-result c = search needs

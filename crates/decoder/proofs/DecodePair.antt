@@ -14,9 +14,9 @@ use Rattle.g9932.specs.Trellis.{Word, taken, same, zeroState, implied, decodedW
 use Rattle.g9932.specs.declared.TrellisState.{TrellisState}
 use Rattle.g9932.proofs.Identities.{bits-agree}
 use Rattle.g9932.proofs.Words.{num-append, num-bits, num-lt, num-drop, length-bits, bits-num}
-use Rattle.trellis.specs.Reading.{decodedOf, wordBy, takenNumber, decodedIn}
-use Rattle.trellis.specs.declared.read.DecodedWord.{DecodedWord}
+use Rattle.decoder.specs.Reading.{decodedOf, wordBy, takenNumber, decodedIn}
+use Rattle.decoder.specs.declared.DecodedWord.{DecodedWord}
 use Rattle.trellis.proofs.Numbers.{lowest, bit-num}
 
 -- what the code has of a word
 pub record IsDecoded (u : Word) (r : DecodedWord) : Type 0 where

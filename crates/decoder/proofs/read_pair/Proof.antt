@@ -1,12 +1,12 @@
--- `trellis::read::read_pair` meets its contract: the word of the labels is held against the state, and its frame bits are put.
+-- `decoder::read_pair` meets its contract: the word of the labels is held against the state, and its frame bits are put.
 use mathlib.Core.Path.{_∙_}
 use lib.Pow.{pow-mono}
 use native.Mathlib.Omega.{arith}
 use native.Mathlib.Nat.{lt-of-lt-of-le}
-use Rattle.trellis.proofs.DecodePair.{decoded-high, decoded-pair}
+use Rattle.decoder.proofs.DecodePair.{decoded-high, decoded-pair}
 use borrow.Author.Needs.{needs}
-use Rattle.trellis.proofs.read.read_pair.Statement.{statement}
-use Rattle.trellis.proofs.read.read_pair.Tie as tie
+use Rattle.decoder.proofs.read_pair.Statement.{statement}
+use Rattle.decoder.proofs.read_pair.Tie as tie
 
 decode-word-requires : tie.Need-decode-word-requires
 decode-word-requires c κs =

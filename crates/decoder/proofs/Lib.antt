@@ -1,0 +1,3 @@
+pub mod DecodePair
+pub mod DecodeLoop
+pub mod DecodeAll
