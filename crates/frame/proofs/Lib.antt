@@ -2,3 +2,4 @@ pub mod Loads
 pub mod Frames
 pub mod Stores
 pub mod Labels
+pub mod Tables

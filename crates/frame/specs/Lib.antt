@@ -1,3 +1,4 @@
 pub mod Loads
+pub mod Masks
 pub mod Written
 pub mod Labels

@@ -1,5 +1,6 @@
 // Packed bits: the FRAME test, and bits got and put by words, lowest first.
 pub mod by_place;
+pub mod masks;
 
 ghost use mathlib.Core.Path.{_≡_};
 ghost use mathlib.Core.List.{[], _++_};

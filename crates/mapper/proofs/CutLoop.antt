@@ -1,13 +1,12 @@
 -- A frame cut into labels: those cut so far and the bits left are the bits from `start` on.
-use Prim.Native.Nat.{ℕ, _+_, _*_, _^_, _≤_, _<_}
-use native.Mathlib.Numerals.{add-one}
-use native.Mathlib.Omega.{arith}
 use mathlib.Core.Bool.{Bool}
 use mathlib.Core.List.{List, _++_, append-assoc, append-nil}
 use mathlib.Core.Path.{_≡_, refl, _∙_}
+use Prim.Native.Nat.{ℕ, _+_, _*_, _≤_, _<_}
 use lib.ListN.{length, take, drop, set, length-set, length-drop, drop-of-length-le}
-use lib.Pow.{pow-mono}
 use lib.Seq.{drop-cons, take-all, length-take-le, drop-drop, take-add}
+use native.Mathlib.Numerals.{add-one}
+use native.Mathlib.Omega.{arith}
 use Rattle.frame.proofs.Labels.{labels-set, within-set, length-at, at-set}
 use Rattle.frame.specs.Labels.{bitsOfLabels, Within, labelsAt}
 use Rattle.g9932.proofs.Packed.{length-unpack}
@@ -50,11 +49,6 @@ module _ {frame : List ℕ} {start : ℕ} {es ps ls₀ : List ℕ} (needs : CutN
 
     pub next-inside : at + entry es j ≤ 8 * length frame
     next-inside = omega (arith, g .left, sum-drop es j h, needs .bits)
-
-    pub next-small : num next < 32768
-    next-small =
-        let most : 2 ^ entry es j ≤ 2 ^ 15 = pow-mono {i = entry es j} {j = 15} (needs .counts j) in
-        omega (arith, num-take-lt (entry es j) (drop at (unpack frame)))
 
     pub place-inside : entry ps j < length ls
     place-inside = rw (g .labelsLength) (needs .places .below j (omega (arith, needs .same)))

@@ -6,17 +6,21 @@ ghost use lib.ListN.{length, take, drop};
 ghost use Rattle.mapper.specs.Writing.{CutNeeds, CutsLabels, splitOnes, FillerNeeds, SetsFiller, PutNeeds, PutsPoints};
 use frame::by_place::place_at;
 use frame::by_place::put_label;
+use frame::masks::lowest_by;
+use frame::masks::mask_table;
 
 // Cuts a frame's bits, from bit `start` on, into the labels of the entries, each at its place. Called by proved code only.
 pub fn cut_labels(frame: &[u8], start: usize, entries: &[u8], places: &[u16], labels: &mut [u16])
     requires { ⌜ CutNeeds (now frame) start (now entries) (now places) (now labels) ⌝ }
     ensures { λ _. ⌜ CutsLabels (now (frame .entry)) start (now (entries .entry)) (now (places .entry)) (now (labels .exit)) ⌝ }
 {
+    let masks = mask_table();
     let mut at = start;
     let mut j = 0;
     while j < entries.len() {
         let n = entries[j] as usize;
-        put_label(labels, place_at(places, j), frame::get(frame, at, n) as u16);
+        let label = lowest_by(&masks, n, frame::ahead(frame, at));
+        put_label(labels, place_at(places, j), label as u16);
         at += n;
         j += 1;
     }

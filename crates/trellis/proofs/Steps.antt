@@ -1,31 +1,19 @@
 -- The tables of the free pairs: what stands at an entry, and what a step's number holds.
-use mathlib.Core.Path.{_≡_, sym, ap, _∙_}
 use mathlib.Core.Bool.{Bool}
 use mathlib.Core.List.{List}
-use Prim.Native.Nat.{ℕ, zero, suc, _+_, _-_, _*_, _/_, _%_, _^_, _<_}
-use native.Mathlib.Nat.{lt-of-lt-of-le, mod-lt}
-use native.Mathlib.Omega.{arith}
+use mathlib.Core.Path.{_≡_, sym, ap, _∙_}
+use Prim.Native.Nat.{ℕ, _+_, _-_, _*_, _/_, _%_, _<_}
 use lib.ListN.{getD}
-use lib.Bits.{bitAnd, and-mask}
-use lib.Pow.{field, pow-pos, pow-mono}
+use lib.Pow.{field}
+use native.Mathlib.Omega.{arith}
+use Rattle.frame.proofs.Tables.{table-at}
+use Rattle.g9932.proofs.Words.{weight-le, odd-weight}
 use Rattle.g9932.specs.Bits.{weight, odd}
 use Rattle.g9932.specs.Trellis.{lowBits, nextState}
 use Rattle.g9932.specs.declared.LowBits.{LowBits}
 use Rattle.g9932.specs.declared.TrellisState.{TrellisState}
-use Rattle.g9932.proofs.Words.{weight-le, odd-weight}
-use Rattle.trellis.specs.Steps.{stateNumber, stateAt, lowNumber, stepNumber, valuesFrom, stepAt, stepList, maskList, coderAt}
+use Rattle.trellis.specs.Steps.{stateNumber, stateAt, lowNumber, stepNumber, stepAt, stepList, coderAt}
 use Rattle.trellis.specs.declared.Coder.{Coder}
-
--- ---- an entry of a table
-
-values-at : (f : ℕ → ℕ) (k n j : ℕ) → j < n → getD (valuesFrom f k n) j 0 ≡ f (k + j)
-unfolding valuesFrom
-values-at f k zero j h = absurd (omega arith)
-values-at f k (suc n) zero h = ap f (let e : k ≡ k + 0 = omega arith in e)
-values-at f k (suc n) (suc j) h = values-at f (suc k) n j (omega arith) ∙ ap f (let e : suc k + j ≡ k + suc j = omega arith in e)
-
-table-at : (f : ℕ → ℕ) (n j : ℕ) → j < n → getD (valuesFrom f 0 n) j 0 ≡ f j
-table-at f n j h = values-at f 0 n j h ∙ ap f (let e : 0 + j ≡ j = omega arith in e)
 
 -- numbers with the same three lowest bits
 module _ (a b : ℕ) (h : a % 8 ≡ b % 8) where
@@ -52,10 +40,6 @@ step-at state word h =
     let s : k / 8 ≡ state = omega arith in
     let e : k % 8 ≡ word % 8 = omega arith in
     table-at stepAt 128 k (omega arith) ∙ rw (s, same-odd k word e, same-half k word e, same-quarter k word e)
-
-mask-at : (k : ℕ) → k < 14 → getD maskList k 0 ≡ 2 ^ k - 1
-unfolding maskList
-mask-at k h = table-at (λ j. 2 ^ j - 1) 14 k h
 
 -- ---- a state's number
 
@@ -116,9 +100,3 @@ pub step-found : (steps : List ℕ) (state word : ℕ) → steps ≡ stepList �
 step-found steps state word hs h =
     let e = rw (← hs) at (step-at state word h) in
     (e, step-lt (stateAt state) (odd word) (odd (word / 2)) (odd (word / 4)) _ e)
-
-pub mask-found : (masks : List ℕ) (k word : ℕ) → masks ≡ maskList → k < 14
-    → (bitAnd word (getD masks k 0) ≡ word % 2 ^ k) × (bitAnd word (getD masks k 0) < 8192)
-mask-found masks k word hm h =
-    let e : bitAnd word (getD masks k 0) ≡ word % 2 ^ k = rw (hm, mask-at k h) (and-mask word k) in
-    (e, rw e (lt-of-lt-of-le (mod-lt word (pow-pos k)) (pow-mono {j = 13} (omega arith))))

@@ -1,8 +1,9 @@
 -- The free pairs: the state as a number, and the table of the encoder's steps.
-use Prim.Native.Nat.{ℕ, zero, suc, _+_, _-_, _*_, _/_, _%_, _^_, _<_}
 use mathlib.Core.Bool.{Bool, false}
-use mathlib.Core.List.{List, [], _∷_}
+use mathlib.Core.List.{List}
 use mathlib.Core.Path.{_≡_}
+use Prim.Native.Nat.{ℕ, _+_, _-_, _*_, _/_, _%_, _<_}
+use Rattle.frame.specs.Masks.{valuesFrom}
 use Rattle.g9932.specs.Bits.{weight, odd}
 use Rattle.g9932.specs.Order.{pair}
 use Rattle.g9932.specs.Trellis.{lowBits, nextState}
@@ -27,21 +28,12 @@ lowNumber low = weight (low .v0) + 2 * weight (low .v1) + 4 * weight (low .w0) +
 unfoldable pub stepNumber : TrellisState → Bool → Bool → Bool → ℕ
 stepNumber s u1 u2 u3 = lowNumber (lowBits (s .s0) u1 u2 u3) + 16 * stateNumber (nextState s u1 u2)
 
--- f k, f (k + 1) and so on, n of them
-unfoldable pub valuesFrom : (ℕ → ℕ) → ℕ → ℕ → List ℕ
-valuesFrom f k zero = []
-valuesFrom f k (suc n) = f k ∷ valuesFrom f (suc k) n
-
 -- the table of steps: at 8 times a state, with u1 + 2 u2 + 4 u3, stands its step
 unfoldable pub stepAt : ℕ → ℕ
 stepAt k = stepNumber (stateAt (k / 8)) (odd k) (odd (k / 2)) (odd (k / 4))
 
 unfoldable pub stepList : List ℕ
 stepList = valuesFrom stepAt 0 128
-
--- the table of masks: k ones at k
-unfoldable pub maskList : List ℕ
-maskList = valuesFrom (λ k. 2 ^ k - 1) 0 14
 
 -- the coder whose state has a number
 abbrev pub coderAt : ℕ → ℕ → Coder

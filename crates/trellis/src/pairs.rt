@@ -5,12 +5,13 @@ ghost use mathlib.Core.Bool.{true, false};
 ghost use Prim.Native.Nat.{_+_, _-_, _*_, _/_, _%_, _^_, _≤_, _<_};
 ghost use lib.ListN.{length, set};
 ghost use Rattle.frame.specs.Labels.{labelsAt, Rising, Placed};
+ghost use Rattle.frame.specs.Masks.{maskList};
 ghost use Rattle.g9932.specs.Bits.{_⊕_, odd};
 ghost use Rattle.g9932.specs.Order.{pair};
 ghost use Rattle.g9932.specs.Sizes.{mostTones};
 ghost use Rattle.g9932.specs.Trellis.{lowBits, nextState};
 ghost use Rattle.trellis.specs.Coding.{CodePairNeeds, CodesPair, CodeNeeds, CodesFrom, Wide};
-ghost use Rattle.trellis.specs.Steps.{stateNumber, stateAt, stepNumber, stepList, maskList, coderAt, StepsBy, CodesFreePair};
+ghost use Rattle.trellis.specs.Steps.{stateNumber, stateAt, stepNumber, stepList, coderAt, StepsBy, CodesFreePair};
 use super::Coder;
 use super::PairCode;
 use super::entry;
@@ -18,6 +19,8 @@ use super::label;
 use super::power;
 use super::put_entry;
 use super::weight;
+use frame::masks::lowest_by;
+use frame::masks::mask_table;
 use g9932::Stepped;
 use g9932::TrellisState;
 
@@ -44,28 +47,6 @@ fn step_table() -> [u8; 128]
       \xa0\xba\x8c\x96\xaf\xb5\x83\x99\
       \xe8\xf2\xc4\xde\xe7\xfd\xcb\xd1\
     "
-}
-
-// A mask of k ones at k. A shift by a count that varies takes longer than a look-up.
-fn mask_table() -> [u64; 14]
-    ensures { λ r. ⌜ r ≡ maskList ⌝ }
-{
-    [
-        0,
-        1,
-        3,
-        7,
-        15,
-        31,
-        63,
-        127,
-        255,
-        511,
-        1023,
-        2047,
-        4095,
-        8191,
-    ]
 }
 
 // A state of the encoder as one number: S0 + 2 S1 + 4 S2 + 8 S3.
@@ -112,14 +93,6 @@ fn state_of(k: usize) -> TrellisState
     }
 }
 
-// The k lowest bits of a word.
-fn lowest_by(masks: &[u64; 14], k: usize, word: u64) -> u32
-    requires { ⌜ (now masks ≡ maskList) × (k < 14) ⌝ }
-    ensures { λ r. ⌜ (r ≡ word % 2 ^ k) × (r < 8192) ⌝ }
-{
-    (word & masks[k]) as u32
-}
-
 // A free pair coded: its labels, and the state after it.
 pub struct FreePair {
     pub v: u32,
@@ -135,7 +108,7 @@ fn code_free_pair(
     x: usize,
     y: usize,
     steps: &[u8; 128],
-    masks: &[u64; 14],
+    masks: &[u64; 16],
 ) -> FreePair
     requires { ⌜ (now steps ≡ stepList) × (now masks ≡ maskList) × (state .0 < 16) × (2 ≤ x) × (x ≤ 15) × (2 ≤ y) × (y ≤ 15) × CodePairNeeds (coderAt (state .0) at) false (pair x y) (now frame) ⌝ }
     ensures { λ r. ⌜ CodesFreePair (state .0) at x y (now (frame .entry)) r ⌝ }

@@ -1,5 +1,6 @@
 -- `trellis::pairs::step_table` meets its contract: the steps of all states, computed.
-use Rattle.trellis.specs.Steps.{stateNumber, stateAt, lowNumber, stepNumber, valuesFrom, stepAt, stepList}
+use Rattle.frame.specs.Masks.{valuesFrom}
+use Rattle.trellis.specs.Steps.{stateNumber, stateAt, lowNumber, stepNumber, stepAt, stepList}
 use Rattle.g9932.specs.Bits.{weight, odd}
 use mathlib.Core.Path.{refl}
 use Rattle.trellis.proofs.pairs.step_table.Statement.{statement}

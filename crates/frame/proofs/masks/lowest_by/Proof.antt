@@ -1,9 +1,9 @@
--- `trellis::pairs::lowest_by` meets its contract: a mask of k ones is the remainder by 2 to the k.
-use Rattle.trellis.proofs.Steps.{mask-found}
+-- `frame::masks::lowest_by` meets its contract: a mask of k ones is the remainder by 2 to the k.
+use Rattle.frame.proofs.Tables.{mask-found}
 use native.Mathlib.Omega.{arith}
 use borrow.Author.Needs.{needs}
-use Rattle.trellis.proofs.pairs.lowest_by.Statement.{statement}
-use Rattle.trellis.proofs.pairs.lowest_by.Tie as tie
+use Rattle.frame.proofs.masks.lowest_by.Statement.{statement}
+use Rattle.frame.proofs.masks.lowest_by.Tie as tie
 
 mul-result : tie.Need-mul-result
 mul-result c = search needs
