@@ -1,14 +1,14 @@
 -- Filing tone by tone: what a tone adds to the lists, and what a shared entry adds.
-use Prim.Native.Nat.{ℕ, zero, suc, _+_, _*_, _≤_, _<_}
 use mathlib.Core.Bool.{Bool, true, false, cond}
 use mathlib.Core.List.{List, [], _∷_, _++_, map, map-append, append-nil, append-assoc}
 use mathlib.Core.Path.{_≡_, refl, sym, ap, _∙_}
-use native.Mathlib.Numerals.{add-one}
-use native.Mathlib.Omega.{arith}
-use borrow.Author.Tests.{lt-ltb, ltb-true, ltb-false}
+use Prim.Native.Nat.{ℕ, zero, suc, _+_, _*_, _≤_, _<_}
 use lib.Dec.{ltb, leb}
 use lib.ListN.{length, take, set, replicate, length-set, length-append, length-map}
 use lib.Seq.{take-suc, take-suc-set}
+use borrow.Author.Tests.{ltb-true, ltb-false}
+use native.Mathlib.Numerals.{add-one}
+use native.Mathlib.Omega.{arith}
 use Rattle.constellation.specs.Layouts.{classLayout}
 use Rattle.g9932.proofs.Counts.{filter-append}
 use Rattle.g9932.proofs.Words.{weight-le}
@@ -16,8 +16,8 @@ use Rattle.g9932.specs.Bits.{weight}
 use Rattle.g9932.specs.Order.{consIf, filter}
 use Rattle.g9932.specs.Sizes.{entry, toneOf, classBy}
 use Rattle.g9932.specs.Symbol.{load, isMonitored}
-use Rattle.g9932.specs.declared.Class.{Class}
 use Rattle.g9932.specs.declared.Class.the-variants.{Data, Monitored, Silent}
+use Rattle.g9932.specs.declared.Class.{Class}
 use Rattle.plan.specs.Plan.{Carries, classesBy, isPlaced, only, placesWhere, everySecond, FilesTone, Filing, Shares}
 use Rattle.plan.specs.declared.filing.Cursors.{Cursors}
 
@@ -37,9 +37,6 @@ load-class b g = go (ltb 0 b) (ltb 0 g) refl
     go true q e = refl
     go false true e = omega (arith, ltb-false 0 b e)
     go false false e = omega (arith, ltb-false 0 b e)
-
-pub data-class : (b g : ℕ) → 1 ≤ b → toneOf b g .class ≡ Data b
-data-class b g h = rw (lt-ltb 0 b h)
 
 -- ---- lists in two parts
 

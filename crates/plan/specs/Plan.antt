@@ -121,9 +121,9 @@ only p [] = []
 only p (a ∷ l) = cond (p a) (a ∷ only p l) (only p l)
 
 -- what filing one tone asks: the lists have room for it
-pub record ToneNeeds (b least : ℕ) (at : Cursors) (layouts entries places monitored : List ℕ) : Type 0 where
+pub record ToneNeeds (c : Class) (least : ℕ) (at : Cursors) (layouts entries places monitored : List ℕ) : Type 0 where
   pub arrays : Arrays layouts entries places monitored
-  pub bitsMost : b ≤ 15
+  pub carries : Carries c
   pub leastIs : 1 ≤ least
   pub placeMost : at .place < mostTones
   pub entryMost : at .entry ≤ at .place

@@ -1,10 +1,10 @@
 // Filing the tones of t by place and by entry. Called by proved code only.
 ghost use mathlib.Core.Path.{_≡_};
-ghost use Rattle.g9932.specs.Sizes.{toneOf};
 ghost use Rattle.constellation.specs.Layouts.{layoutList};
 ghost use Rattle.plan.specs.Plan.{classesBy, isPlaced, only, ToneNeeds, FilesTone, Filing, FileNeeds, ShareNeeds, Shares};
 use g9932::Class;
 use g9932::Place;
+use g9932::Tone;
 
 // Where the next tone goes in each list.
 pub struct Cursors {
@@ -13,11 +13,10 @@ pub struct Cursors {
     pub monitored: usize,
 }
 
-// Files one tone. From `least` bits on it has a place and an entry of its own; with fewer it shares, and is left out here; without
-// data it has a place, and in the list of monitored places that place if it is monitored.
+// Files one tone by its class. With data of `least` bits or more it has a place and an entry of its own; with fewer it shares, and is left
+// out here; without data it has a place, which is listed if it is monitored.
 fn file_tone(
-    bits: u8,
-    gain: u16,
+    tone: Tone,
     least: u8,
     at: Cursors,
     table: &[u16; 16],
@@ -26,27 +25,28 @@ fn file_tone(
     places: &mut [u16],
     monitored: &mut [u16],
 ) -> Cursors
-    requires { ⌜ ToneNeeds bits least at (now layouts) (now entries) (now places) (now monitored) × (now table ≡ layoutList) ⌝ }
-    ensures { λ r. ⌜ FilesTone least (toneOf bits gain .class) at (now (layouts .entry)) (now (entries .entry)) (now (places .entry)) (now (monitored .entry)) r (now (layouts .exit)) (now (entries .exit)) (now (places .exit)) (now (monitored .exit)) ⌝ }
+    requires { ⌜ ToneNeeds (tone .class) least at (now layouts) (now entries) (now places) (now monitored) × (now table ≡ layoutList) ⌝ }
+    ensures { λ r. ⌜ FilesTone least (tone .class) at (now (layouts .entry)) (now (entries .entry)) (now (places .entry)) (now (monitored .entry)) r (now (layouts .exit)) (now (entries .exit)) (now (places .exit)) (now (monitored .exit)) ⌝ }
 {
     let place = at.place;
     let entry = at.entry;
     let next = at.monitored;
-    if least <= bits {
-        let b = bits as usize;
-        layouts[place] = table[b];
-        entries[entry] = bits;
-        places[entry] = place as u16;
-        return Cursors {
-            place: place + 1,
-            entry: entry + 1,
-            monitored: next,
-        };
-    }
-    let tone = tables::tone_of(bits, gain);
     let class = tone.class;
     match class {
-        Class::Data(_) => at,
+        Class::Data(bits) => {
+            if bits < least {
+                return at;
+            }
+            let b = bits as usize;
+            layouts[place] = table[b];
+            entries[entry] = bits;
+            places[entry] = place as u16;
+            Cursors {
+                place: place + 1,
+                entry: entry + 1,
+                monitored: next,
+            }
+        }
         Class::Monitored => {
             layouts[place] = table[2];
             monitored[next] = place as u16;
@@ -92,17 +92,8 @@ pub fn file_tones(
         let k = tables::tone_at(tones, Place(i));
         let b = tables::bits_of(bits, k);
         let gain = tables::gain_of(gains, k);
-        at = file_tone(
-            b,
-            gain,
-            least,
-            at,
-            table,
-            layouts,
-            entries,
-            places,
-            monitored,
-        );
+        let tone = tables::tone_of(b, gain);
+        at = file_tone(tone, least, at, table, layouts, entries, places, monitored);
         i += 1;
     }
     at

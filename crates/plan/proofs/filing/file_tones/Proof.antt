@@ -6,9 +6,9 @@ use Prim.Native.Nat.{_-_, _≤_}
 use lib.ListN.{length, take}
 use lib.Seq.{take-all}
 use native.Mathlib.Omega.{arith}
-use Rattle.g9932.specs.declared.Class.{Class}
 use Rattle.g9932.specs.Sizes.{toneOf, entry}
-use Rattle.plan.proofs.Steps.{tone-more, one-place, classes-more}
+use Rattle.g9932.specs.declared.Class.{Class}
+use Rattle.plan.proofs.Steps.{carried, tone-more, one-place, classes-more}
 use Rattle.plan.specs.Plan.{Arrays, Filing, classesBy, isPlaced, only}
 use borrow.Author.Needs.{needs}
 use Rattle.plan.proofs.filing.file_tones.Statement.{statement}
@@ -40,13 +40,16 @@ gain-of-requires c κs =
     let s = c .before .before .before .before .before .before .before .before .before .before .before in
     rw (c .before .tone-at .ensures, s .pre .0 .gains) (s .pre .0 .below (c .before .before .before .loop .i) (omega arith))
 
+tone-of-requires : tie.Need-tone-of-requires Inv-loop μ-loop
+tone-of-requires c κs = search needs
+
 file-tone-requires : tie.Need-file-tone-requires Inv-loop μ-loop
 file-tone-requires c κs =
-    let s = c .before .before .before .before .before .before .before .before .before .before .before .before .before .before .before .before in
-    let l = c .before .before .before .before .before .before .before .before .loop in (
+    let s = c .before .before .before .before .before .before .before .before .before .before .before .before .before .before .before .before .before in
+    let l = c .before .before .before .before .before .before .before .before .before .loop in (
       record {
         arrays = l .inv .2;
-        bitsMost = rw (c .before .before .before .before .before .bits-of .ensures) (s .pre .0 .bitsMost _);
+        carries = rw (c .before .before .before .before .tone-of .ensures) (carried (c .before .before .before .before .before .before .bits-of .result) (c .before .before .before .before .before .gain-of .result) (rw (c .before .before .before .before .before .before .bits-of .ensures) (s .pre .0 .bitsMost _)));
         leastIs = s .pre .0 .leastIs;
         placeMost = omega (arith, l .inv .0, s .pre .0 .most);
         entryMost = l .inv .3 .entryMost;
@@ -56,30 +59,29 @@ file-tone-requires c κs =
     )
 
 add-i : tie.Need-add-i Inv-loop μ-loop
-add-i c = omega (arith, c .before .before .before .before .before .before .before .before .before .before .before .before .before .before .before .before .before .before .before .before .before .before .before .before .before .pre .0 .most)
+add-i c = omega (arith, c .before .before .before .before .before .before .before .before .before .before .before .before .before .before .before .before .before .before .before .before .before .before .before .before .before .before .pre .0 .most)
 
 loop-less : tie.Need-loop-less Inv-loop μ-loop
 loop-less c = omega arith
 
 loop-again : tie.Need-loop-again Inv-loop μ-loop
 loop-again c =
-    let s = c .before .before .before .before .before .before .before .before .before .before .before .before .before .before .before .before .before .before .before .before .before .before .before .before .before in
+    let s = c .before .before .before .before .before .before .before .before .before .before .before .before .before .before .before .before .before .before .before .before .before .before .before .before .before .before in
     let a = s .args in
-    let l = c .before .before .before .before .before .before .before .before .before .before .before .before .before .before .before .before .before .loop in
+    let l = c .before .before .before .before .before .before .before .before .before .before .before .before .before .before .before .before .before .before .loop in
     let f = c .before .before .before .before .before .before .before .before .file-tone in
-    let k = c .before .before .before .before .before .before .before .before .before .before .before .before .before .before .before .tone-at in
-    let i = c .before .before .before .before .before .before .before .before .before .before .before .before .before .before .before .before .loop-test .taken in
+    let i = c .before .before .before .before .before .before .before .before .before .before .before .before .before .before .before .before .before .loop-test .taken in
     let cs : List Class = only (isPlaced (a .least)) (classesBy (a .bits .now) (a .gains .now) (take (l .i) (a .tones .now))) in
     let n = entry (a .tones .now) (l .i) in
-    let w = rw (c .before .before .before .before .before .before .before .before .before .before .before .before .before .before .bits-of .ensures, c .before .before .before .before .before .before .before .before .before .before .before .before .before .gain-of .ensures, k .ensures) at (f .ensures) in
+    let w = rw (c .before .before .before .before .before .before .before .before .before .before .before .before .before .tone-of .ensures, c .before .before .before .before .before .before .before .before .before .before .before .before .before .before .before .bits-of .ensures, c .before .before .before .before .before .before .before .before .before .before .before .before .before .before .gain-of .ensures, c .before .before .before .before .before .before .before .before .before .before .before .before .before .before .before .before .tone-at .ensures) at (f .ensures) in
     let t : Class = toneOf (entry (a .bits .now) n) (entry (a .gains .now) n) .class in
     let g = tone-more (a .least) cs t (l .inv .3) w in
     let arrays : Arrays _ _ _ _ =
     record {
-      layoutsLength = f .kept .1 .1 .1 .1 .1 .0 ∙ l .inv .2 .layoutsLength;
-      entriesLength = f .kept .1 .1 .1 .1 .1 .1 .0 ∙ l .inv .2 .entriesLength;
-      placesLength = f .kept .1 .1 .1 .1 .1 .1 .1 .0 ∙ l .inv .2 .placesLength;
-      monitoredLength = f .kept .1 .1 .1 .1 .1 .1 .1 .1 .0 ∙ l .inv .2 .monitoredLength;
+      layoutsLength = f .kept .1 .1 .1 .1 .0 ∙ l .inv .2 .layoutsLength;
+      entriesLength = f .kept .1 .1 .1 .1 .1 .0 ∙ l .inv .2 .entriesLength;
+      placesLength = f .kept .1 .1 .1 .1 .1 .1 .0 ∙ l .inv .2 .placesLength;
+      monitoredLength = f .kept .1 .1 .1 .1 .1 .1 .1 .0 ∙ l .inv .2 .monitoredLength;
     } in
     (omega (arith, l .inv .0, one-place (a .least) cs t (l .inv .3) w), omega (arith, i), arrays, rw (classes-more (a .least) (a .bits .now) (a .gains .now) (a .tones .now) (l .i) (omega (arith, i))) g)
 
@@ -111,6 +113,7 @@ file-tones-spec =
     tone-at-requires
     bits-of-requires
     gain-of-requires
+    tone-of-requires
     file-tone-requires
     add-i
     loop-less
