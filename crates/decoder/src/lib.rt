@@ -1,4 +1,5 @@
-// The trellis code undone: labels back to a frame's bits. Each pair is held against the code, and its frame bits are put together.
+// The trellis code undone: labels back to a frame's bits. Each pair is held against the code, and its frame
+// bits are put together. Proved code alone calls what has a `requires`.
 ghost use mathlib.Core.Path.{_≡_};
 ghost use mathlib.Core.Bool.{false};
 ghost use Prim.Native.Nat.{_+_, _-_, _*_, _^_, _≤_, _<_};
@@ -159,7 +160,7 @@ pub struct PairsRead {
     pub writer: BitWriter,
 }
 
-// Reads the pairs of the entries from `from` on. Entry i is of pair (i + 1) / 2.
+// Reads the pairs of the entries from `from` on. The pair that begins at entry i is pair (i + 1) / 2.
 fn read_from(
     c: Reader,
     labels: &[u16],

@@ -17,6 +17,7 @@ use Rattle.g9932.specs.Points.{pointOf, negated}
 use Rattle.g9932.specs.Filler.{nextRegister, drawn, registerAfter}
 use Rattle.g9932.specs.Symbol.{orderOf, bitsIn, classesOf, pairsIn, sizeOf, sentIn, writtenPoints, firstMonitored}
 use Rattle.g9932.specs.Answers.{reorderOf, encodeOf, Read, readOf, toneDone, mapLabel, readPoint}
+use Rattle.g9932.specs.Figures.{MarkedFigures}
 use Rattle.g9932.specs.declared.Found.the-variants.{At, Nothing}
 use Rattle.g9932.specs.declared.Mode.the-variants.{Uncoded, Coded}
 use Rattle.g9932.proofs.Figures as Figures
@@ -124,11 +125,13 @@ module _ (T : Tables) (ok : AcceptedTables T) where
   pub bits-sent : (f : List ℕ) → AcceptedFrame T f → length (sentIn T f) ≡ sum (bitsOf (T .bits) (orderOf T))
   bits-sent = Totals.bits-sent T ok
 
+  -- ---- re-ordering
+
   -- t' is a re-arrangement of t
   pub rearranged : (k : ℕ) → count (eqb k) (orderOf T) ≡ count (eqb k) (T .tones)
   rearranged k = Reordering.count-order (T .bits) (T .tones) (T .mode) (eqb k)
 
-  -- 1-bit tones stay in t order among themselves, and so do the others; coded, no 1-bit tone stands before another tone
+  -- 1-bit tones stay in t order among themselves, and so do the others; coded, the 1-bit tones have the last places
   pub singles-in-order : filter (oneBit (T .bits)) (orderOf T) ≡ filter (oneBit (T .bits)) (T .tones)
   singles-in-order = Reordering.singles-kept (T .bits) (T .tones) (T .mode)
 
@@ -235,7 +238,7 @@ filler-valid = Totals.filler-valid
 pub symbol-valid : (T : Tables) (r : ℕ) → ValidRegister r → ValidRegister (registerAfter r (classesOf T))
 symbol-valid = Totals.symbol-valid
 
--- ---- the marked bench figures, as one claim
+-- ---- the marked bench figures, as one claim (g9932/specs/Figures)
 
-pub marked-figures : Figures.MarkedFigures
+pub marked-figures : MarkedFigures
 marked-figures = Figures.marked-figures

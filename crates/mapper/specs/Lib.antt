@@ -1,3 +1,3 @@
--- What the passes ask and do: frame to labels to points, and back.
+-- What the loops ask and do: frame to labels to points, and back.
 pub mod Writing
 pub mod Reading

@@ -9,7 +9,7 @@ use Rattle.frame.specs.Labels.{bitsOfLabels, Within, labelsAt, Rising}
 use Rattle.g9932.specs.Bits.{num}
 use Rattle.g9932.specs.Filler.{drawn, afterDraws}
 use Rattle.g9932.specs.Order.{sum}
-use Rattle.g9932.specs.Sizes.{entry, unpack, point, mostBytes}
+use Rattle.g9932.specs.Sizes.{entry, unpack, point, mostHeld}
 
 -- ---- a frame cut into labels
 
@@ -18,7 +18,7 @@ pub record CutNeeds (frame : List ℕ) (start : ℕ) (es ps labels : List ℕ) :
   pub counts : (k : ℕ) → entry es k ≤ 15
   pub places : Rising ps (length labels)
   pub bits : start + sum es ≤ 8 * length frame
-  pub small : length frame ≤ (mostBytes + 8)
+  pub small : length frame ≤ mostHeld
 
 pub record CutsLabels (frame : List ℕ) (start : ℕ) (es ps after : List ℕ) : Type 0 where
   pub whole : bitsOfLabels es (labelsAt ps after) ≡ take (sum es) (drop start (unpack frame))

@@ -1,4 +1,4 @@
-// The passes over a symbol's tones, by its plan. Everything meets at the labels by place in t': `write` makes them from a frame and
+// The loops over a symbol's tones, by its plan. Everything meets at the labels by place in t': `write` makes them from a frame and
 // points from them, `read` makes them from points and a frame from them. Where the trellis code is used, it stands between the frame
 // and the labels.
 pub mod read;

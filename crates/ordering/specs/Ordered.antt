@@ -20,7 +20,7 @@ pub record Written (m : Mode) (b t ts bs : List ℕ) : Type 0 where
   pub tones : take (length t) ts ≡ reorderedTones m b t
   pub bits : take (length t) bs ≡ reorderedBits m b t
 
--- what writing t' and b' asks: an even number of 1-bit tones, and where the entries of b' begin
+-- what writing t' and b' asks, coded: an even number of 1-bit tones, and where the entries of b' begin
 pub record CodedNeeds (b t : List ℕ) (one zeros : ℕ) : Type 0 where
   pub onesIs : one ≡ ones b t
   pub even : ones b t % 2 ≡ 0

@@ -122,7 +122,8 @@ fn write_coded(
     fill(reordered_bits, tones.len() - half, half, 2);
 }
 
-// Writes t' and b', whose entries are 0 but for the last `entries`; of the tones `sharers` share one with another.
+// Writes t' and b'. Coded, b' is 0 but for its last `entries`, and `sharers` of the tones share one with another; uncoded neither
+// number is needed.
 pub fn write_order(
     mode: Mode,
     entries: usize,

@@ -12,7 +12,7 @@ use Rattle.g9932.specs.Bits.{first}
 use Rattle.g9932.specs.Filler.{registerAfter}
 use Rattle.g9932.specs.Order.{pairsOf, sum}
 use Rattle.g9932.specs.Refusals.{Verdict, refused, refuseAt, numberOf, placeOf}
-use Rattle.g9932.specs.Sizes.{Tables, entry, Point, points, bytesFor, pack, mostTones, mostHeld}
+use Rattle.g9932.specs.Sizes.{Tables, entry, Point, points, bytesFor, pack, mostTones, mostBits, mostHeld}
 use Rattle.g9932.specs.Symbol.{load, classesOf, sizeOf, offgridTest, monitorTest, gatherBits, readingIn}
 use Rattle.g9932.specs.Trellis.{Reading, frame, zeroState, readPairs, takenTotal}
 use Rattle.g9932.specs.declared.Answer.{Answer}
@@ -46,7 +46,7 @@ pub record PlacesOf (cs : List Class) (from : ℕ) (es ps ms layouts labels : Li
 abbrev pub ReadPlacesNeeds : List ℕ → List ℕ → List ℕ → List ℤ → List ℤ → Type 0
 ReadPlacesNeeds ms layouts labels xs ys = (cs : List Class) × (from : ℕ) × (es : List ℕ) × (ps : List ℕ) × PlacesOf cs from es ps ms layouts labels xs ys
 
--- labels by place: those of the tones' bits, none larger than its tone allows
+-- labels by place: those of the tones' bits, none larger than the bits of its tone allow where it has data
 pub record ToneLabels (cs : List Class) (d : List Bool) (labels : List ℕ) : Type 0 where
   pub bitsAre : bitsOfLabels (map load cs) labels ≡ d
   pub small : (k : ℕ) → k < length cs → 1 ≤ entry (map load cs) k → entry labels k < 2 ^ entry (map load cs) k
@@ -110,7 +110,7 @@ pub record ReadOf (T : Tables) (m : Mode) (from size : ℕ) (es ps ms layouts : 
   pub heldLength : length held ≡ mostHeld
   pub sizeIs : size ≡ sizeOf T
   pub frameLength : length f ≡ bytesFor (sizeOf T)
-  pub sizeMost : sizeOf T ≤ 61_440
+  pub sizeMost : sizeOf T ≤ mostBits
   pub readings : (q : List Point) → readingBy m es (gatherBits (classesOf T) q) ≡ readingIn T q
   pub whole : (q : List Point) → first (offgridTest (classesOf T) q) (length (T .tones)) ≡ Nothing → length q ≡ length (classesOf T)
       → breakIn (readingIn T q) ≡ Nothing → length (frameIn (readingIn T q)) ≡ sizeOf T

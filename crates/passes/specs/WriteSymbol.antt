@@ -1,4 +1,4 @@
--- A frame to labels by entry, and these to points.
+-- A frame to labels by place, and these to points.
 use Prim.Native.Nat.{ℕ}
 use mathlib.Core.Bool.{Bool}
 use mathlib.Core.List.{List, map}

@@ -11,7 +11,7 @@ ghost use Rattle.g9932.specs.Sizes.{entry, toneOf};
 ghost use Rattle.tables.specs.Counted.{CountsAre, Medley};
 
 pub mod lists; // refusals 1 to 6
-pub mod sizes; // refusals 7 to 9 and L
+pub mod sizes; // refusals 1 to 9 and L
 
 // The sub-carrier at a place of a tone table; 0 past its end.
 pub fn tone_at(tones: &[u16], p: Place) -> Subcarrier

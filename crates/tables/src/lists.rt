@@ -1,5 +1,5 @@
 // Refusals 1 to 6: the sizes, the tone table, and the bit and gain tables by index.
-// All but `check_lists` are called by this crate's proved code only, which shows what a `requires` asks.
+// Only this crate's proved code calls these functions, and shows what a `requires` asks; `check_lists` has none.
 use super::bits_at;
 use super::gain_at;
 use super::one_if;

@@ -1,4 +1,4 @@
-// Refusals 7 to 9, which depend on the mode, and the frame size L.
+// Refusals 1 to 9 and the frame size L: after those of the lists, the ones that depend on the mode.
 use super::count_tones;
 use super::lists::check_lists;
 use g9932::Checked;
@@ -19,7 +19,7 @@ pub enum Sized {
     Refused(Refusal),
 }
 
-// Refusals 7 and 8, and L. Re-ordering leaves no entry of 1, so that 9 never applies (proofs/Pairs). Its caller shows that refusals 1 to
+// Refusals 7 and 8, and L. Re-ordering leaves no entry of 1, so that 9 never applies (this crate's proofs/Pairs). Its caller shows that refusals 1 to
 // 6 do not apply.
 fn size_frame(mode: Mode, bits: &[u8], tones: &[u16]) -> Sized
     requires { ⌜ Medley (now bits) (now tones) ⌝ }

@@ -1,4 +1,4 @@
--- Coding: a pair's word as numbers, and what the coder asks and does.
+-- Coding: a label as a number, and what the coder asks and does.
 use Prim.Native.Nat.{ℕ, _+_, _-_, _*_, _%_, _^_, _≤_, _<_}
 use mathlib.Core.Bool.{Bool}
 use mathlib.Core.List.{List, _++_}

@@ -1,5 +1,5 @@
 // The pairs of two entries: the free pairs, then the last two, whose u1 and u2 are forced. The free pairs are nearly all, so there the
-// state is one number, and one look-up takes a step.
+// state is one number, and one look-up takes a step. Only this crate's proved code calls these functions.
 ghost use mathlib.Core.Path.{_≡_};
 ghost use mathlib.Core.Bool.{true, false};
 ghost use Prim.Native.Nat.{_+_, _-_, _*_, _/_, _%_, _^_, _≤_, _<_};
@@ -171,7 +171,7 @@ fn code_forced_pair(c: Coder, frame: &[u8], x: usize, y: usize) -> PairCode
 
 // Codes the pairs of the entries from `from` on, which are the last two or fewer.
 fn code_forced_pairs(
-    state: usize,
+    state: StateNumber,
     at: usize,
     frame: &[u8],
     entries: &[u8],
@@ -179,11 +179,11 @@ fn code_forced_pairs(
     from: usize,
     labels: &mut [u16],
 )
-    requires { ⌜ Wide (now entries) × (length (now entries) ≤ mostTones) × (length (now entries) ≤ from + 5) × Placed (now entries) (now places) (now labels) × CodeNeeds (coderAt state at) (now entries) from (now frame) (labelsAt (now places) (now labels)) ⌝ }
-    ensures { λ _. ⌜ CodesFrom (coderAt state at) (now (entries .entry)) from (now (frame .entry)) (labelsAt (now (places .entry)) (now (labels .entry))) (labelsAt (now (places .entry)) (now (labels .exit))) ⌝ }
+    requires { ⌜ Wide (now entries) × (length (now entries) ≤ mostTones) × (length (now entries) ≤ from + 5) × Placed (now entries) (now places) (now labels) × CodeNeeds (coderAt (state .0) at) (now entries) from (now frame) (labelsAt (now places) (now labels)) ⌝ }
+    ensures { λ _. ⌜ CodesFrom (coderAt (state .0) at) (now (entries .entry)) from (now (frame .entry)) (labelsAt (now (places .entry)) (now (labels .entry))) (labelsAt (now (places .entry)) (now (labels .exit))) ⌝ }
 {
     let mut k = Coder {
-        state: state_of(state),
+        state: state_of(state.0),
         at,
     };
     let mut i = from;
@@ -221,5 +221,5 @@ pub fn code_from(
         at += x + y - 1;
         i += 2;
     }
-    code_forced_pairs(state.0, at, frame, entries, places, i, labels);
+    code_forced_pairs(state, at, frame, entries, places, i, labels);
 }

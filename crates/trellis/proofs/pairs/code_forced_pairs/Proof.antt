@@ -14,11 +14,11 @@ use Rattle.trellis.proofs.pairs.code_forced_pairs.Statement.{statement}
 use Rattle.trellis.proofs.pairs.code_forced_pairs.Tie as tie
 
 abbrev Inv-loop : tie.InvT-loop
-Inv-loop state at frame entries places from labels₀ k₀ i₀ labels k i =
+Inv-loop at frame entries places from labels₀ k₀ i₀ labels k i =
     CodesUpTo k₀ k entries frame (labelsAt places labels₀) (labelsAt places labels) i₀ i × (length labels ≡ length labels₀) × (length entries ≤ i + 5)
 
 abbrev μ-loop : tie.MeasureT-loop
-μ-loop state at frame entries places from labels₀ k₀ i₀ labels k i = length entries - i
+μ-loop at frame entries places from labels₀ k₀ i₀ labels k i = length entries - i
 
 -- the pair at hand is one of the last two
 at-pair : (c : tie.After-entry2 Inv-loop μ-loop) → let l = c .before .before .before .loop in
