@@ -14,8 +14,8 @@ pub enum PlacesRead {
     Done(u32),
 }
 
-// The labels of the points by place, or 13 at the first one off its constellation, or else 14 at the first monitored one whose label is not the
-// filler bits.
+// The labels of the points by place, or 13 at the first one off its constellation, or else 14 at the first monitored one whose label is
+// not the filler bits.
 fn read_places(
     monitored: &[u16],
     layouts: &[u16],
