@@ -34,7 +34,7 @@ use Rattle.g9932.specs.declared.Refusal.the-variants.{Offgrid, Monitor}
 use Rattle.mapper.specs.Reading.{DemapAllNeeds, LabelIs, DemapsPoints, wrongFiller, ChecksFiller, JoinNeeds, CollectNeeds, CollectsLabels}
 use Rattle.mapper.specs.Writing.{FillerNeeds}
 use Rattle.mapper.specs.declared.read.FillerRead.{FillerRead}
-use Rattle.passes.specs.ReadSymbol.{PlacesOf, ReadsPlaces, FrameRoom, FrameOf, ReadsFrame}
+use Rattle.passes.specs.ReadSymbol.{PlacesOf, ReadsPlaces, HeldFits, FrameOf, ReadsFrame}
 use Rattle.passes.specs.declared.read.PlacesRead.the-variants.{Refused, Done}
 use Rattle.decoder.specs.Reading.{ReadLabelNeeds as TrellisNeeds, readingOfAll, ReadsLabels}
 use Rattle.decoder.specs.declared.PairsRead.{PairsRead}
@@ -141,7 +141,7 @@ module _ {m : Mode} {cs : List Class} {d : List Bool} {from : ℕ} {es ps ms lay
 
   pub collect-needs : m ≡ Uncoded → CollectNeeds emptyWriter es ps ls held
   collect-needs e =
-      let r : FrameRoom Uncoded es (length held) = rw e at (w .room) in
+      let r : HeldFits Uncoded es (length held) = rw e at (w .room) in
       record {
         same = placed .same;
         counts = r .0;
@@ -153,7 +153,7 @@ module _ {m : Mode} {cs : List Class} {d : List Bool} {from : ℕ} {es ps ms lay
 
   pub trellis-needs : m ≡ Coded → Placed es ps ls × TrellisNeeds emptyWriter es (labelsAt ps ls) held
   trellis-needs e =
-      let r : FrameRoom Coded es (length held) = rw e at (w .room) in
+      let r : HeldFits Coded es (length held) = rw e at (w .room) in
       let t : TrellisNeeds emptyWriter es (labelsAt ps ls) held =
       record {
         wide = r .0;
@@ -193,10 +193,10 @@ module _ {m : Mode} {cs : List Class} {d : List Bool} {from : ℕ} {es ps ms lay
     -- the last byte is there
     pub broken-room : p .broken ≡ Nothing → length mid ≡ length held → p .writer .next < length mid
     broken-room b same =
-        let r : FrameRoom Coded es (length held) = rw e at (w .room) in
+        let r : HeldFits Coded es (length held) = rw e at (w .room) in
         omega (arith, c .counted b, r .3)
 
   pub collect-room : m ≡ Uncoded → {v : BitWriter} {mid : List ℕ} → CollectsLabels emptyWriter es ps ls held v mid → length mid ≡ length held → v .next < length mid
   collect-room e c same =
-      let r : FrameRoom Uncoded es (length held) = rw e at (w .room) in
+      let r : HeldFits Uncoded es (length held) = rw e at (w .room) in
       omega (arith, c .counted, r .1)

@@ -78,14 +78,14 @@ readingBy Uncoded es d = frame d
 readingBy Coded es d = readPairs zeroState (pairsOf es) d
 
 -- what each mode asks of the entries and of a buffer of n bytes
-abbrev pub FrameRoom : Mode → List ℕ → ℕ → Type 0
-FrameRoom Uncoded es n = ((k : ℕ) → entry es k ≤ 15) × (sum es + 64 ≤ 8 * n)
-FrameRoom Coded es n = Wide es × (4 ≤ length es) × (length es ≤ mostTones) × (takenTotal (pairsOf es) + 64 ≤ 8 * n)
+abbrev pub HeldFits : Mode → List ℕ → ℕ → Type 0
+HeldFits Uncoded es n = ((k : ℕ) → entry es k ≤ 15) × (sum es + 64 ≤ 8 * n)
+HeldFits Coded es n = Wide es × (4 ≤ length es) × (length es ≤ mostTones) × (takenTotal (pairsOf es) + 64 ≤ 8 * n)
 
 pub record FrameOf (m : Mode) (cs : List Class) (d : List Bool) (from : ℕ) (es ps ms layouts labels held : List ℕ) : Type 0 where
   pub plan : PlanOf cs from es ps ms layouts
   pub labelled : ToneLabels cs d labels
-  pub room : FrameRoom m es (length held)
+  pub room : HeldFits m es (length held)
 
 abbrev pub ReadFrameNeeds : Mode → ℕ → List ℕ → List ℕ → List ℕ → List ℕ → Type 0
 ReadFrameNeeds m from es ps labels held = (cs : List Class) × (d : List Bool) × (ms : List ℕ) × (layouts : List ℕ) × FrameOf m cs d from es ps ms layouts labels held
@@ -106,7 +106,7 @@ pub record ReadOf (T : Tables) (m : Mode) (from size : ℕ) (es ps ms layouts : 
   pub labelsLength : length labels ≡ length (classesOf T)
   pub xsLength : length xs ≡ length (classesOf T)
   pub ysLength : length ys ≡ length (classesOf T)
-  pub room : FrameRoom m es (length held)
+  pub room : HeldFits m es (length held)
   pub heldLength : length held ≡ mostHeld
   pub sizeIs : size ≡ sizeOf T
   pub frameLength : length f ≡ bytesFor (sizeOf T)

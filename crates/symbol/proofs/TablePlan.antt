@@ -23,7 +23,7 @@ use Rattle.plan.proofs.Classes.{plan-of}
 use Rattle.plan.specs.Classes.{PlanOf}
 use Rattle.plan.specs.Plan.{leastOwn, sharing, PlanIs}
 use Rattle.plan.specs.declared.PlanSizes.{PlanSizes}
-use Rattle.passes.specs.ReadSymbol.{FrameRoom, readingBy}
+use Rattle.passes.specs.ReadSymbol.{HeldFits, readingBy}
 use Rattle.passes.specs.WriteSymbol.{LabelFrameNeeds, sentFor}
 use Rattle.trellis.specs.Coding.{FrameNeeds}
 use Rattle.passes.proofs.PlanLabels.{plan-placed}
@@ -153,10 +153,10 @@ module _ (T : Tables) (ok : tableVerdict T .number ≡ 0) where
     -- ---- reading
 
     -- the buffer before the frame is known to be whole has room for it
-    pub frame-room : (held : List ℕ) → length held ≡ mostHeld → FrameRoom (T .mode) es (length held)
-    frame-room held n = go (T .mode) refl
+    pub held-fits : (held : List ℕ) → length held ≡ mostHeld → HeldFits (T .mode) es (length held)
+    held-fits held n = go (T .mode) refl
       where
-        go : (m : Mode) → T .mode ≡ m → FrameRoom m es (length held)
+        go : (m : Mode) → T .mode ≡ m → HeldFits m es (length held)
         go Uncoded e = (plain-most e, omega (arith, plain-sum e, known .sizeMost))
         go Coded e =
             let c = known .coded e in

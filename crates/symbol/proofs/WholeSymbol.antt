@@ -35,7 +35,7 @@ use Rattle.passes.specs.ReadSymbol.{ReadOf, ReadBy, ReadSymbolNeeds, ReadsSymbo
 use Rattle.passes.specs.WriteSymbol.{SymbolOf, SymbolBy, SymbolNeeds, WritesSymbol}
 use Rattle.symbol.proofs.Answers.{size-is, inputs-encoded, inputs-read, encode-tables, encode-inputs, encode-done, read-tables, read-inputs, read-points}
 use Rattle.symbol.proofs.PlannedInputs.{refused-answer, Passed, accepts, lists-fit}
-use Rattle.symbol.proofs.TablePlan.{the-plan, label-needs, sent-is, frame-room, reading-is}
+use Rattle.symbol.proofs.TablePlan.{the-plan, label-needs, sent-is, held-fits, reading-is}
 
 -- ---- from the tables' plan
 
@@ -86,7 +86,7 @@ module _ (T : Tables) (ok : tableVerdict T .number ≡ 0) (p : PlanSizes) {layou
         labelsLength = n ∙ sym c;
         xsLength = nx ∙ sym c;
         ysLength = ny ∙ sym c;
-        room = frame-room T ok p is held nh;
+        room = held-fits T ok p is held nh;
         heldLength = nh;
         sizeIs = s;
         frameLength = nf;

@@ -75,19 +75,19 @@ padded-taken es y few odd hy = rw (padded-pairs es y few odd hy, ← (not-forced
 
 -- ---- a place among the entries, as the loops ask for it
 
-pub record PairRoom (i n : ℕ) : Type 0 where
+pub record PairInside (i n : ℕ) : Type 0 where
   pub here : i < n
   pub next : i + 1 < 2 ^ 64
   pub after : i + 2 < 2 ^ 64
   pub less : n - (i + 2) < n - i
 
-pub pair-room : {i n : ℕ} → i + 1 < n → n ≤ mostTones → PairRoom i n
-pair-room h m = record { here = omega arith; next = omega arith; after = omega arith; less = omega arith }
+pub pair-inside : {i n : ℕ} → i + 1 < n → n ≤ mostTones → PairInside i n
+pair-inside h m = record { here = omega arith; next = omega arith; after = omega arith; less = omega arith }
 
 -- a free pair has two pairs after it
-pub record FreeRoom (i n : ℕ) : Type 0 where
+pub record FreeInside (i n : ℕ) : Type 0 where
   pub more : i + 1 < n
   pub six : 6 ≤ n - i
 
-pub free-room : {i n : ℕ} → i + 5 < n → FreeRoom i n
-free-room h = record { more = omega arith; six = omega arith }
+pub free-inside : {i n : ℕ} → i + 5 < n → FreeInside i n
+free-inside h = record { more = omega arith; six = omega arith }

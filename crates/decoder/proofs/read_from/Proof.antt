@@ -6,7 +6,7 @@ use lib.ListN.{length}
 use borrow.Author.Tests.{not-true, not-false}
 use native.Mathlib.Omega.{arith}
 use Rattle.decoder.proofs.DecodeLoop.{Decoding, decoding-start, decoding-end, pair-needs, decoding-broken, decoding-step}
-use Rattle.trellis.proofs.Entries.{pair-wide, pair-room}
+use Rattle.trellis.proofs.Entries.{pair-wide, pair-inside}
 use Rattle.frame.specs.Labels.{labelsAt}
 use borrow.Author.Needs.{needs}
 use Rattle.decoder.proofs.read_from.Statement.{statement}
@@ -28,10 +28,10 @@ sub-forced : tie.Need-sub-forced Inv-loop μ-loop
 sub-forced c = omega arith
 
 entry-requires : tie.Need-entry-requires Inv-loop μ-loop
-entry-requires c κs = (pair-room (c .loop-test .taken) (c .before .before .before .before .before .before .pre .1)) .here
+entry-requires c κs = (pair-inside (c .loop-test .taken) (c .before .before .before .before .before .before .pre .1)) .here
 
 add-entry : tie.Need-add-entry Inv-loop μ-loop
-add-entry c = record { fits = (pair-room (c .before .loop-test .taken) (c .before .before .before .before .before .before .before .pre .1)) .next }
+add-entry c = record { fits = (pair-inside (c .before .loop-test .taken) (c .before .before .before .before .before .before .before .pre .1)) .next }
 
 entry-requires-2 : tie.Need-entry-requires-2 Inv-loop μ-loop
 entry-requires-2 c κs = c .before .loop-test .taken
@@ -39,10 +39,10 @@ entry-requires-2 c κs = c .before .loop-test .taken
 entry-label-requires : tie.Need-entry-label-requires Inv-loop μ-loop
 entry-label-requires c κs =
     let s = c .before .before .before .before .before .before .before .before in
-    (rw (s .pre .2 .same) ((pair-room (c .before .before .loop-test .taken) (c .before .before .before .before .before .before .before .before .pre .1)) .here), s .pre .2 .rising)
+    (rw (s .pre .2 .same) ((pair-inside (c .before .before .loop-test .taken) (c .before .before .before .before .before .before .before .before .pre .1)) .here), s .pre .2 .rising)
 
 add-entry-label : tie.Need-add-entry-label Inv-loop μ-loop
-add-entry-label c = record { fits = (pair-room (c .before .before .before .loop-test .taken) (c .before .before .before .before .before .before .before .before .before .pre .1)) .next }
+add-entry-label c = record { fits = (pair-inside (c .before .before .before .loop-test .taken) (c .before .before .before .before .before .before .before .before .before .pre .1)) .next }
 
 entry-label-requires-2 : tie.Need-entry-label-requires-2 Inv-loop μ-loop
 entry-label-requires-2 c κs =
@@ -63,7 +63,7 @@ read-pair-requires c κs =
     (q .0, q .1, q .2, q .3, r)
 
 add-t23 : tie.Need-add-t23 Inv-loop μ-loop
-add-t23 c = record { fits = (pair-room (c .before .before .before .before .before .before .before .before .before .before .loop-test .taken) (c .before .before .before .before .before .before .before .before .before .before .before .before .before .before .before .before .pre .1)) .next }
+add-t23 c = record { fits = (pair-inside (c .before .before .before .before .before .before .before .before .before .before .loop-test .taken) (c .before .before .before .before .before .before .before .before .before .before .before .before .before .before .before .before .pre .1)) .next }
 
 same-length : tie.Need-same-length Inv-loop μ-loop
 same-length c = c .before .before .before .before .read-pair .kept .1 .1 .1 .1 .1 .1 .0 ∙ c .before .before .before .before .before .before .before .before .before .before .before .loop .inv .kept
@@ -82,10 +82,10 @@ returns c =
     (p .result) (p .last .1 .1 .1 .1 .1 .1 .0) (p .ensures) (not-true _ (c .if1 .taken))
 
 add-i : tie.Need-add-i Inv-loop μ-loop
-add-i c = record { fits = (pair-room (c .before .before .before .before .before .before .before .before .before .before .before .loop-test .taken) (c .before .before .before .before .before .before .before .before .before .before .before .before .before .before .before .before .before .pre .1)) .after }
+add-i c = record { fits = (pair-inside (c .before .before .before .before .before .before .before .before .before .before .before .loop-test .taken) (c .before .before .before .before .before .before .before .before .before .before .before .before .before .before .before .before .before .pre .1)) .after }
 
 loop-less : tie.Need-loop-less Inv-loop μ-loop
-loop-less c = (pair-room (c .before .before .before .before .before .before .before .before .before .before .before .loop-test .taken) (c .before .before .before .before .before .before .before .before .before .before .before .before .before .before .before .before .before .pre .1)) .less
+loop-less c = (pair-inside (c .before .before .before .before .before .before .before .before .before .before .before .loop-test .taken) (c .before .before .before .before .before .before .before .before .before .before .before .before .before .before .before .before .before .pre .1)) .less
 
 loop-again : tie.Need-loop-again Inv-loop μ-loop
 loop-again c =

@@ -1,6 +1,6 @@
 -- `trellis::pairs::code_forced_pairs` meets its contract. The invariant: the bits of the labels so far, with what the pairs left send from
 -- the state and the frame bits left, are the whole, and fewer than six entries are left. The measure is the entries left.
-use Rattle.trellis.proofs.Entries.{pair-room}
+use Rattle.trellis.proofs.Entries.{pair-inside}
 use Rattle.trellis.proofs.CodeLoop.{CodesUpTo, going-start, going-end, AtPair, at-wide, pair-needs, labels-fit, going-step}
 use Rattle.frame.specs.Labels.{labelsAt}
 use lib.ListN.{length}
@@ -50,10 +50,10 @@ add-loop : tie.Need-add-loop Inv-loop μ-loop
 add-loop c = omega (arith, c .loop .inv .0 .needs .inside, c .before .before .before .before .before .before .pre .1)
 
 entry-requires : tie.Need-entry-requires Inv-loop μ-loop
-entry-requires c κs = (pair-room (c .loop-test .taken) (c .before .before .before .before .before .before .before .pre .1)) .here
+entry-requires c κs = (pair-inside (c .loop-test .taken) (c .before .before .before .before .before .before .before .pre .1)) .here
 
 add-entry : tie.Need-add-entry Inv-loop μ-loop
-add-entry c = record { fits = (pair-room (c .before .loop-test .taken) (c .before .before .before .before .before .before .before .before .pre .1)) .next }
+add-entry c = record { fits = (pair-inside (c .before .loop-test .taken) (c .before .before .before .before .before .before .before .before .pre .1)) .next }
 
 entry-requires-2 : tie.Need-entry-requires-2 Inv-loop μ-loop
 entry-requires-2 c κs = c .before .loop-test .taken
@@ -71,10 +71,10 @@ put-pair-requires c κs =
     (omega (arith, s .pre .3 .same), q .0, q .1, rw (c .before .before .before .before .before .loop .inv .1) (s .pre .3 .rising))
 
 add-i : tie.Need-add-i Inv-loop μ-loop
-add-i c = record { fits = (pair-room (c .before .before .before .before .before .before .before .before .loop-test .taken) (c .before .before .before .before .before .before .before .before .before .before .before .before .before .before .before .pre .1)) .after }
+add-i c = record { fits = (pair-inside (c .before .before .before .before .before .before .before .before .loop-test .taken) (c .before .before .before .before .before .before .before .before .before .before .before .before .before .before .before .pre .1)) .after }
 
 loop-less : tie.Need-loop-less Inv-loop μ-loop
-loop-less c = (pair-room (c .before .before .before .before .before .before .before .before .loop-test .taken) (c .before .before .before .before .before .before .before .before .before .before .before .before .before .before .before .pre .1)) .less
+loop-less c = (pair-inside (c .before .before .before .before .before .before .before .before .loop-test .taken) (c .before .before .before .before .before .before .before .before .before .before .before .before .before .before .before .pre .1)) .less
 
 loop-again : tie.Need-loop-again Inv-loop μ-loop
 loop-again c =

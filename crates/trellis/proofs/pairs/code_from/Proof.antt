@@ -3,7 +3,7 @@
 use Rattle.trellis.proofs.Steps.{coder-back}
 use Rattle.trellis.proofs.CodeLoop.{CodesUpTo, going-start, going-on, AtPair, at-wide, pair-needs, labels-fit, going-step}
 use Rattle.trellis.specs.Steps.{coderAt}
-use Rattle.trellis.proofs.Entries.{pair-room, free-room}
+use Rattle.trellis.proofs.Entries.{pair-inside, free-inside}
 use Rattle.frame.specs.Labels.{labelsAt, Placed}
 use lib.ListN.{length}
 use borrow.Author.Tests.{le-ltb}
@@ -34,10 +34,10 @@ at-pair c =
     record {
       wide = s .pre .0;
       upTo = l .inv .0;
-      more = free-room (c .before .before .loop-test .taken) .more;
+      more = free-inside (c .before .before .loop-test .taken) .more;
       isX = c .before .entry .ensures;
       isY = c .entry2 .ensures;
-      isForced = sym (le-ltb (length (s .args .entries .now) - l .i) 6 (free-room (c .before .before .loop-test .taken) .six));
+      isForced = sym (le-ltb (length (s .args .entries .now) - l .i) 6 (free-inside (c .before .before .loop-test .taken) .six));
     }
 
 step-table-requires : tie.Need-step-table-requires Inv-loop μ-loop
@@ -59,13 +59,13 @@ add-loop : tie.Need-add-loop Inv-loop μ-loop
 add-loop c = omega (arith, c .loop .inv .0 .needs .inside, c .before .before .before .before .before .before .before .before .pre .1)
 
 entry-requires : tie.Need-entry-requires Inv-loop μ-loop
-entry-requires c κs = (pair-room (free-room (c .loop-test .taken) .more) (c .before .before .before .before .before .before .before .before .before .pre .1)) .here
+entry-requires c κs = (pair-inside (free-inside (c .loop-test .taken) .more) (c .before .before .before .before .before .before .before .before .before .pre .1)) .here
 
 add-entry : tie.Need-add-entry Inv-loop μ-loop
-add-entry c = record { fits = (pair-room (free-room (c .before .loop-test .taken) .more) (c .before .before .before .before .before .before .before .before .before .before .pre .1)) .next }
+add-entry c = record { fits = (pair-inside (free-inside (c .before .loop-test .taken) .more) (c .before .before .before .before .before .before .before .before .before .before .pre .1)) .next }
 
 entry-requires-2 : tie.Need-entry-requires-2 Inv-loop μ-loop
-entry-requires-2 c κs = free-room (c .before .loop-test .taken) .more
+entry-requires-2 c κs = free-inside (c .before .loop-test .taken) .more
 
 code-free-pair-requires : tie.Need-code-free-pair-requires Inv-loop μ-loop
 code-free-pair-requires c κs =
@@ -91,10 +91,10 @@ add-at-2 c =
     omega (arith, n .bits, n .small)
 
 add-i : tie.Need-add-i Inv-loop μ-loop
-add-i c = record { fits = (pair-room (free-room (c .before .before .before .before .before .before .before .before .before .before .loop-test .taken) .more) (c .before .before .before .before .before .before .before .before .before .before .before .before .before .before .before .before .before .before .before .pre .1)) .after }
+add-i c = record { fits = (pair-inside (free-inside (c .before .before .before .before .before .before .before .before .before .before .loop-test .taken) .more) (c .before .before .before .before .before .before .before .before .before .before .before .before .before .before .before .before .before .before .before .pre .1)) .after }
 
 loop-less : tie.Need-loop-less Inv-loop μ-loop
-loop-less c = (pair-room (free-room (c .before .before .before .before .before .before .before .before .before .before .loop-test .taken) .more) (c .before .before .before .before .before .before .before .before .before .before .before .before .before .before .before .before .before .before .before .pre .1)) .less
+loop-less c = (pair-inside (free-inside (c .before .before .before .before .before .before .before .before .before .before .loop-test .taken) .more) (c .before .before .before .before .before .before .before .before .before .before .before .before .before .before .before .before .before .before .before .pre .1)) .less
 
 loop-again : tie.Need-loop-again Inv-loop μ-loop
 loop-again c =
