@@ -1,6 +1,8 @@
 // The bench tables.
 ghost use Prim.Native.Nat.{_≤_};
 ghost use lib.ListN.{length};
+ghost use Rattle.g9932.specs.Sizes.{mostTones};
+use g9932::MOST_TONES;
 use lines::Figure;
 use lines::line;
 
@@ -51,13 +53,13 @@ fn print_cut(
 
 // This many tones of equal bits, each with the gain 512, t in index order. Called by proved code only.
 pub fn equal_tones(count: usize, bits: u8, figure: Figure)
-    requires { ⌜ count ≤ 4096 ⌝ }
+    requires { ⌜ count ≤ mostTones ⌝ }
 {
-    let all_bits = [bits; 4096];
-    let gains = [512u16; 4096];
-    let mut tones = [0u16; 4096];
-    let mut xs = [0i16; 4096];
-    let mut ys = [0i16; 4096];
+    let all_bits = [bits; MOST_TONES];
+    let gains = [512u16; MOST_TONES];
+    let mut tones = [0u16; MOST_TONES];
+    let mut xs = [0i16; MOST_TONES];
+    let mut ys = [0i16; MOST_TONES];
     in_order(&mut tones);
     print_cut(figure, count, &all_bits, &gains, &tones, &mut xs, &mut ys);
 }

@@ -5,6 +5,8 @@ mod reading;
 ghost use Rattle.g9932.specs.Sizes.{tables};
 ghost use Rattle.g9932.specs.Answers.{Encodes, Reads};
 use g9932::Answer;
+use g9932::MOST_HELD;
+use g9932::MOST_TONES;
 use g9932::Mode;
 use plan::Planned;
 
@@ -22,11 +24,11 @@ pub fn encode(
 ) -> Answer
     ensures { λ r. ⌜ Encodes (tables mode (now (bits .entry)) (now (gains .entry)) (now (tones .entry))) (now (frame .entry)) register (now (xs .entry)) (now (ys .entry)) r (now (xs .exit)) (now (ys .exit)) ⌝ }
 {
-    let mut layouts = [0u16; 4096];
-    let mut entries = [0u8; 4096];
-    let mut places = [0u16; 4096];
-    let mut monitored = [0u16; 4096];
-    let mut labels = [0u16; 4096];
+    let mut layouts = [0u16; MOST_TONES];
+    let mut entries = [0u8; MOST_TONES];
+    let mut places = [0u16; MOST_TONES];
+    let mut monitored = [0u16; MOST_TONES];
+    let mut labels = [0u16; MOST_TONES];
     let n = tones.len();
     let planned = plan::plan_tables(
         mode,
@@ -79,12 +81,12 @@ pub fn read(
 ) -> Answer
     ensures { λ r. ⌜ Reads (tables mode (now (bits .entry)) (now (gains .entry)) (now (tones .entry))) (now (xs .entry)) (now (ys .entry)) register (now (frame .entry)) r (now (frame .exit)) ⌝ }
 {
-    let mut layouts = [0u16; 4096];
-    let mut entries = [0u8; 4096];
-    let mut places = [0u16; 4096];
-    let mut monitored = [0u16; 4096];
-    let mut labels = [0u16; 4096];
-    let mut held = [0u8; 7688];
+    let mut layouts = [0u16; MOST_TONES];
+    let mut entries = [0u8; MOST_TONES];
+    let mut places = [0u16; MOST_TONES];
+    let mut monitored = [0u16; MOST_TONES];
+    let mut labels = [0u16; MOST_TONES];
+    let mut held = [0u8; MOST_HELD];
     let n = tones.len();
     let planned = plan::plan_tables(
         mode,

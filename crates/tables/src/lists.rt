@@ -6,6 +6,7 @@ use super::one_if;
 use super::tone_at;
 use g9932::Checked;
 use g9932::Found;
+use g9932::MOST_TONES;
 use g9932::Place;
 use g9932::Refusal;
 use g9932::Subcarrier;
@@ -26,7 +27,7 @@ fn wrong_size(g: usize, gains: usize, nsc: usize) -> bool
     if g < 1 {
         return true;
     }
-    if 4096 < g {
+    if MOST_TONES < g {
         return true;
     }
     if gains != g {
@@ -73,7 +74,7 @@ fn first_tone(g: usize, tones: &[u16]) -> Found
 }
 
 // Marks every entry of t.
-fn mark_tones(tones: &[u16], seen: &mut [bool; 4096])
+fn mark_tones(tones: &[u16], seen: &mut [bool; MOST_TONES])
     requires { ⌜ Below mostTones (now tones) ⌝ }
     ensures { λ _. ⌜ now (seen .exit) ≡ marked (now (seen .entry)) (now (tones .entry)) ⌝ }
 {
@@ -87,13 +88,13 @@ fn mark_tones(tones: &[u16], seen: &mut [bool; 4096])
 }
 
 // How many are marked?
-fn count_marks(seen: &[bool; 4096]) -> usize
+fn count_marks(seen: &[bool; MOST_TONES]) -> usize
     requires { ⌜ length (now seen) ≡ mostTones ⌝ }
     ensures { λ r. ⌜ r ≡ trues (now (seen .entry)) ⌝ }
 {
     let mut n: u16 = 0;
     let mut i = 0;
-    while i < 4096 {
+    while i < MOST_TONES {
         n += one_if(seen[i]);
         i += 1;
     }
@@ -101,7 +102,7 @@ fn count_marks(seen: &[bool; 4096]) -> usize
 }
 
 // The first place in t whose entry equals an earlier one. Marks each entry that it passes.
-fn first_repeat(tones: &[u16], seen: &mut [bool; 4096]) -> Found
+fn first_repeat(tones: &[u16], seen: &mut [bool; MOST_TONES]) -> Found
     requires clear { ⌜ now seen ≡ replicate mostTones false ⌝ }
     requires below { ⌜ Below mostTones (now tones) ⌝ }
     ensures { λ r. ⌜ r ≡ first (twiceTest (now (tones .entry))) (length (now (tones .entry))) ⌝ }
@@ -121,7 +122,7 @@ fn first_repeat(tones: &[u16], seen: &mut [bool; 4096]) -> Found
 
 // 3 TWICE: the first place whose entry equals an earlier one. Marks every entry: as many marks as entries say that none comes
 // twice, and only otherwise is a place looked for.
-fn first_twice(tones: &[u16], seen: &mut [bool; 4096]) -> Found
+fn first_twice(tones: &[u16], seen: &mut [bool; MOST_TONES]) -> Found
     requires clear { ⌜ now seen ≡ replicate mostTones false ⌝ }
     requires below { ⌜ Below mostTones (now tones) ⌝ }
     ensures { λ r. ⌜ (r ≡ first (twiceTest (now (tones .entry))) (length (now (tones .entry)))) × Marks (now (tones .entry)) (now (seen .exit)) ⌝ }
@@ -130,7 +131,7 @@ fn first_twice(tones: &[u16], seen: &mut [bool; 4096]) -> Found
     if count_marks(seen) == tones.len() {
         return Found::Nothing;
     }
-    let mut again = [false; 4096];
+    let mut again = [false; MOST_TONES];
     first_repeat(tones, &mut again)
 }
 
@@ -157,7 +158,7 @@ fn is_fault(seen: bool, bits: u8, gain: u16) -> bool
 
 // Does 4 BITS, 5 STRAY or 6 GAIN apply to any index? `seen` marks the members of t. No early exit and no `if`, so that the
 // compiler takes many entries at a time.
-fn any_index_fault(bits: &[u8], gains: &[u16], tones: &[u16], seen: &[bool; 4096]) -> bool
+fn any_index_fault(bits: &[u8], gains: &[u16], tones: &[u16], seen: &[bool; MOST_TONES]) -> bool
     requires size { ⌜ length (now bits) ≤ mostTones ⌝ }
     requires gains { ⌜ length (now gains) ≡ length (now bits) ⌝ }
     requires marks { ⌜ Marks (now tones) (now seen) ⌝ }
@@ -191,7 +192,13 @@ fn breaks(rule: Rule, seen: bool, bits: u8, gain: u16) -> bool
 }
 
 // The smallest index to which the rule applies. `seen` marks the members of t.
-fn first_index(rule: Rule, bits: &[u8], gains: &[u16], tones: &[u16], seen: &[bool; 4096]) -> Found
+fn first_index(
+    rule: Rule,
+    bits: &[u8],
+    gains: &[u16],
+    tones: &[u16],
+    seen: &[bool; MOST_TONES],
+) -> Found
     requires size { ⌜ length (now bits) ≤ mostTones ⌝ }
     requires marks { ⌜ Marks (now tones) (now seen) ⌝ }
     ensures { λ r. ⌜ r ≡ first (ruleTest rule (now (bits .entry)) (now (gains .entry)) (now (tones .entry))) (length (now (bits .entry))) ⌝ }
@@ -208,7 +215,7 @@ fn first_index(rule: Rule, bits: &[u8], gains: &[u16], tones: &[u16], seen: &[bo
 }
 
 // Refusals 4 to 6. A pass over all indices accepts; which number applies is looked for only after that. `seen` marks the members of t.
-fn check_indices(bits: &[u8], gains: &[u16], tones: &[u16], seen: &[bool; 4096]) -> Checked
+fn check_indices(bits: &[u8], gains: &[u16], tones: &[u16], seen: &[bool; MOST_TONES]) -> Checked
     requires size { ⌜ length (now bits) ≤ mostTones ⌝ }
     requires gains { ⌜ length (now gains) ≡ length (now bits) ⌝ }
     requires marks { ⌜ Marks (now tones) (now seen) ⌝ }
@@ -239,7 +246,7 @@ pub fn check_lists(bits: &[u8], gains: &[u16], tones: &[u16]) -> Checked
     if let Found::At(p) = first_tone(bits.len(), tones) {
         return Checked::Refused(Refusal::Tone(Place(p)));
     }
-    let mut seen = [false; 4096];
+    let mut seen = [false; MOST_TONES];
     if let Found::At(p) = first_twice(tones, &mut seen) {
         return Checked::Refused(Refusal::Twice(Place(p)));
     }
