@@ -11,10 +11,15 @@ check-tables-requires : tie.Need-check-tables-requires
 check-tables-requires c κs = search needs
 
 checked-requires : tie.Need-checked-requires
-checked-requires c κs = checked-small (c .before .before .before .before .before .args .bits .now) (c .before .before .before .before .before .args .gains .now) (c .before .before .before .before .before .args .tones .now) (c .before .mode-of .ensures) (c .check-tables .result) (c .check-tables .ensures)
+checked-requires c κs =
+    let start = c .before .before .before .before .before in
+    checked-small (start .args .bits .now) (start .args .gains .now) (start .args .tones .now) (c .before .mode-of .ensures) (c .check-tables .result) (c .check-tables .ensures)
 
 returns : tie.Need-returns
-returns c = checked-told (c .before .before .before .before .before .before .args .bits .now) (c .before .before .before .before .before .before .args .gains .now) (c .before .before .before .before .before .before .args .tones .now) (c .before .before .mode-of .ensures) (c .before .check-tables .result) (c .before .check-tables .ensures) (c .checked .ensures)
+returns c =
+    let start = c .before .before .before .before .before .before in
+    let mode-of = c .before .before .mode-of in
+    checked-told (start .args .bits .now) (start .args .gains .now) (start .args .tones .now) (mode-of .ensures) (c .before .check-tables .result) (c .before .check-tables .ensures) (c .checked .ensures)
 
 pub clevisroot-check-spec : {M : Type 1} → statement M
 clevisroot-check-spec =

@@ -22,7 +22,9 @@ number-of-requires : tie.Need-number-of-requires
 number-of-requires c κs = search needs
 
 returns : tie.Need-returns
-returns c = point-fields (toZ-ofZ w16 (c .before .mapped .given .0 .0) (search needs)) (toZ-ofZ w16 (c .before .mapped .given .0 .1 .0) (search needs)) ∙ ap pointAnswered (sym (ap mappedOf (c .before .mapped .given .1)) ∙ c .before .before .before .map-label .ensures)
+returns c =
+    let map-label = c .before .before .before .map-label in
+    point-fields (toZ-ofZ w16 (c .before .mapped .given .0 .0) (search needs)) (toZ-ofZ w16 (c .before .mapped .given .0 .1 .0) (search needs)) ∙ ap pointAnswered (sym (ap mappedOf (c .before .mapped .given .1)) ∙ map-label .ensures)
 
 returns-2 : tie.Need-returns-2
 returns-2 c = rw (c .number-of .ensures) (ap pointAnswered (sym (ap mappedOf (c .before .before .mapped2 .given .1)) ∙ c .before .before .before .before .map-label .ensures))

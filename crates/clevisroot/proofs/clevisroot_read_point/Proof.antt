@@ -21,10 +21,17 @@ number-of-requires : tie.Need-number-of-requires
 number-of-requires c κs = search needs
 
 returns : tie.Need-returns
-returns c = ap labelAnswered (sym (ap labelledOf (c .before .labelled .given .1)) ∙ (rw (toZ-ofZ w16 (c .before .before .before .before .args .x) (c .before .before .before .before .fits .x), toZ-ofZ w16 (c .before .before .before .before .args .y) (c .before .before .before .before .fits .y)) at (c .before .before .before .read-point .ensures)))
+returns c =
+    let start = c .before .before .before .before in
+    let read-point = c .before .before .before .read-point in
+    ap labelAnswered (sym (ap labelledOf (c .before .labelled .given .1)) ∙ (rw (toZ-ofZ w16 (start .args .x) (start .fits .x), toZ-ofZ w16 (start .args .y) (start .fits .y)) at (read-point .ensures)))
 
 returns-2 : tie.Need-returns-2
-returns-2 c = rw (c .number-of .ensures) (ap labelAnswered (sym (ap labelledOf (c .before .before .labelled2 .given .1)) ∙ (rw (toZ-ofZ w16 (c .before .before .before .before .before .args .x) (c .before .before .before .before .before .fits .x), toZ-ofZ w16 (c .before .before .before .before .before .args .y) (c .before .before .before .before .before .fits .y)) at (c .before .before .before .before .read-point .ensures))))
+returns-2 c =
+    let start = c .before .before .before .before .before in
+    let read-point = c .before .before .before .before .read-point in
+    let labelled2 = c .before .before .labelled2 in
+    rw (c .number-of .ensures) (ap labelAnswered (sym (ap labelledOf (labelled2 .given .1)) ∙ (rw (toZ-ofZ w16 (start .args .x) (start .fits .x), toZ-ofZ w16 (start .args .y) (start .fits .y)) at (read-point .ensures))))
 
 pub clevisroot-read-point-spec : {M : Type 1} → statement M
 clevisroot-read-point-spec =

@@ -51,6 +51,7 @@ entry-label-requires-2 c κs =
 
 read-pair-requires : tie.Need-read-pair-requires Inv-loop μ-loop
 read-pair-requires c κs =
+    let loop-test = c .before .before .before .before .before .loop-test in
     let s = c .before .before .before .before .before .before .before .before .before .before .before in
     let a = s .args in
     let l = c .before .before .before .before .before .before .loop in
@@ -58,18 +59,22 @@ read-pair-requires c κs =
     let y = c .before .before .before .entry2 in
     let v = c .before .before .entry-label in
     let w = c .before .entry-label2 in
-    let q = pair-wide (a .entries .now) (l .i) (x .result) (y .result) (s .pre .0) (c .before .before .before .before .before .loop-test .taken) (x .ensures) (y .ensures) in
-    let r = pair-needs (a .c) (l .k) (a .entries .now) (labelsAt (a .places .now) (a .labels .now)) (a .frame .now) (l .frame) (a .from) (l .i) (x .result) (y .result) _ (s .pre .0) (l .inv) (c .before .before .before .before .before .loop-test .taken) (x .ensures) (y .ensures) refl (v .result) (w .result) (v .ensures) (w .ensures) in
+    let q = pair-wide (a .entries .now) (l .i) (x .result) (y .result) (s .pre .0) (loop-test .taken) (x .ensures) (y .ensures) in
+    let r = pair-needs (a .c) (l .k) (a .entries .now) (labelsAt (a .places .now) (a .labels .now)) (a .frame .now) (l .frame) (a .from) (l .i) (x .result) (y .result) _ (s .pre .0) (l .inv) (loop-test .taken) (x .ensures) (y .ensures) refl (v .result) (w .result) (v .ensures) (w .ensures) in
     (q .0, q .1, q .2, q .3, r)
 
 add-t23 : tie.Need-add-t23 Inv-loop μ-loop
-add-t23 c = record { fits = (pair-inside (c .before .before .before .before .before .before .before .before .before .before .loop-test .taken) (c .before .before .before .before .before .before .before .before .before .before .before .before .before .before .before .before .pre .1)) .next }
+add-t23 c =
+    let start = c .before .before .before .before .before .before .before .before .before .before .before .before .before .before .before .before in
+    let loop-test = c .before .before .before .before .before .before .before .before .before .before .loop-test in
+    record { fits = (pair-inside (loop-test .taken) (start .pre .1)) .next }
 
 same-length : tie.Need-same-length Inv-loop μ-loop
 same-length c = c .before .before .before .before .read-pair .kept .1 .1 .1 .1 .1 .1 .0 ∙ c .before .before .before .before .before .before .before .before .before .before .before .loop .inv .kept
 
 returns : tie.Need-returns Inv-loop μ-loop
 returns c =
+    let loop-test = c .before .before .before .before .before .before .before .before .before .before .loop-test in
     let s = c .before .before .before .before .before .before .before .before .before .before .before .before .before .before .before .before in
     let a = s .args in
     let l = c .before .before .before .before .before .before .before .before .before .before .before .loop in
@@ -78,17 +83,24 @@ returns c =
     let v = c .before .before .before .before .before .before .before .entry-label in
     let w = c .before .before .before .before .before .before .entry-label2 in
     let p = c .before .before .before .before .read-pair in
-    decoding-broken (a .c) (l .k) (a .entries .now) (labelsAt (a .places .now) (a .labels .now)) (a .frame .now) (l .frame) (a .from) (l .i) (x .result) (y .result) _ (s .pre .0) (l .inv) (c .before .before .before .before .before .before .before .before .before .before .loop-test .taken) (x .ensures) (y .ensures) refl (v .result) (w .result) (v .ensures) (w .ensures)
+    decoding-broken (a .c) (l .k) (a .entries .now) (labelsAt (a .places .now) (a .labels .now)) (a .frame .now) (l .frame) (a .from) (l .i) (x .result) (y .result) _ (s .pre .0) (l .inv) (loop-test .taken) (x .ensures) (y .ensures) refl (v .result) (w .result) (v .ensures) (w .ensures)
     (p .result) (p .last .1 .1 .1 .1 .1 .1 .0) (p .ensures) (not-true _ (c .if1 .taken))
 
 add-i : tie.Need-add-i Inv-loop μ-loop
-add-i c = record { fits = (pair-inside (c .before .before .before .before .before .before .before .before .before .before .before .loop-test .taken) (c .before .before .before .before .before .before .before .before .before .before .before .before .before .before .before .before .before .pre .1)) .after }
+add-i c =
+    let start = c .before .before .before .before .before .before .before .before .before .before .before .before .before .before .before .before .before in
+    let loop-test = c .before .before .before .before .before .before .before .before .before .before .before .loop-test in
+    record { fits = (pair-inside (loop-test .taken) (start .pre .1)) .after }
 
 loop-less : tie.Need-loop-less Inv-loop μ-loop
-loop-less c = (pair-inside (c .before .before .before .before .before .before .before .before .before .before .before .loop-test .taken) (c .before .before .before .before .before .before .before .before .before .before .before .before .before .before .before .before .before .pre .1)) .less
+loop-less c =
+    let start = c .before .before .before .before .before .before .before .before .before .before .before .before .before .before .before .before .before in
+    let loop-test = c .before .before .before .before .before .before .before .before .before .before .before .loop-test in
+    (pair-inside (loop-test .taken) (start .pre .1)) .less
 
 loop-again : tie.Need-loop-again Inv-loop μ-loop
 loop-again c =
+    let loop-test = c .before .before .before .before .before .before .before .before .before .before .before .loop-test in
     let s = c .before .before .before .before .before .before .before .before .before .before .before .before .before .before .before .before .before in
     let a = s .args in
     let l = c .before .before .before .before .before .before .before .before .before .before .before .before .loop in
@@ -97,7 +109,7 @@ loop-again c =
     let v = c .before .before .before .before .before .before .before .before .entry-label in
     let w = c .before .before .before .before .before .before .before .entry-label2 in
     let p = c .before .before .before .before .before .read-pair in
-    decoding-step (a .c) (l .k) (a .entries .now) (labelsAt (a .places .now) (a .labels .now)) (a .frame .now) (l .frame) (a .from) (l .i) (x .result) (y .result) _ (s .pre .0) (l .inv) (c .before .before .before .before .before .before .before .before .before .before .before .loop-test .taken) (x .ensures) (y .ensures) refl (v .result) (w .result) (v .ensures) (w .ensures)
+    decoding-step (a .c) (l .k) (a .entries .now) (labelsAt (a .places .now) (a .labels .now)) (a .frame .now) (l .frame) (a .from) (l .i) (x .result) (y .result) _ (s .pre .0) (l .inv) (loop-test .taken) (x .ensures) (y .ensures) refl (v .result) (w .result) (v .ensures) (w .ensures)
     (p .result) (p .last .1 .1 .1 .1 .1 .1 .0) (p .ensures) (not-false _ (c .before .if1 .left)) (p .kept .1 .1 .1 .1 .1 .1 .0)
 
 same-length-2 : tie.Need-same-length-2 Inv-loop μ-loop

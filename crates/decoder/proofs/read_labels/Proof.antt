@@ -14,37 +14,42 @@ entry-requires : tie.Need-entry-requires
 entry-requires c κs = omega (arith, c .before .before .before .before .before .pre .1 .few)
 
 entry-label-requires : tie.Need-entry-label-requires
-entry-label-requires c κs = (omega (arith, c .before .before .before .before .before .before .pre .1 .few, c .before .before .before .before .before .before .pre .0 .same), c .before .before .before .before .before .before .pre .0 .rising)
+entry-label-requires c κs =
+    let start = c .before .before .before .before .before .before in
+    (omega (arith, start .pre .1 .few, start .pre .0 .same), start .pre .0 .rising)
 
 read-first-requires : tie.Need-read-first-requires
 read-first-requires c κs =
+    let if1 = c .before .before .before .if1 in
     let s = c .before .before .before .before .before .before .before .before in
     let a = s .args in
     let y = c .before .before .entry in
     let l = c .before .entry-label in
-    first-needs (a .writer) (a .entries .now) (labelsAt (a .places .now) (a .labels .now)) (a .frame .now) (s .pre .1) (placed-length (s .pre .0)) (y .result) (c .before .before .before .if1 .taken) (y .ensures) (l .result) (l .ensures)
+    first-needs (a .writer) (a .entries .now) (labelsAt (a .places .now) (a .labels .now)) (a .frame .now) (s .pre .1) (placed-length (s .pre .0)) (y .result) (if1 .taken) (y .ensures) (l .result) (l .ensures)
 
 same-length : tie.Need-same-length
 same-length c = c .before .before .before .before .before .read-first .kept .1 .1 .1 .0
 
 returns : tie.Need-returns
 returns c =
+    let if1 = c .before .before .before .before .before .before .before .before .before .if1 in
     let s = c .before .before .before .before .before .before .before .before .before .before .before .before .before .before in
     let a = s .args in
     let y = c .before .before .before .before .before .before .before .before .entry in
     let l = c .before .before .before .before .before .before .before .entry-label in
     let p = c .before .before .before .before .before .read-first in
-    first-broken (a .writer) (a .entries .now) (labelsAt (a .places .now) (a .labels .now)) (a .frame .now) (s .pre .1) (placed-length (s .pre .0)) (y .result) (c .before .before .before .before .before .before .before .before .before .if1 .taken) (y .ensures) (l .result) (l .ensures)
+    first-broken (a .writer) (a .entries .now) (labelsAt (a .places .now) (a .labels .now)) (a .frame .now) (s .pre .1) (placed-length (s .pre .0)) (y .result) (if1 .taken) (y .ensures) (l .result) (l .ensures)
     (p .result) (p .last .1 .1 .1 .0) (p .ensures) (not-true _ (c .before .if2 .taken))
 
 read-from-requires : tie.Need-read-from-requires
 read-from-requires c κs =
+    let if1 = c .before .before .before .before .before .before .before .before .before .if1 in
     let s = c .before .before .before .before .before .before .before .before .before .before .before .before .before .before in
     let a = s .args in
     let y = c .before .before .before .before .before .before .before .before .entry in
     let l = c .before .before .before .before .before .before .before .entry-label in
     let p = c .before .before .before .before .before .read-first in
-    let n = odd-needs (a .writer) (a .entries .now) (labelsAt (a .places .now) (a .labels .now)) (a .frame .now) (s .pre .1) (placed-length (s .pre .0)) (y .result) (c .before .before .before .before .before .before .before .before .before .if1 .taken) (y .ensures) (l .result) (l .ensures) (p .result) (p .last .1 .1 .1 .0) (p .ensures) (p .kept .1 .1 .1 .0) in
+    let n = odd-needs (a .writer) (a .entries .now) (labelsAt (a .places .now) (a .labels .now)) (a .frame .now) (s .pre .1) (placed-length (s .pre .0)) (y .result) (if1 .taken) (y .ensures) (l .result) (l .ensures) (p .result) (p .last .1 .1 .1 .0) (p .ensures) (p .kept .1 .1 .1 .0) in
     (s .pre .1 .wide, s .pre .1 .many, s .pre .0, n)
 
 same-length-2 : tie.Need-same-length-2
@@ -52,23 +57,26 @@ same-length-2 c = c .before .before .read-from .kept .1 .1 .1 .1 .1 .0 ∙ c .be
 
 returns-2 : tie.Need-returns-2
 returns-2 c =
+    let if1 = c .before .before .before .before .before .before .before .before .before .before .before .before .if1 in
+    let if2 = c .before .before .before .before .if2 in
     let s = c .before .before .before .before .before .before .before .before .before .before .before .before .before .before .before .before .before in
     let a = s .args in
     let y = c .before .before .before .before .before .before .before .before .before .before .before .entry in
     let l = c .before .before .before .before .before .before .before .before .before .before .entry-label in
     let p = c .before .before .before .before .before .before .before .before .read-first in
     let f = c .before .before .read-from in
-    odd-read (a .writer) (a .entries .now) (labelsAt (a .places .now) (a .labels .now)) (a .frame .now) (s .pre .1) (placed-length (s .pre .0)) (y .result) (c .before .before .before .before .before .before .before .before .before .before .before .before .if1 .taken) (y .ensures) (l .result) (l .ensures)
-    (p .result) (p .last .1 .1 .1 .0) (p .ensures) (not-false _ (c .before .before .before .before .if2 .left)) (f .result) (f .last .1 .1 .1 .1 .1 .0) (f .ensures)
+    odd-read (a .writer) (a .entries .now) (labelsAt (a .places .now) (a .labels .now)) (a .frame .now) (s .pre .1) (placed-length (s .pre .0)) (y .result) (if1 .taken) (y .ensures) (l .result) (l .ensures)
+    (p .result) (p .last .1 .1 .1 .0) (p .ensures) (not-false _ (if2 .left)) (f .result) (f .last .1 .1 .1 .1 .1 .0) (f .ensures)
 
 zero-state-requires : tie.Need-zero-state-requires
 zero-state-requires c κs = search needs
 
 read-from-requires-2 : tie.Need-read-from-requires-2
 read-from-requires-2 c κs =
+    let if1 = c .before .before .if1 in
     let s = c .before .before .before .before .before .before .before in
     let a = s .args in
-    (s .pre .1 .wide, s .pre .1 .many, s .pre .0, rw (c .before .zero-state .ensures) (even-needs (a .writer) (a .entries .now) (labelsAt (a .places .now) (a .labels .now)) (a .frame .now) (s .pre .1) (placed-length (s .pre .0)) (c .before .before .if1 .left)))
+    (s .pre .1 .wide, s .pre .1 .many, s .pre .0, rw (c .before .zero-state .ensures) (even-needs (a .writer) (a .entries .now) (labelsAt (a .places .now) (a .labels .now)) (a .frame .now) (s .pre .1) (placed-length (s .pre .0)) (if1 .left)))
 
 same-length-3 : tie.Need-same-length-3
 same-length-3 c = c .before .before .read-from2 .kept .1 .1 .1 .1 .1 .0

@@ -21,15 +21,17 @@ taken-bits-requires c κs = search needs
 
 taken-of-requires : tie.Need-taken-of-requires
 taken-of-requires c κs =
+    let decode-word = c .before .before .before .decode-word in
     let t = c .before .before .before .before .before .before .before in
     let a = t .args in
-    decoded-high (a .x) (a .y) (a .v) (a .w) (t .pre .0) (t .pre .2) (t .pre .4 .vSmall) (t .pre .4 .wSmall) (c .before .before .before .decode-word .result) (c .before .before .before .decode-word .ensures) (t .pre .1) (t .pre .3)
+    decoded-high (a .x) (a .y) (a .v) (a .w) (t .pre .0) (t .pre .2) (t .pre .4 .vSmall) (t .pre .4 .wSmall) (decode-word .result) (decode-word .ensures) (t .pre .1) (t .pre .3)
 
 put-requires : tie.Need-put-requires
 put-requires c κs =
+    let decode-word = c .before .before .before .before .decode-word in
     let t = c .before .before .before .before .before .before .before .before in
     let a = t .args in
-    let p = decoded-pair (a .x) (a .y) (a .v) (a .w) (t .pre .0) (t .pre .2) (t .pre .4 .vSmall) (t .pre .4 .wSmall) (c .before .before .before .before .decode-word .result) (c .before .before .before .before .decode-word .ensures) (a .forced) (a .c .state) in
+    let p = decoded-pair (a .x) (a .y) (a .v) (a .w) (t .pre .0) (t .pre .2) (t .pre .4 .vSmall) (t .pre .4 .wSmall) (decode-word .result) (decode-word .ensures) (a .forced) (a .c .state) in
     let n = c .before .taken-bits .ensures in
     (omega (arith, n .1), rw (n .0, c .taken-of .ensures) (p .small), t .pre .4 .bytes, t .pre .4 .waits)
 

@@ -80,8 +80,15 @@ same-length c = search needs
 
 returns : tie.Need-returns
 returns c =
-    stored64 (c .before .before .before .before .before .before .before .before .before .args .bytes .now) (c .before .before .before .before .before .before .before .before .before .args .i) (c .before .before .before .before .before .before .before .before .before .args .w) _ _ _ _ _ _ _ _ (search needs) (c .before .before .before .before .before .before .before .low8 .ensures) (c .before .before .before .before .before .before .low82 .ensures) (c .before .before .before .before .before .low83 .ensures)
-    (c .before .before .before .before .low84 .ensures) (c .before .before .before .low85 .ensures) (c .before .before .low86 .ensures) (c .before .low87 .ensures) (c .low88 .ensures)
+    let start = c .before .before .before .before .before .before .before .before .before in
+    let low8 = c .before .before .before .before .before .before .before .low8 in
+    let low82 = c .before .before .before .before .before .before .low82 in
+    let low83 = c .before .before .before .before .before .low83 in
+    let low84 = c .before .before .before .before .low84 in
+    let low85 = c .before .before .before .low85 in
+    let low86 = c .before .before .low86 in
+    stored64 (start .args .bytes .now) (start .args .i) (start .args .w) _ _ _ _ _ _ _ _ (search needs) (low8 .ensures) (low82 .ensures) (low83 .ensures)
+    (low84 .ensures) (low85 .ensures) (low86 .ensures) (c .before .low87 .ensures) (c .low88 .ensures)
 
 pub store64-spec : {M : Type 1} → statement M
 store64-spec =

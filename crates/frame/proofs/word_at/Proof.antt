@@ -56,7 +56,12 @@ add-result-4 : tie.Need-add-result-4
 add-result-4 c = search needs
 
 returns : tie.Need-returns
-returns c = num-word40 (c .before .before .before .before .before .before .args .bytes .now) (c .before .before .before .before .before .before .args .i) _ _ _ _ (c .before .before .before .before .byte-at .ensures) (c .before .before .before .byte-at2 .ensures) (c .before .before .byte-at3 .ensures) (c .before .byte-at4 .ensures) _ (c .byte-at5 .ensures)
+returns c =
+    let start = c .before .before .before .before .before .before in
+    let byte-at = c .before .before .before .before .byte-at in
+    let byte-at2 = c .before .before .before .byte-at2 in
+    let byte-at3 = c .before .before .byte-at3 in
+    num-word40 (start .args .bytes .now) (start .args .i) _ _ _ _ (byte-at .ensures) (byte-at2 .ensures) (byte-at3 .ensures) (c .before .byte-at4 .ensures) _ (c .byte-at5 .ensures)
 
 pub word-at-spec : {M : Type 1} → statement M
 word-at-spec =

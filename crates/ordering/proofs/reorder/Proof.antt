@@ -33,12 +33,15 @@ returns-2 c =
 
 write-order-requires : tie.Need-write-order-requires
 write-order-requires c κs =
+    let s2 = c .before .before .before .before .before .s2 in
+    let if1 = c .before .before .before .if1 in
+    let if2 = c .before .before .if2 in
     let a = c .before .before .before .before .before .before .before .before .before .before .before .before .before .args in
     let z = c .before .before .before .before .before .before .before .size-tables in
-    let e = c .before .before .before .before .before .s2 .given .1 in
+    let e = s2 .given .1 in
     let h = rw e at (z .ensures .shares) in
     let k = accepted-tables (tables (a .mode) (now (a .bits)) (now (a .gains)) (now (a .tones))) (number-none (ap sizedVerdict (sym e) ∙ z .ensures .answer)) in
-    record { room = record { tonesFit = omega (arith, c .before .before .before .if1 .left); bitsFit = omega (arith, c .before .before .if2 .left) }; below = k .tonesBelow; entriesAre = h .0; sharersAre = h .1; even = h .2 }
+    record { room = record { tonesFit = omega (arith, if1 .left); bitsFit = omega (arith, if2 .left) }; below = k .tonesBelow; entriesAre = h .0; sharersAre = h .1; even = h .2 }
 
 returns-3 : tie.Need-returns-3
 returns-3 c = reorder-refused _ _ _ _ (ap sizedVerdict (sym (c .before .s .given .1)) ∙ c .before .before .before .size-tables .ensures .answer)
@@ -51,9 +54,13 @@ same-length-2 c = search needs
 
 returns-4 : tie.Need-returns-4
 returns-4 c =
-    let e = ap sizedVerdict (sym (c .before .before .before .before .before .before .before .before .before .before .s2 .given .1)) ∙ c .before .before .before .before .before .before .before .before .before .before .before .before .size-tables .ensures .answer in
+    let size-tables = c .before .before .before .before .before .before .before .before .before .before .before .before .size-tables in
+    let s2 = c .before .before .before .before .before .before .before .before .before .before .s2 in
+    let if1 = c .before .before .before .before .before .before .before .before .if1 in
+    let if2 = c .before .before .before .before .before .before .before .if2 in
+    let e = ap sizedVerdict (sym (s2 .given .1)) ∙ size-tables .ensures .answer in
     let w = c .before .before .before .before .write-order in
-    reordered _ _ _ e (omega (arith, c .before .before .before .before .before .before .before .before .if1 .left)) (omega (arith, c .before .before .before .before .before .before .before .if2 .left)) (w .kept .1 .1 .1 .1 .1 .0) (w .kept .1 .1 .1 .1 .1 .1 .0) (w .ensures)
+    reordered _ _ _ e (omega (arith, if1 .left)) (omega (arith, if2 .left)) (w .kept .1 .1 .1 .1 .1 .0) (w .kept .1 .1 .1 .1 .1 .1 .0) (w .ensures)
 
 pub reorder-spec : {M : Type 1} → statement M
 reorder-spec =

@@ -14,18 +14,21 @@ least-own-requires c κs = search needs
 
 file-tones-requires : tie.Need-file-tones-requires
 file-tones-requires c κs =
+    let layout-table = c .before .before .before .before .before .before .layout-table in
+    let least-own-2 = c .before .before .before .before .before .least-own in
     let s = c .before .before .before .before .before .before .before .before .before .before .before .before .before .before in
-    (record { arrays = s .pre .arrays; below = s .pre .below; bitsMost = s .pre .bitsMost; gains = s .pre .gains; most = s .pre .most; leastIs = rw (c .before .before .before .before .before .least-own .ensures) (least-own (s .args .mode)) }, c .before .before .before .before .before .before .layout-table .ensures)
+    (record { arrays = s .pre .arrays; below = s .pre .below; bitsMost = s .pre .bitsMost; gains = s .pre .gains; most = s .pre .most; leastIs = rw (least-own-2 .ensures) (least-own (s .args .mode)) }, layout-table .ensures)
 
 array-read-share-entries : tie.Need-array-read-share-entries
 array-read-share-entries c = search needs
 
 share-entries-requires : tie.Need-share-entries-requires
 share-entries-requires c κs =
+    let least-own = c .before .before .before .before .before .before .before .before .before .before .before .before .before .before .before .before .before .least-own in
     let s = c .before .before .before .before .before .before .before .before .before .before .before .before .before .before .before .before .before .before .before .before .before .before .before .before .before .before in
     let a = s .args in
     let f = c .before .before .before .before .before .before .before .before .before .before .before .file-tones in
-    let g = rw (c .before .before .before .before .before .before .before .before .before .before .before .before .before .before .before .before .before .least-own .ensures) at (f .ensures) in
+    let g = rw (least-own .ensures) at (f .ensures) in
     let n = placed-count (a .mode) (a .bits .now) (a .gains .now) (a .tones .now) in
     record {
       layoutsLength = f .kept .1 .1 .1 .1 .1 .0 ∙ s .pre .arrays .layoutsLength;
@@ -37,10 +40,11 @@ share-entries-requires c κs =
 
 add-t37 : tie.Need-add-t37
 add-t37 c =
+    let least-own = c .before .before .before .before .before .before .before .before .before .before .before .before .before .before .before .before .before .before .before .before .before .before .before .before .least-own in
     let s = c .before .before .before .before .before .before .before .before .before .before .before .before .before .before .before .before .before .before .before .before .before .before .before .before .before .before .before .before .before .before .before .before .before in
     let a = s .args in
     let f = c .before .before .before .before .before .before .before .before .before .before .before .before .before .before .before .before .before .before .file-tones in
-    let g = rw (c .before .before .before .before .before .before .before .before .before .before .before .before .before .before .before .before .before .before .before .before .before .before .before .before .least-own .ensures) at (f .ensures) in
+    let g = rw (least-own .ensures) at (f .ensures) in
     let n = placed-count (a .mode) (a .bits .now) (a .gains .now) (a .tones .now) in
     omega (arith, g .placeIs, g .entryMost, s .pre .sharersAre, s .pre .most)
 
@@ -58,12 +62,14 @@ same-length-4 c = search needs
 
 returns : tie.Need-returns
 returns c =
+    let layout-table = c .before .before .before .before .before .before .before .before .before .before .before .before .before .before .before .before .before .before .before .before .before .before .before .before .before .layout-table in
+    let least-own = c .before .before .before .before .before .before .before .before .before .before .before .before .before .before .before .before .before .before .before .before .before .before .before .before .least-own in
     let s = c .before .before .before .before .before .before .before .before .before .before .before .before .before .before .before .before .before .before .before .before .before .before .before .before .before .before .before .before .before .before .before .before .before in
     let a = s .args in
     let f = c .before .before .before .before .before .before .before .before .before .before .before .before .before .before .before .before .before .before .file-tones in
     let h = c .before .before .before .before .before .before .share-entries in
-    let g = rw (c .before .before .before .before .before .before .before .before .before .before .before .before .before .before .before .before .before .before .before .before .before .before .before .before .least-own .ensures) at (f .ensures) in
-    let t = c .before .before .before .before .before .before .before .before .before .before .before .before .before .before .before .before .before .before .before .before .before .before .before .before .before .layout-table .ensures in (
+    let g = rw (least-own .ensures) at (f .ensures) in
+    let t = layout-table .ensures in (
       plan-is (a .mode) (a .bits .now) (a .gains .now) (a .tones .now) (a .sharers) (a .size) (f .result) (f .last .1 .1 .1 .1 .1 .0) (f .last .1 .1 .1 .1 .1 .1 .0) (f .last .1 .1 .1 .1 .1 .1 .1 .0) (f .last .1 .1 .1 .1 .1 .1 .1 .1 .0)
           (h .last .1 .1 .1 .1 .0) (h .last .1 .1 .1 .1 .1 .0) (h .last .1 .1 .1 .1 .1 .1 .0) (s .pre .sharersAre) (s .pre .even) g (rw t at (h .ensures)),
       refl,

@@ -48,9 +48,10 @@ same-length-4 c = search needs
 
 returns-2 : tie.Need-returns-2
 returns-2 c =
+    let s2 = c .before .before .before .before .before .before .before .before .before .before .before .before .before .before .s2 in
     let z = c .before .before .before .before .before .before .before .before .before .before .before .before .before .before .before .before .size-tables in
     let f = c .before .before .before .before .before .before .before .before .file-plan in
-    record { answer = ap accepted (f .ensures .1) ∙ ap sizedVerdict (sym (c .before .before .before .before .before .before .before .before .before .before .before .before .before .before .s2 .given .1)) ∙ z .ensures .answer; made = f .ensures .0 }
+    record { answer = ap accepted (f .ensures .1) ∙ ap sizedVerdict (sym (s2 .given .1)) ∙ z .ensures .answer; made = f .ensures .0 }
 
 pub plan-tables-spec : {M : Type 1} → statement M
 plan-tables-spec =

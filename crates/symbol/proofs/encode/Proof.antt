@@ -48,20 +48,24 @@ slice-aggregate-write-symbol-5 c = search needs
 
 write-symbol-requires : tie.Need-write-symbol-requires
 write-symbol-requires c κs =
+    let start = c .before .before .before .before .before .before .before .before .before .before .before .before .before .before .before .before .before .before .before .before .before .before .before .before in
+    let plan-tables = c .before .before .before .before .before .before .before .before .before .before .before .before .before .before .before .plan-tables in
+    let check-inputs = c .before .before .before .before .before .before .before .before .before .before .check-inputs in
+    let checked2 = c .before .before .before .before .before .before .before .before .checked2 in
     symbol-needs
     (record {
-      layoutsLength = c .before .before .before .before .before .before .before .before .before .before .before .before .before .before .before .plan-tables .kept .1 .1 .1 .1 .0;
-      entriesLength = c .before .before .before .before .before .before .before .before .before .before .before .before .before .before .before .plan-tables .kept .1 .1 .1 .1 .1 .0;
-      placesLength = c .before .before .before .before .before .before .before .before .before .before .before .before .before .before .before .plan-tables .kept .1 .1 .1 .1 .1 .1 .0;
-      monitoredLength = c .before .before .before .before .before .before .before .before .before .before .before .before .before .before .before .plan-tables .kept .1 .1 .1 .1 .1 .1 .1 .0;
+      layoutsLength = plan-tables .kept .1 .1 .1 .1 .0;
+      entriesLength = plan-tables .kept .1 .1 .1 .1 .1 .0;
+      placesLength = plan-tables .kept .1 .1 .1 .1 .1 .1 .0;
+      monitoredLength = plan-tables .kept .1 .1 .1 .1 .1 .1 .1 .0;
     })
     (replicate 4096 0)
     refl
-    (c .before .before .before .before .before .before .before .before .before .before .before .before .before .before .before .before .before .before .before .before .before .before .before .before .args .register)
+    (start .args .register)
     (passed
-    (c .before .before .before .before .before .before .before .before .before .before .before .before .before .before .before .plan-tables .ensures)
-    (c .before .before .before .before .before .before .before .before .before .before .check-inputs .ensures)
-    (c .before .before .before .before .before .before .before .before .checked2 .given .1))
+    (plan-tables .ensures)
+    (check-inputs .ensures)
+    (checked2 .given .1))
 
 returns : tie.Need-returns
 returns c =
@@ -78,21 +82,26 @@ same-length-2 c = search needs
 
 returns-2 : tie.Need-returns-2
 returns-2 c =
+    let start = c .before .before .before .before .before .before .before .before .before .before .before .before .before .before .before .before .before .before .before .before .before .before .before .before .before .before .before .before in
+    let plan-tables = c .before .before .before .before .before .before .before .before .before .before .before .before .before .before .before .before .before .before .before .plan-tables in
+    let check-inputs = c .before .before .before .before .before .before .before .before .before .before .before .before .before .before .check-inputs in
+    let checked2 = c .before .before .before .before .before .before .before .before .before .before .before .before .checked2 in
+    let write-symbol = c .before .before .before .write-symbol in
     encode-written
     (record {
-      layoutsLength = c .before .before .before .before .before .before .before .before .before .before .before .before .before .before .before .before .before .before .before .plan-tables .kept .1 .1 .1 .1 .0;
-      entriesLength = c .before .before .before .before .before .before .before .before .before .before .before .before .before .before .before .before .before .before .before .plan-tables .kept .1 .1 .1 .1 .1 .0;
-      placesLength = c .before .before .before .before .before .before .before .before .before .before .before .before .before .before .before .before .before .before .before .plan-tables .kept .1 .1 .1 .1 .1 .1 .0;
-      monitoredLength = c .before .before .before .before .before .before .before .before .before .before .before .before .before .before .before .before .before .before .before .plan-tables .kept .1 .1 .1 .1 .1 .1 .1 .0;
+      layoutsLength = plan-tables .kept .1 .1 .1 .1 .0;
+      entriesLength = plan-tables .kept .1 .1 .1 .1 .1 .0;
+      placesLength = plan-tables .kept .1 .1 .1 .1 .1 .1 .0;
+      monitoredLength = plan-tables .kept .1 .1 .1 .1 .1 .1 .1 .0;
     })
     (replicate 4096 0)
     refl
-    (c .before .before .before .before .before .before .before .before .before .before .before .before .before .before .before .before .before .before .before .before .before .before .before .before .before .before .before .before .args .register)
+    (start .args .register)
     (passed
-    (c .before .before .before .before .before .before .before .before .before .before .before .before .before .before .before .before .before .before .before .plan-tables .ensures)
-    (c .before .before .before .before .before .before .before .before .before .before .before .before .before .before .check-inputs .ensures)
-    (c .before .before .before .before .before .before .before .before .before .before .before .before .checked2 .given .1))
-    (c .before .before .before .write-symbol .ensures)
+    (plan-tables .ensures)
+    (check-inputs .ensures)
+    (checked2 .given .1))
+    (write-symbol .ensures)
 
 pub encode-spec : {M : Type 1} → statement M
 encode-spec =

@@ -51,21 +51,25 @@ slice-aggregate-read-symbol-6 c = search needs
 
 read-symbol-requires : tie.Need-read-symbol-requires
 read-symbol-requires c κs =
+    let start = c .before .before .before .before .before .before .before .before .before .before .before .before .before .before .before .before .before .before .before .before .before .before .before .before in
+    let plan-tables = c .before .before .before .before .before .before .before .before .before .before .before .before .before .before .before .plan-tables in
+    let check-inputs = c .before .before .before .before .before .before .before .before .before .before .check-inputs in
+    let checked2 = c .before .before .before .before .before .before .before .before .checked2 in
     read-needs
     (record {
-      layoutsLength = c .before .before .before .before .before .before .before .before .before .before .before .before .before .before .before .plan-tables .kept .1 .1 .1 .1 .0;
-      entriesLength = c .before .before .before .before .before .before .before .before .before .before .before .before .before .before .before .plan-tables .kept .1 .1 .1 .1 .1 .0;
-      placesLength = c .before .before .before .before .before .before .before .before .before .before .before .before .before .before .before .plan-tables .kept .1 .1 .1 .1 .1 .1 .0;
-      monitoredLength = c .before .before .before .before .before .before .before .before .before .before .before .before .before .before .before .plan-tables .kept .1 .1 .1 .1 .1 .1 .1 .0;
+      layoutsLength = plan-tables .kept .1 .1 .1 .1 .0;
+      entriesLength = plan-tables .kept .1 .1 .1 .1 .1 .0;
+      placesLength = plan-tables .kept .1 .1 .1 .1 .1 .1 .0;
+      monitoredLength = plan-tables .kept .1 .1 .1 .1 .1 .1 .1 .0;
     })
     (replicate 4096 0)
     refl
-    (c .before .before .before .before .before .before .before .before .before .before .before .before .before .before .before .before .before .before .before .before .before .before .before .before .args .register)
+    (start .args .register)
     refl
     (passed
-    (c .before .before .before .before .before .before .before .before .before .before .before .before .before .before .before .plan-tables .ensures)
-    (c .before .before .before .before .before .before .before .before .before .before .check-inputs .ensures)
-    (c .before .before .before .before .before .before .before .before .checked2 .given .1))
+    (plan-tables .ensures)
+    (check-inputs .ensures)
+    (checked2 .given .1))
 
 returns : tie.Need-returns
 returns c =
@@ -79,22 +83,27 @@ same-length c = search needs
 
 returns-2 : tie.Need-returns-2
 returns-2 c =
+    let start = c .before .before .before .before .before .before .before .before .before .before .before .before .before .before .before .before .before .before .before .before .before .before .before .before .before .before .before .before .before in
+    let plan-tables = c .before .before .before .before .before .before .before .before .before .before .before .before .before .before .before .before .before .before .before .before .plan-tables in
+    let check-inputs = c .before .before .before .before .before .before .before .before .before .before .before .before .before .before .before .check-inputs in
+    let checked2 = c .before .before .before .before .before .before .before .before .before .before .before .before .before .checked2 in
+    let read-symbol = c .before .before .before .before .read-symbol in
     read-done
     (record {
-      layoutsLength = c .before .before .before .before .before .before .before .before .before .before .before .before .before .before .before .before .before .before .before .before .plan-tables .kept .1 .1 .1 .1 .0;
-      entriesLength = c .before .before .before .before .before .before .before .before .before .before .before .before .before .before .before .before .before .before .before .before .plan-tables .kept .1 .1 .1 .1 .1 .0;
-      placesLength = c .before .before .before .before .before .before .before .before .before .before .before .before .before .before .before .before .before .before .before .before .plan-tables .kept .1 .1 .1 .1 .1 .1 .0;
-      monitoredLength = c .before .before .before .before .before .before .before .before .before .before .before .before .before .before .before .before .before .before .before .before .plan-tables .kept .1 .1 .1 .1 .1 .1 .1 .0;
+      layoutsLength = plan-tables .kept .1 .1 .1 .1 .0;
+      entriesLength = plan-tables .kept .1 .1 .1 .1 .1 .0;
+      placesLength = plan-tables .kept .1 .1 .1 .1 .1 .1 .0;
+      monitoredLength = plan-tables .kept .1 .1 .1 .1 .1 .1 .1 .0;
     })
     (replicate 4096 0)
     refl
-    (c .before .before .before .before .before .before .before .before .before .before .before .before .before .before .before .before .before .before .before .before .before .before .before .before .before .before .before .before .before .args .register)
+    (start .args .register)
     refl
     (passed
-    (c .before .before .before .before .before .before .before .before .before .before .before .before .before .before .before .before .before .before .before .before .plan-tables .ensures)
-    (c .before .before .before .before .before .before .before .before .before .before .before .before .before .before .before .check-inputs .ensures)
-    (c .before .before .before .before .before .before .before .before .before .before .before .before .before .checked2 .given .1))
-    (c .before .before .before .before .read-symbol .ensures)
+    (plan-tables .ensures)
+    (check-inputs .ensures)
+    (checked2 .given .1))
+    (read-symbol .ensures)
 
 pub read-spec : {M : Type 1} → statement M
 read-spec =

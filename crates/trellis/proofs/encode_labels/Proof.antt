@@ -23,20 +23,23 @@ code-first-requires c κs =
 
 put-entry-requires : tie.Need-put-entry-requires
 put-entry-requires c κs =
+    let if1 = c .before .before .before .before .if1 in
+    let code-first = c .before .before .code-first in
     let s = c .before .before .before .before .before .before .before .before .before in
     let a = s .args in
     let y = c .before .before .before .entry in
-    let q = first-needs (a .frame .now) (a .start) (a .entries .now) (labelsAt (a .places .now) (a .labels .now)) (s .pre .0) (placed-length (s .pre .1)) (y .result) (c .before .before .before .before .if1 .taken) (y .ensures) in
-    (omega (arith, s .pre .0 .few, s .pre .1 .same), lt-of-lt-of-le (c .before .before .code-first .ensures .wSmall) (pow-mono {j = 16} (omega arith)), s .pre .1 .rising)
+    let q = first-needs (a .frame .now) (a .start) (a .entries .now) (labelsAt (a .places .now) (a .labels .now)) (s .pre .0) (placed-length (s .pre .1)) (y .result) (if1 .taken) (y .ensures) in
+    (omega (arith, s .pre .0 .few, s .pre .1 .same), lt-of-lt-of-le (code-first .ensures .wSmall) (pow-mono {j = 16} (omega arith)), s .pre .1 .rising)
 
 code-from-requires : tie.Need-code-from-requires
 code-from-requires c κs =
+    let if1 = c .before .before .before .before .before .before .before .before .if1 in
     let s = c .before .before .before .before .before .before .before .before .before .before .before .before .before in
     let a = s .args in
     let y = c .before .before .before .before .before .before .before .entry in
     let p = c .before .before .before .before .before .before .code-first in
     let w = c .before .before .before .put-entry in
-    let n = odd-needs (a .frame .now) (a .start) (a .entries .now) (labelsAt (a .places .now) (a .labels .now)) (s .pre .0) (placed-length (s .pre .1)) (y .result) (c .before .before .before .before .before .before .before .before .if1 .taken) (y .ensures) (p .result) (p .ensures) in
+    let n = odd-needs (a .frame .now) (a .start) (a .entries .now) (labelsAt (a .places .now) (a .labels .now)) (s .pre .0) (placed-length (s .pre .1)) (y .result) (if1 .taken) (y .ensures) (p .result) (p .ensures) in
     let placed : Placed (a .entries .now) (a .places .now) (w .last .0) = record { same = s .pre .1 .same; rising = rw (w .kept .0) (s .pre .1 .rising) } in
     (s .pre .0 .wide, s .pre .0 .many, placed, rw (w .ensures) n)
 
@@ -45,13 +48,14 @@ same-length c = c .before .before .code-from .kept .1 .1 .1 .1 .1 .0 ∙ c .befo
 
 returns : tie.Need-returns
 returns c =
+    let if1 = c .before .before .before .before .before .before .before .before .before .before .before .if1 in
     let s = c .before .before .before .before .before .before .before .before .before .before .before .before .before .before .before .before in
     let a = s .args in
     let y = c .before .before .before .before .before .before .before .before .before .before .entry in
     let p = c .before .before .before .before .before .before .before .before .before .code-first in
     let w = c .before .before .before .before .before .before .put-entry in
     let f = c .before .before .code-from in
-    odd-coded (a .frame .now) (a .start) (a .entries .now) (labelsAt (a .places .now) (a .labels .now)) (s .pre .0) (placed-length (s .pre .1)) (y .result) (c .before .before .before .before .before .before .before .before .before .before .before .if1 .taken) (y .ensures) (p .result) (p .ensures)
+    odd-coded (a .frame .now) (a .start) (a .entries .now) (labelsAt (a .places .now) (a .labels .now)) (s .pre .0) (placed-length (s .pre .1)) (y .result) (if1 .taken) (y .ensures) (p .result) (p .ensures)
     (labelsAt (a .places .now) (f .last .1 .1 .1 .1 .1 .0)) (rw (w .ensures) at (f .ensures))
 
 zero-state-requires : tie.Need-zero-state-requires
@@ -59,9 +63,10 @@ zero-state-requires c κs = search needs
 
 code-from-requires-2 : tie.Need-code-from-requires-2
 code-from-requires-2 c κs =
+    let if1 = c .before .before .if1 in
     let s = c .before .before .before .before .before .before .before in
     let a = s .args in
-    (s .pre .0 .wide, s .pre .0 .many, s .pre .1, rw (c .before .zero-state .ensures) (even-needs (a .frame .now) (a .start) (a .entries .now) (labelsAt (a .places .now) (a .labels .now)) (s .pre .0) (placed-length (s .pre .1)) (c .before .before .if1 .left)))
+    (s .pre .0 .wide, s .pre .0 .many, s .pre .1, rw (c .before .zero-state .ensures) (even-needs (a .frame .now) (a .start) (a .entries .now) (labelsAt (a .places .now) (a .labels .now)) (s .pre .0) (placed-length (s .pre .1)) (if1 .left)))
 
 same-length-2 : tie.Need-same-length-2
 same-length-2 c = c .before .before .code-from2 .kept .1 .1 .1 .1 .1 .0

@@ -31,17 +31,22 @@ pick-requires c κs = search needs
 
 returns : tie.Need-returns
 returns c =
+    let axis-bits = c .before .before .before .before .before .before .before .before .before .axis-bits in
+    let axis-bits2 = c .before .before .before .before .before .before .before .before .axis-bits2 in
+    let word-of = c .before .before .before .before .before .before .before .word-of in
+    let top-of = c .before .before .before .before .before .before .top-of in
+    let label-below = c .before .before .before .before .before .label-below in
     let s = c .before .before .before .before .before .before .before .before .before .before in
     let x = s .args .x in
     let y = s .args .y in
     let o = rw (toZ-ofZ w16 x (s .fits .x), toZ-ofZ w16 y (s .fits .y)) at (c .before .is-origin .ensures) in
-    let ax = rw (toZ-ofZ w16 x (s .fits .x)) at (c .before .before .before .before .before .before .before .before .before .axis-bits .ensures) in
-    let ay = rw (toZ-ofZ w16 y (s .fits .y)) at (c .before .before .before .before .before .before .before .before .axis-bits2 .ensures) in
-    let a = c .before .before .before .before .before .before .before .before .before .axis-bits .result in
-    let b = c .before .before .before .before .before .before .before .before .axis-bits2 .result in
-    let t = c .before .before .before .before .before .before .top-of .result in
-    demaps-law (s .args .layout) x y (a .bits) (b .bits) (c .before .before .before .before .before .before .before .word-of .result) (t .three) (c .before .before .before .before .before .label-below .result) (a .on) (b .on) (t .on)
-    (c .before .is-origin .result) ax ay (c .before .before .before .before .before .before .before .word-of .ensures) (c .before .before .before .before .before .before .top-of .ensures) (c .before .before .before .before .before .label-below .ensures) o (c .pick .result) (c .pick .ensures)
+    let ax = rw (toZ-ofZ w16 x (s .fits .x)) at (axis-bits .ensures) in
+    let ay = rw (toZ-ofZ w16 y (s .fits .y)) at (axis-bits2 .ensures) in
+    let a = axis-bits .result in
+    let b = axis-bits2 .result in
+    let t = top-of .result in
+    demaps-law (s .args .layout) x y (a .bits) (b .bits) (word-of .result) (t .three) (label-below .result) (a .on) (b .on) (t .on)
+    (c .before .is-origin .result) ax ay (word-of .ensures) (top-of .ensures) (label-below .ensures) o (c .pick .result) (c .pick .ensures)
 
 pub label-by-spec : {M : Type 1} → statement M
 label-by-spec =

@@ -11,7 +11,9 @@ pick-requires-2 : tie.Need-pick-requires-2
 pick-requires-2 c κs = search needs
 
 returns : tie.Need-returns
-returns c = tops-law (c .before .before .args .layout) (c .before .before .args .six) (c .before .pick .result) (c .pick2 .result) (c .before .before .pre) (c .before .pick .ensures) (c .pick2 .ensures)
+returns c =
+    let start = c .before .before in
+    tops-law (start .args .layout) (start .args .six) (c .before .pick .result) (c .pick2 .result) (start .pre) (c .before .pick .ensures) (c .pick2 .ensures)
 
 pub top-of-spec : {M : Type 1} → statement M
 top-of-spec = tie.close (tie.spec pick-requires pick-requires-2 returns)

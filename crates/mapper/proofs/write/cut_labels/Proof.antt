@@ -31,7 +31,11 @@ ahead-requires : tie.Need-ahead-requires Inv-loop μ-loop
 ahead-requires c κs = search needs
 
 lowest-by-requires : tie.Need-lowest-by-requires Inv-loop μ-loop
-lowest-by-requires c κs = (c .before .before .before .before .before .mask-table .ensures, omega (arith, c .before .before .before .before .before .before .before .before .before .before .pre .counts (c .before .before .before .before .loop .j)))
+lowest-by-requires c κs =
+    let start = c .before .before .before .before .before .before .before .before .before .before in
+    let mask-table = c .before .before .before .before .before .mask-table in
+    let loop = c .before .before .before .before .loop in
+    (mask-table .ensures, omega (arith, start .pre .counts (loop .j)))
 
 place-at-requires : tie.Need-place-at-requires Inv-loop μ-loop
 place-at-requires c κs = omega (arith, c .before .before .before .before .before .before .before .before .before .before .before .before .pre .same)
@@ -40,10 +44,16 @@ cast-put-label : tie.Need-cast-put-label Inv-loop μ-loop
 cast-put-label c = omega (arith, c .before .before .lowest-by .ensures .1)
 
 put-label-requires : tie.Need-put-label-requires Inv-loop μ-loop
-put-label-requires c κs = rw (c .place-at .ensures) (place-inside (c .before .before .before .before .before .before .before .before .before .before .before .before .before .pre) (c .before .before .before .before .before .before .before .loop .inv) (omega arith))
+put-label-requires c κs =
+    let start = c .before .before .before .before .before .before .before .before .before .before .before .before .before in
+    let loop = c .before .before .before .before .before .before .before .loop in
+    rw (c .place-at .ensures) (place-inside (start .pre) (loop .inv) (omega arith))
 
 add-at : tie.Need-add-at Inv-loop μ-loop
-add-at c = omega (arith, c .before .before .before .before .before .before .before .before .before .before .before .before .before .before .before .before .pre .small, next-inside (c .before .before .before .before .before .before .before .before .before .before .before .before .before .before .before .before .pre) (c .before .before .before .before .before .before .before .before .before .before .loop .inv) (omega arith))
+add-at c =
+    let start = c .before .before .before .before .before .before .before .before .before .before .before .before .before .before .before .before in
+    let loop = c .before .before .before .before .before .before .before .before .before .before .loop in
+    omega (arith, start .pre .small, next-inside (start .pre) (loop .inv) (omega arith))
 
 add-j : tie.Need-add-j Inv-loop μ-loop
 add-j c = search needs

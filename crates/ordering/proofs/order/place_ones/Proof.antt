@@ -18,7 +18,10 @@ abbrev μ-loop : tie.MeasureT-loop
 
 -- there is room for a 1-bit tone at place i
 room : (c : tie.After-bits-at Inv-loop μ-loop) → c .bits-at .result ≡ 1 → c .before .before .before .loop .one < length (now (c .before .before .before .before .before .before .before .args .reordered-tones))
-room c e = omega (arith, one-room (c .before .before .before .loop .inv .1) (c .before .tone-at .ensures) (c .bits-at .ensures) (omega arith) e, c .before .before .before .before .before .before .before .pre)
+room c e =
+    let start = c .before .before .before .before .before .before .before in
+    let loop = c .before .before .before .loop in
+    omega (arith, one-room (loop .inv .1) (c .before .tone-at .ensures) (c .bits-at .ensures) (omega arith) e, start .pre)
 
 loop-holds : tie.Need-loop-holds Inv-loop μ-loop
 loop-holds c = (refl, ones-start)
@@ -33,22 +36,38 @@ add-i : tie.Need-add-i Inv-loop μ-loop
 add-i c = search needs
 
 put-tone-requires : tie.Need-put-tone-requires Inv-loop μ-loop
-put-tone-requires c κs = (omega (arith, room (c .before .before) (c .before .if1 .taken)), omega (arith, c .before .before .before .tone-at .ensures, c .before .before .before .before .before .before .before .shared-slice-known2 .given (c .before .before .before .before .before .loop .i)))
+put-tone-requires c κs =
+    let shared-slice-known2 = c .before .before .before .before .before .before .before .shared-slice-known2 in
+    let loop = c .before .before .before .before .before .loop in
+    let tone-at = c .before .before .before .tone-at in
+    (omega (arith, room (c .before .before) (c .before .if1 .taken)), omega (arith, tone-at .ensures, shared-slice-known2 .given (loop .i)))
 
 add-one : tie.Need-add-one Inv-loop μ-loop
-add-one c = omega (arith, room (c .before .before .before .before .before) (c .before .before .before .before .if1 .taken), c .before .before .before .before .before .before .before .before .before .before .before .before .good)
+add-one c =
+    let start = c .before .before .before .before .before .before .before .before .before .before .before .before in
+    let if1 = c .before .before .before .before .if1 in
+    omega (arith, room (c .before .before .before .before .before) (if1 .taken), start .good)
 
 loop-less : tie.Need-loop-less Inv-loop μ-loop
 loop-less c = omega arith
 
 loop-again : tie.Need-loop-again Inv-loop μ-loop
-loop-again c = (c .before .before .put-tone .kept .0 ∙ c .before .before .before .before .before .before .before .before .loop .inv .0, one-more (c .before .before .before .before .before .before .before .before .loop .inv .1) (c .before .before .before .before .before .before .tone-at .ensures) (c .before .before .before .before .before .bits-at .ensures) (omega arith) (c .before .before .before .before .if1 .taken) (c .before .before .put-tone .ensures))
+loop-again c =
+    let loop = c .before .before .before .before .before .before .before .before .loop in
+    let tone-at = c .before .before .before .before .before .before .tone-at in
+    let bits-at = c .before .before .before .before .before .bits-at in
+    let if1 = c .before .before .before .before .if1 in
+    let put-tone = c .before .before .put-tone in
+    (put-tone .kept .0 ∙ loop .inv .0, one-more (loop .inv .1) (tone-at .ensures) (bits-at .ensures) (omega arith) (if1 .taken) (put-tone .ensures))
 
 loop-less-2 : tie.Need-loop-less-2 Inv-loop μ-loop
 loop-less-2 c = omega arith
 
 loop-again-2 : tie.Need-loop-again-2 Inv-loop μ-loop
-loop-again-2 c = (c .before .before .before .before .loop .inv .0, one-past (c .before .before .before .before .loop .inv .1) (c .before .before .tone-at .ensures) (c .before .bits-at .ensures) (omega arith) (c .if1 .left))
+loop-again-2 c =
+    let loop = c .before .before .before .before .loop in
+    let tone-at = c .before .before .tone-at in
+    (loop .inv .0, one-past (loop .inv .1) (tone-at .ensures) (c .before .bits-at .ensures) (omega arith) (c .if1 .left))
 
 same-length : tie.Need-same-length Inv-loop μ-loop
 same-length c = search needs

@@ -18,11 +18,17 @@ abbrev μ-loop : tie.MeasureT-loop
 
 -- there is room for the tone at place i, where it has not 1 bit,
 front-room : (c : tie.After-bits-of Inv-loop μ-loop) → (c .bits-of .result ≡ 1 → ⊥) → c .before .before .before .loop .other < length (now (c .before .before .before .before .before .before .before .before .args .reordered-tones))
-front-room c e = omega (arith, other-room (c .before .before .before .loop .inv .2) (c .before .tone-at .ensures) (c .bits-of .ensures) (omega arith) e, c .before .before .before .before .before .before .before .before .pre .tonesFit)
+front-room c e =
+    let start = c .before .before .before .before .before .before .before .before in
+    let loop = c .before .before .before .loop in
+    omega (arith, other-room (loop .inv .2) (c .before .tone-at .ensures) (c .bits-of .ensures) (omega arith) e, start .pre .tonesFit)
 
 -- and for its bits, where there are at least 2
 bits-room : (c : tie.After-bits-of Inv-loop μ-loop) → 2 ≤ c .bits-of .result → c .before .before .before .loop .at < length (now (c .before .before .before .before .before .before .before .before .args .reordered-bits))
-bits-room c e = omega (arith, big-room (c .before .before .before .loop .inv .2) (c .before .tone-at .ensures) (c .bits-of .ensures) (omega arith) e, c .before .before .before .before .before .before .before .before .pre .bitsFit)
+bits-room c e =
+    let start = c .before .before .before .before .before .before .before .before in
+    let loop = c .before .before .before .loop in
+    omega (arith, big-room (loop .inv .2) (c .before .tone-at .ensures) (c .bits-of .ensures) (omega arith) e, start .pre .bitsFit)
 
 -- else it has 1 bit
 single : (n : ℕ) → n < 2 → (n ≡ 0 → ⊥) → n ≡ 1
@@ -43,41 +49,64 @@ add-i : tie.Need-add-i Inv-loop μ-loop
 add-i c = search needs
 
 put-tone-requires : tie.Need-put-tone-requires Inv-loop μ-loop
-put-tone-requires c κs = (omega (arith, front-room (c .before .before) (λ e. omega (arith, c .before .if1 .taken))), omega (arith, c .before .before .before .tone-at .ensures, c .before .before .before .before .before .before .before .before .shared-slice-known2 .given (c .before .before .before .before .before .loop .i)))
+put-tone-requires c κs =
+    let shared-slice-known2 = c .before .before .before .before .before .before .before .before .shared-slice-known2 in
+    let loop = c .before .before .before .before .before .loop in
+    let tone-at = c .before .before .before .tone-at in
+    (omega (arith, front-room (c .before .before) (λ e. omega (arith, c .before .if1 .taken))), omega (arith, tone-at .ensures, shared-slice-known2 .given (loop .i)))
 
 add-other : tie.Need-add-other Inv-loop μ-loop
-add-other c = omega (arith, front-room (c .before .before .before .before .before) (λ e. omega (arith, c .before .before .before .before .if1 .taken)), c .before .before .before .before .before .before .before .before .before .before .before .before .before .good)
+add-other c =
+    let start = c .before .before .before .before .before .before .before .before .before .before .before .before .before in
+    let if1 = c .before .before .before .before .if1 in
+    omega (arith, front-room (c .before .before .before .before .before) (λ e. omega (arith, if1 .taken)), start .good)
 
 slice-write-reordered-bits : tie.Need-slice-write-reordered-bits Inv-loop μ-loop
 slice-write-reordered-bits c = omega (arith, bits-room (c .before .before .before .before .before) (c .before .before .before .before .if1 .taken))
 
 add-at : tie.Need-add-at Inv-loop μ-loop
-add-at c = omega (arith, bits-room (c .before .before .before .before .before) (c .before .before .before .before .if1 .taken), c .before .before .before .before .before .before .before .before .before .before .before .before .before .good)
+add-at c =
+    let start = c .before .before .before .before .before .before .before .before .before .before .before .before .before in
+    let if1 = c .before .before .before .before .if1 in
+    omega (arith, bits-room (c .before .before .before .before .before) (if1 .taken), start .good)
 
 loop-less : tie.Need-loop-less Inv-loop μ-loop
 loop-less c = omega arith
 
 loop-again : tie.Need-loop-again Inv-loop μ-loop
 loop-again c =
+    let tone-at = c .before .before .before .before .before .before .tone-at in
+    let if1 = c .before .before .before .before .if1 in
     let l = c .before .before .before .before .before .before .before .before .loop in
     let p = c .before .before .put-tone in
     let v = c .before .before .before .before .before .bits-of in
-    (p .kept .0 ∙ l .inv .0, length-set (l .reordered-bits) (l .at) (v .result) ∙ l .inv .1, ahead-big (l .inv .2) (c .before .before .before .before .before .before .tone-at .ensures) (v .ensures) (omega arith) (λ e. omega (arith, c .before .before .before .before .if1 .taken)) (p .ensures) (c .before .before .before .before .if1 .taken))
+    (p .kept .0 ∙ l .inv .0, length-set (l .reordered-bits) (l .at) (v .result) ∙ l .inv .1, ahead-big (l .inv .2) (tone-at .ensures) (v .ensures) (omega arith) (λ e. omega (arith, if1 .taken)) (p .ensures) (if1 .taken))
 
 put-tone-requires-2 : tie.Need-put-tone-requires-2 Inv-loop μ-loop
-put-tone-requires-2 c κs = (omega (arith, front-room (c .before .before .before) (λ e. omega (arith, c .before .if2 .taken))), omega (arith, c .before .before .before .before .tone-at .ensures, c .before .before .before .before .before .before .before .before .before .shared-slice-known2 .given (c .before .before .before .before .before .before .loop .i)))
+put-tone-requires-2 c κs =
+    let shared-slice-known2 = c .before .before .before .before .before .before .before .before .before .shared-slice-known2 in
+    let loop = c .before .before .before .before .before .before .loop in
+    let tone-at = c .before .before .before .before .tone-at in
+    (omega (arith, front-room (c .before .before .before) (λ e. omega (arith, c .before .if2 .taken))), omega (arith, tone-at .ensures, shared-slice-known2 .given (loop .i)))
 
 add-other-2 : tie.Need-add-other-2 Inv-loop μ-loop
-add-other-2 c = omega (arith, front-room (c .before .before .before .before .before .before) (λ e. omega (arith, c .before .before .before .before .if2 .taken)), c .before .before .before .before .before .before .before .before .before .before .before .before .before .before .good)
+add-other-2 c =
+    let start = c .before .before .before .before .before .before .before .before .before .before .before .before .before .before in
+    let if2 = c .before .before .before .before .if2 in
+    omega (arith, front-room (c .before .before .before .before .before .before) (λ e. omega (arith, if2 .taken)), start .good)
 
 loop-less-2 : tie.Need-loop-less-2 Inv-loop μ-loop
 loop-less-2 c = omega arith
 
 loop-again-2 : tie.Need-loop-again-2 Inv-loop μ-loop
 loop-again-2 c =
+    let tone-at = c .before .before .before .before .before .before .before .tone-at in
+    let bits-of = c .before .before .before .before .before .before .bits-of in
+    let if1 = c .before .before .before .before .before .if1 in
+    let if2 = c .before .before .before .before .if2 in
     let l = c .before .before .before .before .before .before .before .before .before .loop in
     let p = c .before .before .put-tone2 in
-    (p .kept .0 ∙ l .inv .0, l .inv .1, ahead-zero (l .inv .2) (c .before .before .before .before .before .before .before .tone-at .ensures) (c .before .before .before .before .before .before .bits-of .ensures) (omega arith) (λ e. omega (arith, c .before .before .before .before .if2 .taken)) (p .ensures) (c .before .before .before .before .before .if1 .left))
+    (p .kept .0 ∙ l .inv .0, l .inv .1, ahead-zero (l .inv .2) (tone-at .ensures) (bits-of .ensures) (omega arith) (λ e. omega (arith, if2 .taken)) (p .ensures) (if1 .left))
 
 loop-less-3 : tie.Need-loop-less-3 Inv-loop μ-loop
 loop-less-3 c = omega arith

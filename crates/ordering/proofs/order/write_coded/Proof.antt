@@ -46,16 +46,19 @@ sub-place-ones c = within (c .before .before .before .before .before .before .be
 
 place-ones-requires : tie.Need-place-ones-requires
 place-ones-requires c κs =
+    let place-others = c .before .before .before .before .before .place-others in
     let s = c .before .before .before .before .before .before .before .before .before .before .before .before .before .before .before .before in
-    omega (arith, length-singles (now (s .args .bits)) (now (s .args .tones)), within s, s .pre .0 .onesIs, s .pre .1 .tonesFit, c .before .before .before .before .before .place-others .kept .1 .1 .1 .0)
+    omega (arith, length-singles (now (s .args .bits)) (now (s .args .tones)), within s, s .pre .0 .onesIs, s .pre .1 .tonesFit, place-others .kept .1 .1 .1 .0)
 
 sub-fill : tie.Need-sub-fill
 sub-fill c = omega (arith, within (c .before .before .before .before .before .before .before .before .before .before .before .before .before .before .before .before .before .before .before .before))
 
 fill-requires-2 : tie.Need-fill-requires-2
 fill-requires-2 c κs =
+    let fill = c .before .before .before .before .before .before .before .before .before .before .before .before .before .before .fill in
+    let place-others = c .before .before .before .before .before .before .before .before .before .place-others in
     let s = c .before .before .before .before .before .before .before .before .before .before .before .before .before .before .before .before .before .before .before .before in
-    omega (arith, within s, s .pre .1 .bitsFit, c .before .before .before .before .before .before .before .before .before .before .before .before .before .before .fill .kept .0, c .before .before .before .before .before .before .before .before .before .place-others .kept .1 .1 .1 .1 .0)
+    omega (arith, within s, s .pre .1 .bitsFit, fill .kept .0, place-others .kept .1 .1 .1 .1 .0)
 
 same-length : tie.Need-same-length
 same-length c = search needs
@@ -65,13 +68,17 @@ same-length-2 c = search needs
 
 returns : tie.Need-returns
 returns c =
+    let fill = c .before .before .before .before .before .before .before .before .before .before .before .before .before .before .before .before .before .fill in
+    let place-others = c .before .before .before .before .before .before .before .before .before .before .before .before .place-others in
+    let place-ones = c .before .before .before .before .before .before .place-ones in
+    let fill2 = c .before .before .fill2 in
     let s = c .before .before .before .before .before .before .before .before .before .before .before .before .before .before .before .before .before .before .before .before .before .before .before in
     let b = now (s .args .bits) in
     let t = now (s .args .tones) in
-    let p = c .before .before .before .before .before .before .before .before .before .before .before .before .place-others .ensures in
+    let p = place-others .ensures in
     record {
-      tones = tones-written b t (now (s .args .reordered-tones)) (behind s) (s .pre .1 .tonesFit) (c .before .before .before .before .before .before .place-ones .ensures ∙ ap (λ (l : List ℕ). sets l (length t - s .args .ones) (singles b t)) (p .tones));
-      bits = bits-written b t (now (s .args .reordered-bits)) (s .pre .0) (s .pre .1 .bitsFit) (c .before .before .before .before .before .before .before .before .before .before .before .before .before .before .before .before .before .fill .ensures) (p .bits) (c .before .before .fill2 .ensures);
+      tones = tones-written b t (now (s .args .reordered-tones)) (behind s) (s .pre .1 .tonesFit) (place-ones .ensures ∙ ap (λ (l : List ℕ). sets l (length t - s .args .ones) (singles b t)) (p .tones));
+      bits = bits-written b t (now (s .args .reordered-bits)) (s .pre .0) (s .pre .1 .bitsFit) (fill .ensures) (p .bits) (fill2 .ensures);
     }
 
 pub write-coded-spec : {M : Type 1} → statement M

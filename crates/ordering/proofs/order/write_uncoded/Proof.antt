@@ -38,7 +38,11 @@ put-tone-requires c κs =
     (omega arith, omega (arith, c .before .tone-at .ensures, c .before .before .before .before .before .before .shared-slice-known2 .given (l .i)))
 
 bits-of-requires : tie.Need-bits-of-requires Inv-loop μ-loop
-bits-of-requires c κs = omega (arith, c .before .before .before .before .tone-at .ensures, c .before .before .before .before .before .before .before .before .before .before .before .pre .1 (c .before .before .before .before .before .before .loop .i) (omega arith))
+bits-of-requires c κs =
+    let start = c .before .before .before .before .before .before .before .before .before .before .before in
+    let loop = c .before .before .before .before .before .before .loop in
+    let tone-at = c .before .before .before .before .tone-at in
+    omega (arith, tone-at .ensures, start .pre .1 (loop .i) (omega arith))
 
 slice-write-reordered-bits : tie.Need-slice-write-reordered-bits Inv-loop μ-loop
 slice-write-reordered-bits c = omega (arith, c .before .before .before .before .before .before .before .before .before .before .before .before .pre .0 .bitsFit)
@@ -74,14 +78,15 @@ same-length-2 c = search needs
 returns : tie.Need-returns Inv-loop μ-loop
 unfolding reorderedTones reorderedBits
 returns c =
+    let start = c .before .before .before .before .before .before in
     let l = c .before .loop in
-    let b = now (c .before .before .before .before .before .before .args .bits) in
-    let t = now (c .before .before .before .before .before .before .args .tones) in
-    let r = c .before .before .before .before .before .before .pre .0 in
+    let b = now (start .args .bits) in
+    let t = now (start .args .tones) in
+    let r = start .pre .0 in
     let d = drop-of-length-le t {i = l .i} (omega arith) in
     record {
-      tones = ap (take (length t)) (sym (ap (sets (l .reordered-tones) (l .i)) d) ∙ l .inv .3) ∙ take-sets (now (c .before .before .before .before .before .before .args .reordered-tones)) t (length t) refl (r .tonesFit);
-      bits = ap (take (length t)) (sym (ap (λ (s : List ℕ). sets (l .reordered-bits) (l .i) (bitsOf b s)) d) ∙ l .inv .4) ∙ take-sets (now (c .before .before .before .before .before .before .args .reordered-bits)) (bitsOf b t) (length t) (length-map t (entry b)) (r .bitsFit);
+      tones = ap (take (length t)) (sym (ap (sets (l .reordered-tones) (l .i)) d) ∙ l .inv .3) ∙ take-sets (now (start .args .reordered-tones)) t (length t) refl (r .tonesFit);
+      bits = ap (take (length t)) (sym (ap (λ (s : List ℕ). sets (l .reordered-bits) (l .i) (bitsOf b s)) d) ∙ l .inv .4) ∙ take-sets (now (start .args .reordered-bits)) (bitsOf b t) (length t) (length-map t (entry b)) (r .bitsFit);
     }
 
 pub write-uncoded-spec : {M : Type 1} → statement M

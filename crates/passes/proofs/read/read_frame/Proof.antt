@@ -16,14 +16,22 @@ new-requires : tie.Need-new-requires
 new-requires c κs = search needs
 
 collect-labels-requires : tie.Need-collect-labels-requires
-collect-labels-requires c κs = rw (c .before .before .new .ensures, c .before .before .before .before .before .before .before .join-shared .ensures) (collect-needs (c .before .before .before .before .before .before .before .before .before .before .before .before .before .pre .4) (c .before .before .before .enum-told .given .1))
+collect-labels-requires c κs =
+    let start = c .before .before .before .before .before .before .before .before .before .before .before .before .before in
+    let join-shared = c .before .before .before .before .before .before .before .join-shared in
+    let enum-told = c .before .before .before .enum-told in
+    let new = c .before .before .new in
+    rw (new .ensures, join-shared .ensures) (collect-needs (start .pre .4) (enum-told .given .1))
 
 finish-requires : tie.Need-finish-requires
 finish-requires c κs =
+    let join-shared = c .before .before .before .before .before .before .before .before .before .before .before .join-shared in
+    let enum-told = c .before .before .before .before .before .before .before .enum-told in
+    let new = c .before .before .before .before .before .before .new in
     let s = c .before .before .before .before .before .before .before .before .before .before .before .before .before .before .before .before .before in
     let w = c .before .before .before .collect-labels in
-    let e = rw (c .before .before .before .before .before .before .new .ensures, c .before .before .before .before .before .before .before .before .before .before .before .join-shared .ensures) at (w .ensures) in
-    (collect-room (s .pre .4) (c .before .before .before .before .before .before .before .enum-told .given .1) e (w .kept .1 .1 .1 .1 .0), e .waits)
+    let e = rw (new .ensures, join-shared .ensures) at (w .ensures) in
+    (collect-room (s .pre .4) (enum-told .given .1) e (w .kept .1 .1 .1 .1 .0), e .waits)
 
 enum-told-2 : tie.Need-enum-told-2
 enum-told-2 c = search needs
@@ -32,7 +40,12 @@ new-requires-2 : tie.Need-new-requires-2
 new-requires-2 c κs = search needs
 
 read-labels-requires : tie.Need-read-labels-requires
-read-labels-requires c κs = rw (c .before .before .new2 .ensures, c .before .before .before .before .before .before .before .join-shared .ensures) (trellis-needs (c .before .before .before .before .before .before .before .before .before .before .before .before .before .pre .4) (c .before .before .before .enum-told2 .given .1))
+read-labels-requires c κs =
+    let start = c .before .before .before .before .before .before .before .before .before .before .before .before .before in
+    let join-shared = c .before .before .before .before .before .before .before .join-shared in
+    let enum-told2 = c .before .before .before .enum-told2 in
+    let new2 = c .before .before .new2 in
+    rw (new2 .ensures, join-shared .ensures) (trellis-needs (start .pre .4) (enum-told2 .given .1))
 
 enum-known-broken : tie.Need-enum-known-broken
 enum-known-broken c = search needs
@@ -45,19 +58,25 @@ same-length-2 c = search needs
 
 returns : tie.Need-returns
 returns c =
+    let join-shared = c .before .before .before .before .before .before .before .before .before .before .before .before .before .before .join-shared in
+    let enum-told2 = c .before .before .before .before .before .before .before .before .before .before .enum-told2 in
+    let new2 = c .before .before .before .before .before .before .before .before .before .new2 in
     let p = c .before .before .before .before .before .before .read-labels in
-    let e = rw (c .before .before .before .before .before .before .before .before .before .new2 .ensures, c .before .before .before .before .before .before .before .before .before .before .before .before .before .before .join-shared .ensures) at (p .ensures) in
-    λ cs d ms layouts w. broken-found w (c .before .before .before .before .before .before .before .before .before .before .enum-told2 .given .1) e (p .last .1 .1 .1 .1 .0) (c .before .broken .given .1)
+    let e = rw (new2 .ensures, join-shared .ensures) at (p .ensures) in
+    λ cs d ms layouts w. broken-found w (enum-told2 .given .1) e (p .last .1 .1 .1 .1 .0) (c .before .broken .given .1)
 
 enum-told-3 : tie.Need-enum-told-3
 enum-told-3 c = search needs
 
 finish-requires-2 : tie.Need-finish-requires-2
 finish-requires-2 c κs =
+    let join-shared = c .before .before .before .before .before .before .before .before .before .before .before .before .before .before .join-shared in
+    let enum-told2 = c .before .before .before .before .before .before .before .before .before .before .enum-told2 in
+    let new2 = c .before .before .before .before .before .before .before .before .before .new2 in
     let s = c .before .before .before .before .before .before .before .before .before .before .before .before .before .before .before .before .before .before .before .before in
     let p = c .before .before .before .before .before .before .read-labels in
-    let e = rw (c .before .before .before .before .before .before .before .before .before .new2 .ensures, c .before .before .before .before .before .before .before .before .before .before .before .before .before .before .join-shared .ensures) at (p .ensures) in
-    (broken-room (s .pre .4) (c .before .before .before .before .before .before .before .before .before .before .enum-told2 .given .1) e (c .before .enum-told3 .given .1) (p .kept .1 .1 .1 .1 .0), e .waits)
+    let e = rw (new2 .ensures, join-shared .ensures) at (p .ensures) in
+    (broken-room (s .pre .4) (enum-told2 .given .1) e (c .before .enum-told3 .given .1) (p .kept .1 .1 .1 .1 .0), e .waits)
 
 same-length-3 : tie.Need-same-length-3
 same-length-3 c = search needs
@@ -67,12 +86,15 @@ same-length-4 c = search needs
 
 returns-2 : tie.Need-returns-2
 returns-2 c =
+    let join-shared = c .before .before .before .before .before .before .before .before .before .before .before .before .before .before .join-shared in
+    let enum-told = c .before .before .before .before .before .before .before .before .before .before .enum-told in
+    let new = c .before .before .before .before .before .before .before .before .before .new in
     let w = c .before .before .before .before .before .before .collect-labels in
-    let e = rw (c .before .before .before .before .before .before .before .before .before .new .ensures, c .before .before .before .before .before .before .before .before .before .before .before .before .before .before .join-shared .ensures) at (w .ensures) in
+    let e = rw (new .ensures, join-shared .ensures) at (w .ensures) in
     let f = c .before .before .finish in
     λ cs d ms layouts s.
-    let h = collect-room s (c .before .before .before .before .before .before .before .before .before .before .enum-told .given .1) e (w .kept .1 .1 .1 .1 .0) in
-    collected s (c .before .before .before .before .before .before .before .before .before .before .enum-told .given .1) (w .result) (w .last .1 .1 .1 .1 .0) (f .last .1 .0) e (finished (w .result) (w .last .1 .1 .1 .1 .0) (f .last .1 .0) (omega arith) (omega (arith, f .kept .1 .0)) (e .waits) (f .ensures))
+    let h = collect-room s (enum-told .given .1) e (w .kept .1 .1 .1 .1 .0) in
+    collected s (enum-told .given .1) (w .result) (w .last .1 .1 .1 .1 .0) (f .last .1 .0) e (finished (w .result) (w .last .1 .1 .1 .1 .0) (f .last .1 .0) (omega arith) (omega (arith, f .kept .1 .0)) (e .waits) (f .ensures))
 
 same-length-5 : tie.Need-same-length-5
 same-length-5 c = search needs
@@ -82,13 +104,17 @@ same-length-6 c = search needs
 
 returns-3 : tie.Need-returns-3
 returns-3 c =
+    let join-shared = c .before .before .before .before .before .before .before .before .before .before .before .before .before .before .before .before .before .join-shared in
+    let enum-told2 = c .before .before .before .before .before .before .before .before .before .before .before .before .before .enum-told2 in
+    let new2 = c .before .before .before .before .before .before .before .before .before .before .before .before .new2 in
+    let enum-told3 = c .before .before .before .before .enum-told3 in
     let p = c .before .before .before .before .before .before .before .before .before .read-labels in
-    let e = rw (c .before .before .before .before .before .before .before .before .before .before .before .before .new2 .ensures, c .before .before .before .before .before .before .before .before .before .before .before .before .before .before .before .before .before .join-shared .ensures) at (p .ensures) in
+    let e = rw (new2 .ensures, join-shared .ensures) at (p .ensures) in
     let f = c .before .before .finish2 in
-    let none = c .before .before .before .before .enum-told3 .given .1 in
+    let none = enum-told3 .given .1 in
     λ cs d ms layouts s.
-    let h = broken-room s (c .before .before .before .before .before .before .before .before .before .before .before .before .before .enum-told2 .given .1) e none (p .kept .1 .1 .1 .1 .0) in
-    none-broken s (c .before .before .before .before .before .before .before .before .before .before .before .before .before .enum-told2 .given .1) e (f .last .1 .0) none (finished (p .result .writer) (p .last .1 .1 .1 .1 .0) (f .last .1 .0) (omega arith) (omega (arith, f .kept .1 .0)) (e .waits) (f .ensures))
+    let h = broken-room s (enum-told2 .given .1) e none (p .kept .1 .1 .1 .1 .0) in
+    none-broken s (enum-told2 .given .1) e (f .last .1 .0) none (finished (p .result .writer) (p .last .1 .1 .1 .1 .0) (f .last .1 .0) (omega arith) (omega (arith, f .kept .1 .0)) (e .waits) (f .ensures))
 
 pub read-frame-spec : {M : Type 1} → statement M
 read-frame-spec =

@@ -13,11 +13,17 @@ set-filler-requires c κs = rw (c .before .before .before .split-shared .ensures
 
 put-points-requires : tie.Need-put-points-requires
 put-points-requires c κs =
-    let f = c .before .before .before .before .before .set-filler .ensures .labelsAre in
-    rw (f, c .before .before .before .before .before .before .before .before .before .split-shared .ensures) (put-needs (c .before .before .before .before .before .before .before .before .before .before .before .before .before .before .pre .4) (c .before .before .before .before .before .before .before .before .before .before .before .before .before .before .args .register))
+    let start = c .before .before .before .before .before .before .before .before .before .before .before .before .before .before in
+    let split-shared = c .before .before .before .before .before .before .before .before .before .split-shared in
+    let set-filler = c .before .before .before .before .before .set-filler in
+    let f = set-filler .ensures .labelsAre in
+    rw (f, split-shared .ensures) (put-needs (start .pre .4) (start .args .register))
 
 same-length : tie.Need-same-length
-same-length c = c .before .before .before .before .before .before .before .before .set-filler .kept .1 .1 .0 ∙ c .before .before .before .before .before .before .before .before .before .before .before .before .split-shared .kept .0
+same-length c =
+    let split-shared = c .before .before .before .before .before .before .before .before .before .before .before .before .split-shared in
+    let set-filler = c .before .before .before .before .before .before .before .before .set-filler in
+    set-filler .kept .1 .1 .0 ∙ split-shared .kept .0
 
 same-length-2 : tie.Need-same-length-2
 same-length-2 c = search needs
@@ -27,10 +33,12 @@ same-length-3 c = search needs
 
 returns : tie.Need-returns
 returns c =
+    let split-shared = c .before .before .before .before .before .before .before .before .before .before .before .before .split-shared in
+    let set-filler = c .before .before .before .before .before .before .before .before .set-filler in
     let a = c .before .before .before .before .before .before .before .before .before .before .before .before .before .before .before .before .before .args in
-    let f = c .before .before .before .before .before .before .before .before .set-filler .ensures in
+    let f = set-filler .ensures in
     let p = c .before .before .put-points in
-    λ cs d es ps w. written w (a .register) (c .before .before .before .before .before .before .before .before .set-filler .result) (p .last .1 .1 .0) (p .last .1 .1 .1 .0) (f .registerIs) (p .kept .1 .1 .0) (p .kept .1 .1 .1 .0) (rw (f .labelsAre, c .before .before .before .before .before .before .before .before .before .before .before .before .split-shared .ensures) at (p .ensures))
+    λ cs d es ps w. written w (a .register) (set-filler .result) (p .last .1 .1 .0) (p .last .1 .1 .1 .0) (f .registerIs) (p .kept .1 .1 .0) (p .kept .1 .1 .1 .0) (rw (f .labelsAre, split-shared .ensures) at (p .ensures))
 
 pub write-points-spec : {M : Type 1} → statement M
 write-points-spec =

@@ -45,11 +45,14 @@ tone-of-requires c κs = search needs
 
 file-tone-requires : tie.Need-file-tone-requires Inv-loop μ-loop
 file-tone-requires c κs =
+    let bits-of = c .before .before .before .before .before .before .bits-of in
+    let gain-of = c .before .before .before .before .before .gain-of in
+    let tone-of = c .before .before .before .before .tone-of in
     let s = c .before .before .before .before .before .before .before .before .before .before .before .before .before .before .before .before .before in
     let l = c .before .before .before .before .before .before .before .before .before .loop in (
       record {
         arrays = l .inv .2;
-        carries = rw (c .before .before .before .before .tone-of .ensures) (carried (c .before .before .before .before .before .before .bits-of .result) (c .before .before .before .before .before .gain-of .result) (rw (c .before .before .before .before .before .before .bits-of .ensures) (s .pre .0 .bitsMost _)));
+        carries = rw (tone-of .ensures) (carried (bits-of .result) (gain-of .result) (rw (bits-of .ensures) (s .pre .0 .bitsMost _)));
         leastIs = s .pre .0 .leastIs;
         placeMost = omega (arith, l .inv .0, s .pre .0 .most);
         entryMost = l .inv .3 .entryMost;
@@ -59,13 +62,19 @@ file-tone-requires c κs =
     )
 
 add-i : tie.Need-add-i Inv-loop μ-loop
-add-i c = omega (arith, c .before .before .before .before .before .before .before .before .before .before .before .before .before .before .before .before .before .before .before .before .before .before .before .before .before .before .pre .0 .most)
+add-i c =
+    let most = c .before .before .before .before .before .before .before .before .before .before .before .before .before .before .before .before .before .before .before .before .before .before .before .before .before .before .pre .0 .most in
+    omega arith
 
 loop-less : tie.Need-loop-less Inv-loop μ-loop
 loop-less c = omega arith
 
 loop-again : tie.Need-loop-again Inv-loop μ-loop
 loop-again c =
+    let tone-at = c .before .before .before .before .before .before .before .before .before .before .before .before .before .before .before .before .tone-at in
+    let bits-of = c .before .before .before .before .before .before .before .before .before .before .before .before .before .before .before .bits-of in
+    let gain-of = c .before .before .before .before .before .before .before .before .before .before .before .before .before .before .gain-of in
+    let tone-of = c .before .before .before .before .before .before .before .before .before .before .before .before .before .tone-of in
     let s = c .before .before .before .before .before .before .before .before .before .before .before .before .before .before .before .before .before .before .before .before .before .before .before .before .before .before in
     let a = s .args in
     let l = c .before .before .before .before .before .before .before .before .before .before .before .before .before .before .before .before .before .before .loop in
@@ -73,7 +82,7 @@ loop-again c =
     let i = c .before .before .before .before .before .before .before .before .before .before .before .before .before .before .before .before .before .loop-test .taken in
     let cs : List Class = only (isPlaced (a .least)) (classesBy (a .bits .now) (a .gains .now) (take (l .i) (a .tones .now))) in
     let n = entry (a .tones .now) (l .i) in
-    let w = rw (c .before .before .before .before .before .before .before .before .before .before .before .before .before .tone-of .ensures, c .before .before .before .before .before .before .before .before .before .before .before .before .before .before .before .bits-of .ensures, c .before .before .before .before .before .before .before .before .before .before .before .before .before .before .gain-of .ensures, c .before .before .before .before .before .before .before .before .before .before .before .before .before .before .before .before .tone-at .ensures) at (f .ensures) in
+    let w = rw (tone-of .ensures, bits-of .ensures, gain-of .ensures, tone-at .ensures) at (f .ensures) in
     let t : Class = toneOf (entry (a .bits .now) n) (entry (a .gains .now) n) .class in
     let g = tone-more (a .least) cs t (l .inv .3) w in
     let arrays : Arrays _ _ _ _ =

@@ -35,7 +35,11 @@ enum-known-k-2 : tie.Need-enum-known-k-2
 enum-known-k-2 c = search needs
 
 returns-3 : tie.Need-returns-3
-returns-3 c = found-past 4 (sym (c .before .before .before .before .before .before .first-index .ensures) ∙ c .before .before .before .before .enum-told .given .1) (found-here 5 _ (sym (c .before .before .before .first-index2 .ensures) ∙ c .before .k2 .given .1))
+returns-3 c =
+    let first-index = c .before .before .before .before .before .before .first-index in
+    let enum-told = c .before .before .before .before .enum-told in
+    let first-index2 = c .before .before .before .first-index2 in
+    found-past 4 (sym (first-index .ensures) ∙ enum-told .given .1) (found-here 5 _ (sym (first-index2 .ensures) ∙ c .before .k2 .given .1))
 
 enum-told-2 : tie.Need-enum-told-2
 enum-told-2 c = search needs
@@ -48,16 +52,26 @@ enum-known-k-3 c = search needs
 
 returns-4 : tie.Need-returns-4
 returns-4 c =
-    found-past 4 (sym (c .before .before .before .before .before .before .before .before .before .first-index .ensures) ∙ c .before .before .before .before .before .before .before .enum-told .given .1)
-    (found-past 5 (sym (c .before .before .before .before .before .before .first-index2 .ensures) ∙ c .before .before .before .before .enum-told2 .given .1) (found-here 6 _ (sym (c .before .before .before .first-index3 .ensures) ∙ c .before .k3 .given .1)))
+    let first-index = c .before .before .before .before .before .before .before .before .before .first-index in
+    let enum-told = c .before .before .before .before .before .before .before .enum-told in
+    let first-index2 = c .before .before .before .before .before .before .first-index2 in
+    let enum-told2 = c .before .before .before .before .enum-told2 in
+    let first-index3 = c .before .before .before .first-index3 in
+    found-past 4 (sym (first-index .ensures) ∙ enum-told .given .1)
+    (found-past 5 (sym (first-index2 .ensures) ∙ enum-told2 .given .1) (found-here 6 _ (sym (first-index3 .ensures) ∙ c .before .k3 .given .1)))
 
 enum-told-3 : tie.Need-enum-told-3
 enum-told-3 c = search needs
 
 returns-5 : tie.Need-returns-5
 returns-5 c =
-    found-past 4 (sym (c .before .before .before .before .before .before .before .before .first-index .ensures) ∙ c .before .before .before .before .before .before .enum-told .given .1)
-    (found-past 5 (sym (c .before .before .before .before .before .first-index2 .ensures) ∙ c .before .before .before .enum-told2 .given .1) (found-past 6 (sym (c .before .before .first-index3 .ensures) ∙ c .enum-told3 .given .1) refl))
+    let first-index = c .before .before .before .before .before .before .before .before .first-index in
+    let enum-told = c .before .before .before .before .before .before .enum-told in
+    let first-index2 = c .before .before .before .before .before .first-index2 in
+    let enum-told2 = c .before .before .before .enum-told2 in
+    let first-index3 = c .before .before .first-index3 in
+    found-past 4 (sym (first-index .ensures) ∙ enum-told .given .1)
+    (found-past 5 (sym (first-index2 .ensures) ∙ enum-told2 .given .1) (found-past 6 (sym (first-index3 .ensures) ∙ c .enum-told3 .given .1) refl))
 
 pub check-indices-spec : {M : Type 1} → statement M
 check-indices-spec =

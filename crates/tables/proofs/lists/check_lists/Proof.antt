@@ -21,7 +21,9 @@ sizes c = size-facts _ _ _ (sized c)
 
 -- nor does 2
 toned : (c : tie.After-enum-told) → let a = c .before .before .before .before .before .before .before .before .args in first (toneTest (length (now (a .bits))) (now (a .tones))) (length (now (a .tones))) ≡ Nothing
-toned c = sym (c .before .before .first-tone .ensures) ∙ c .enum-told .given .1
+toned c =
+    let first-tone = c .before .before .first-tone in
+    sym (first-tone .ensures) ∙ c .enum-told .given .1
 
 wrong-size-requires : tie.Need-wrong-size-requires
 wrong-size-requires c κs = search needs
@@ -42,13 +44,17 @@ enum-told : tie.Need-enum-told
 enum-told c = search needs
 
 first-twice-requires : tie.Need-first-twice-requires
-first-twice-requires c κs = (refl, tones-below (now (c .before .before .before .before .before .before .before .before .before .args .tones)) (sizes (c .before .before .before .before) .most) (toned (c .before)))
+first-twice-requires c κs =
+    let start = c .before .before .before .before .before .before .before .before .before in
+    (refl, tones-below (now (start .args .tones)) (sizes (c .before .before .before .before) .most) (toned (c .before)))
 
 enum-known-p-2 : tie.Need-enum-known-p-2
 enum-known-p-2 c = search needs
 
 returns-3 : tie.Need-returns-3
-returns-3 c = refused-twice _ _ _ (sized (c .before .before .before .before .before .before .before .before)) (toned (c .before .before .before .before .before)) (sym (c .before .before .before .first-twice .ensures .0) ∙ c .before .p2 .given .1)
+returns-3 c =
+    let first-twice = c .before .before .before .first-twice in
+    refused-twice _ _ _ (sized (c .before .before .before .before .before .before .before .before)) (toned (c .before .before .before .before .before)) (sym (first-twice .ensures .0) ∙ c .before .p2 .given .1)
 
 enum-told-2 : tie.Need-enum-told-2
 enum-told-2 c = search needs
@@ -59,7 +65,10 @@ check-indices-requires c κs =
     (s .most, (s .gainsFit, c .before .before .before .first-twice .ensures .1))
 
 returns-4 : tie.Need-returns-4
-returns-4 c = past-tones _ _ _ (sized (c .before .before .before .before .before .before .before .before .before)) (toned (c .before .before .before .before .before .before)) (sym (c .before .before .before .before .first-twice .ensures .0) ∙ c .before .before .enum-told2 .given .1) (c .check-indices .ensures)
+returns-4 c =
+    let first-twice = c .before .before .before .before .first-twice in
+    let enum-told2 = c .before .before .enum-told2 in
+    past-tones _ _ _ (sized (c .before .before .before .before .before .before .before .before .before)) (toned (c .before .before .before .before .before .before)) (sym (first-twice .ensures .0) ∙ enum-told2 .given .1) (c .check-indices .ensures)
 
 pub check-lists-spec : {M : Type 1} → statement M
 check-lists-spec =

@@ -23,8 +23,11 @@ abbrev μ-loop : tie.MeasureT-loop
 -- the test at index i, from the mark, the bits and the gain that were read
 tested : (c : tie.After-breaks Inv-loop μ-loop) → let a = c .before .before .before .before .before .before .before .before .before .args in ruleTest (a .rule) (now (a .bits)) (now (a .gains)) (now (a .tones)) (c .before .before .before .before .before .loop .i) ≡ c .breaks .result
 tested c =
+    let start = c .before .before .before .before .before .before .before .before .before in
+    let loop = c .before .before .before .before .before .loop in
+    let bits-at = c .before .before .bits-at in
     let a = c .before .before .before .before .before .before .before .before .before .args in
-    test-at (ruleBy (a .rule)) (c .breaks .ensures) (c .before .before .before .before .before .before .before .before .before .pre .1 (c .before .before .before .before .before .loop .i) (omega arith)) (c .before .before .bits-at .ensures) (c .before .gain-at .ensures)
+    test-at (ruleBy (a .rule)) (c .breaks .ensures) (start .pre .1 (loop .i) (omega arith)) (bits-at .ensures) (c .before .gain-at .ensures)
 
 loop-holds : tie.Need-loop-holds Inv-loop μ-loop
 loop-holds c = (omega arith, first-none _)

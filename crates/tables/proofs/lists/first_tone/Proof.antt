@@ -34,7 +34,11 @@ tone-at-requires : tie.Need-tone-at-requires Inv-loop μ-loop
 tone-at-requires c κs = search needs
 
 returns-2 : tie.Need-returns-2 Inv-loop μ-loop
-returns-2 c = first-at _ _ _ (c .before .before .before .before .loop .inv .1) (ap (leb (c .before .before .before .before .before .before .before .before .args .g)) (sym (c .before .before .tone-at .ensures)) ∙ le-leb _ _ (c .if2 .taken)) (omega arith)
+returns-2 c =
+    let start = c .before .before .before .before .before .before .before .before in
+    let loop = c .before .before .before .before .loop in
+    let tone-at = c .before .before .tone-at in
+    first-at _ _ _ (loop .inv .1) (ap (leb (start .args .g)) (sym (tone-at .ensures)) ∙ le-leb _ _ (c .if2 .taken)) (omega arith)
 
 add-i : tie.Need-add-i Inv-loop μ-loop
 add-i c = search needs
@@ -43,7 +47,11 @@ loop-less : tie.Need-loop-less Inv-loop μ-loop
 loop-less c = search needs
 
 loop-again : tie.Need-loop-again Inv-loop μ-loop
-loop-again c = (omega arith, first-more _ _ (c .before .before .before .before .loop .inv .1) (ap (leb (c .before .before .before .before .before .before .before .before .args .g)) (sym (c .before .before .tone-at .ensures)) ∙ lt-leb _ _ (c .if2 .left)))
+loop-again c =
+    let start = c .before .before .before .before .before .before .before .before in
+    let loop = c .before .before .before .before .loop in
+    let tone-at = c .before .before .tone-at in
+    (omega arith, first-more _ _ (loop .inv .1) (ap (leb (start .args .g)) (sym (tone-at .ensures)) ∙ lt-leb _ _ (c .if2 .left)))
 
 returns-3 : tie.Need-returns-3 Inv-loop μ-loop
 returns-3 c = first-end _ _ _ (c .before .loop .inv .1) (omega arith) (omega arith)

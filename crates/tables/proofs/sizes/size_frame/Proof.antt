@@ -23,7 +23,11 @@ sub-n : tie.Need-sub-n
 sub-n c = half-loaded (c .before .before .before .before .before .before .count-tones .ensures) (c .before .before .if1 .left)
 
 returns-2 : tie.Need-returns-2
-returns-2 c = rw (c .before .before .before .before .before .enum-told2 .given .1) (record { answer = coded-few (c .before .before .before .before .before .before .before .count-tones .ensures) (c .before .before .before .if1 .left) (c .if2 .taken); shares = tt })
+returns-2 c =
+    let count-tones = c .before .before .before .before .before .before .before .count-tones in
+    let enum-told2 = c .before .before .before .before .before .enum-told2 in
+    let if1 = c .before .before .before .if1 in
+    rw (enum-told2 .given .1) (record { answer = coded-few (count-tones .ensures) (if1 .left) (c .if2 .taken); shares = tt })
 
 add-t7 : tie.Need-add-t7
 add-t7 c =
@@ -41,12 +45,16 @@ sub-t13 c =
     omega (arith, coded-room k (c .before .before .before .before .if1 .left) (c .before .if2 .left))
 
 returns-3 : tie.Need-returns-3
-returns-3 c = rw (c .enum-told .given .1) (record { answer = uncoded-verdict _ _ (c .before .before .count-tones .ensures .sumIs); shares = (omega (arith, c .before .before .count-tones .ensures .loadedIs), refl, refl) })
+returns-3 c =
+    let count-tones = c .before .before .count-tones in
+    rw (c .enum-told .given .1) (record { answer = uncoded-verdict _ _ (count-tones .ensures .sumIs); shares = (omega (arith, count-tones .ensures .loadedIs), refl, refl) })
 
 returns-4 : tie.Need-returns-4
 returns-4 c =
+    let enum-told2 = c .before .before .before .before .before .before .enum-told2 in
+    let if1 = c .before .before .before .before .if1 in
     let k = c .before .before .before .before .before .before .before .before .count-tones in
-    rw (c .before .before .before .before .before .before .enum-told2 .given .1) (record { answer = coded-done (k .ensures) (c .before .before .before .before .if1 .left) (c .before .if2 .left) (no-pair _ _); shares = (omega (arith, k .ensures .loadedIs, k .ensures .onesIs), k .ensures .onesIs, omega (arith, c .before .before .before .before .if1 .left)) })
+    rw (enum-told2 .given .1) (record { answer = coded-done (k .ensures) (if1 .left) (c .before .if2 .left) (no-pair _ _); shares = (omega (arith, k .ensures .loadedIs, k .ensures .onesIs), k .ensures .onesIs, omega (arith, if1 .left)) })
 
 pub size-frame-spec : {M : Type 1} → statement M
 size-frame-spec =

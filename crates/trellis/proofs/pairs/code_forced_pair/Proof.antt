@@ -43,8 +43,10 @@ lowest-requires c κs = search needs
 
 label-requires : tie.Need-label-requires
 label-requires c κs =
-    let f = (c .before .before .before .before .before .before .get .result) / 2 in
-    rw (c .lowest .ensures) (lt-of-le-of-lt (mod-le f (2 ^ (c .before .before .before .before .before .before .before .before .args .x - 2))) (high (c .before .before .before .before .before .before)))
+    let start = c .before .before .before .before .before .before .before .before in
+    let get = c .before .before .before .before .before .before .get in
+    let f = (get .result) / 2 in
+    rw (c .lowest .ensures) (lt-of-le-of-lt (mod-le f (2 ^ (start .args .x - 2))) (high (c .before .before .before .before .before .before)))
 
 sub-label : tie.Need-sub-label
 sub-label c = search needs
@@ -56,17 +58,21 @@ shr-label : tie.Need-shr-label
 shr-label c = search needs
 
 label-requires-2 : tie.Need-label-requires-2
-label-requires-2 c κs = lt-of-le-of-lt (div-le-self ((c .before .before .before .before .before .before .before .get .result) / 2) (2 ^ (c .before .before .before .before .before .before .before .before .before .args .x - 2))) (high (c .before .before .before .before .before .before .before))
+label-requires-2 c κs =
+    let start = c .before .before .before .before .before .before .before .before .before in
+    let get = c .before .before .before .before .before .before .before .get in
+    lt-of-le-of-lt (div-le-self ((get .result) / 2) (2 ^ (start .args .x - 2))) (high (c .before .before .before .before .before .before .before))
 
 returns : tie.Need-returns
 unfolding inputsOf odd
 returns c =
+    let lowest = c .before .before .lowest in
     let s = c .before .before .before .before .before .before .before .before .before .before in
     let a = s .args in
     let g = c .before .before .before .before .before .before .before .before .get in
     let t = c .before .before .before .before .before .before .forced-step in
     let l = c .before .label in
-    let p = got-pair true (a .c .state) (a .x) (a .y) (a .frame .now) (a .c .at) _ (g .result) (inputsOf true (a .c .state) (g .result)) (s .pre .0) (s .pre .2) (s .pre .4 .bits) refl (g .ensures) refl (t .result .low) (l .result) (c .label2 .result) (t .ensures .1) (l .ensures ∙ rw (c .before .before .lowest .ensures)) (c .label2 .ensures) in
+    let p = got-pair true (a .c .state) (a .x) (a .y) (a .frame .now) (a .c .at) _ (g .result) (inputsOf true (a .c .state) (g .result)) (s .pre .0) (s .pre .2) (s .pre .4 .bits) refl (g .ensures) refl (t .result .low) (l .result) (c .label2 .result) (t .ensures .1) (l .ensures ∙ rw (lowest .ensures)) (c .label2 .ensures) in
     record { state = t .ensures .0 ∙ p .next; at = refl; sends = p .sends; vSmall = p .vSmall; wSmall = p .wSmall }
 
 pub code-forced-pair-spec : {M : Type 1} → statement M

@@ -71,16 +71,23 @@ put-pair-requires c κs =
     (omega (arith, s .pre .3 .same), q .0, q .1, rw (c .before .before .before .before .before .loop .inv .1) (s .pre .3 .rising))
 
 add-i : tie.Need-add-i Inv-loop μ-loop
-add-i c = record { fits = (pair-inside (c .before .before .before .before .before .before .before .before .loop-test .taken) (c .before .before .before .before .before .before .before .before .before .before .before .before .before .before .before .pre .1)) .after }
+add-i c =
+    let start = c .before .before .before .before .before .before .before .before .before .before .before .before .before .before .before in
+    let loop-test = c .before .before .before .before .before .before .before .before .loop-test in
+    record { fits = (pair-inside (loop-test .taken) (start .pre .1)) .after }
 
 loop-less : tie.Need-loop-less Inv-loop μ-loop
-loop-less c = (pair-inside (c .before .before .before .before .before .before .before .before .loop-test .taken) (c .before .before .before .before .before .before .before .before .before .before .before .before .before .before .before .pre .1)) .less
+loop-less c =
+    let start = c .before .before .before .before .before .before .before .before .before .before .before .before .before .before .before in
+    let loop-test = c .before .before .before .before .before .before .before .before .loop-test in
+    (pair-inside (loop-test .taken) (start .pre .1)) .less
 
 loop-again : tie.Need-loop-again Inv-loop μ-loop
 loop-again c =
+    let code-forced-pair = c .before .before .before .before .before .code-forced-pair in
     let l = c .before .before .before .before .before .before .before .before .before .loop in
     let w = c .before .before .before .put-pair in
-    (rw (w .ensures) (going-step (at-pair (c .before .before .before .before .before .before)) (c .before .before .before .before .before .code-forced-pair .ensures)), w .kept .0 ∙ l .inv .1, omega (arith, l .inv .2))
+    (rw (w .ensures) (going-step (at-pair (c .before .before .before .before .before .before)) (code-forced-pair .ensures)), w .kept .0 ∙ l .inv .1, omega (arith, l .inv .2))
 
 same-length : tie.Need-same-length Inv-loop μ-loop
 same-length c = c .before .loop .inv .1

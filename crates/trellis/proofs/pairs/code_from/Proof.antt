@@ -69,9 +69,12 @@ entry-requires-2 c κs = free-inside (c .before .loop-test .taken) .more
 
 code-free-pair-requires : tie.Need-code-free-pair-requires Inv-loop μ-loop
 code-free-pair-requires c κs =
+    let step-table = c .before .before .before .before .before .before .before .before .step-table in
+    let mask-table = c .before .before .before .before .before .before .before .mask-table in
+    let loop = c .before .before .before .before .before .loop in
     let h = at-pair (c .before .before) in
     let q = at-wide h in
-    (c .before .before .before .before .before .before .before .before .step-table .ensures, c .before .before .before .before .before .before .before .mask-table .ensures, c .before .before .before .before .before .loop .inv .2, q .0, q .1, q .2, q .3, pair-needs h)
+    (step-table .ensures, mask-table .ensures, loop .inv .2, q .0, q .1, q .2, q .3, pair-needs h)
 
 put-pair-requires : tie.Need-put-pair-requires Inv-loop μ-loop
 put-pair-requires c κs =
@@ -91,16 +94,24 @@ add-at-2 c =
     omega (arith, n .bits, n .small)
 
 add-i : tie.Need-add-i Inv-loop μ-loop
-add-i c = record { fits = (pair-inside (free-inside (c .before .before .before .before .before .before .before .before .before .before .loop-test .taken) .more) (c .before .before .before .before .before .before .before .before .before .before .before .before .before .before .before .before .before .before .before .pre .1)) .after }
+add-i c =
+    let start = c .before .before .before .before .before .before .before .before .before .before .before .before .before .before .before .before .before .before .before in
+    let loop-test = c .before .before .before .before .before .before .before .before .before .before .loop-test in
+    record { fits = (pair-inside (free-inside (loop-test .taken) .more) (start .pre .1)) .after }
 
 loop-less : tie.Need-loop-less Inv-loop μ-loop
-loop-less c = (pair-inside (free-inside (c .before .before .before .before .before .before .before .before .before .before .loop-test .taken) .more) (c .before .before .before .before .before .before .before .before .before .before .before .before .before .before .before .before .before .before .before .pre .1)) .less
+loop-less c =
+    let start = c .before .before .before .before .before .before .before .before .before .before .before .before .before .before .before .before .before .before .before in
+    let loop-test = c .before .before .before .before .before .before .before .before .before .before .loop-test in
+    (pair-inside (free-inside (loop-test .taken) .more) (start .pre .1)) .less
 
 loop-again : tie.Need-loop-again Inv-loop μ-loop
 loop-again c =
+    let loop = c .before .before .before .before .before .before .before .before .before .before .before .loop in
+    let code-free-pair = c .before .before .before .before .before .code-free-pair in
     let w = c .before .before .before .put-pair in
-    let q = c .before .before .before .before .before .code-free-pair .ensures in
-    (rw (w .ensures) (going-step (at-pair (c .before .before .before .before .before .before .before .before)) (q .codes)), w .kept .0 ∙ c .before .before .before .before .before .before .before .before .before .before .before .loop .inv .1, q .small)
+    let q = code-free-pair .ensures in
+    (rw (w .ensures) (going-step (at-pair (c .before .before .before .before .before .before .before .before)) (q .codes)), w .kept .0 ∙ loop .inv .1, q .small)
 
 code-forced-pairs-requires : tie.Need-code-forced-pairs-requires Inv-loop μ-loop
 code-forced-pairs-requires c κs =
@@ -115,8 +126,11 @@ same-length c = c .before .before .code-forced-pairs .kept .1 .1 .1 .1 .1 .1 .0 
 
 returns : tie.Need-returns Inv-loop μ-loop
 returns c =
+    let start = c .before .before .before .before .before .before .before .before .before .before .before .before .before in
+    let loop = c .before .before .before .before .before .loop in
+    let code-forced-pairs = c .before .before .code-forced-pairs in
     let n = c .before .before .before .before .before .before .state-number in
-    rw (coder-back (c .before .before .before .before .before .before .before .before .before .before .before .before .before .args .c) (n .result) (n .ensures .0)) at (going-on (c .before .before .before .before .before .loop .inv .0) (c .before .before .code-forced-pairs .ensures))
+    rw (coder-back (start .args .c) (n .result) (n .ensures .0)) at (going-on (loop .inv .0) (code-forced-pairs .ensures))
 
 pub code-from-spec : {M : Type 1} → statement M
 code-from-spec =
