@@ -2,7 +2,7 @@
 // bits are put together. Proved code alone calls what has a `requires`.
 ghost use mathlib.Core.Path.{_≡_};
 ghost use mathlib.Core.Bool.{false};
-ghost use Prim.Native.Nat.{_+_, _-_, _*_, _^_, _≤_, _<_};
+ghost use Prim.Native.Nat.{_^_, _≤_, _<_};
 ghost use lib.ListN.{length, getD};
 ghost use Rattle.frame.specs.Labels.{labelsAt, Placed, Rising};
 ghost use Rattle.g9932.specs.Sizes.{mostTones};

@@ -9,7 +9,7 @@ use borrow.Author.Tests.{eq-eqb, ne-eqb, eqb-true, eqb-false}
 use lib.ListN.{length, drop, drop-of-length-le}
 use lib.Seq.{drop-drop}
 use Rattle.g9932.specs.Bits.{weight, num}
-use Rattle.g9932.specs.Sizes.{unpack}
+use Rattle.g9932.specs.Sizes.{bytesFor, unpack}
 use Rattle.g9932.specs.Refusals.{someOne, frameTest}
 use Rattle.g9932.proofs.Words.{num-drop}
 use Rattle.g9932.proofs.Packed.{drop-unpack}
@@ -31,7 +31,7 @@ someOne-num (false ∷ l) =
     let z : 0 + 2 * num l ≡ 2 * num l = omega arith in
     rw (z, doubled (num l)) (someOne-num l)
 
-past-end : (f : List ℕ) (l b : ℕ) → length f ≡ (l + 7) / 8 → ByteAt f (l / 8) b → num (drop l (unpack f)) ≡ b / 2 ^ (l % 8)
+past-end : (f : List ℕ) (l b : ℕ) → length f ≡ bytesFor l → ByteAt f (l / 8) b → num (drop l (unpack f)) ≡ b / 2 ^ (l % 8)
 unfolding unpack num
 past-end f l b hl hb =
     let at : 8 * (l / 8) + l % 8 ≡ l = omega arith in
@@ -41,12 +41,10 @@ past-end f l b hl hb =
     let s : drop l (unpack f) ≡ drop (l % 8) (unpack (drop (l / 8) f)) = rw (← drop-unpack, drop-drop, at) in
     rw (s, num-drop, e)
 
-pub length-refused : (f : List ℕ) (l : ℕ) → (length f ≡ l / 8 + (l % 8 + 7) / 8 → ⊥) → true ≡ frameTest l f
+pub length-refused : (f : List ℕ) (l : ℕ) → (length f ≡ bytesFor l → ⊥) → true ≡ frameTest l f
 unfolding frameTest
-length-refused f l h = rw (ne-eqb (length f) ((l + 7) / 8) (λ e. h (omega arith)))
+length-refused f l h = rw (ne-eqb (length f) (bytesFor l) h)
 
-pub unused-refused : (f : List ℕ) (l b : ℕ) → length f ≡ l / 8 + (l % 8 + 7) / 8 → ByteAt f (l / 8) b → not (eqb (b / 2 ^ (l % 8)) 0) ≡ frameTest l f
+pub unused-refused : (f : List ℕ) (l b : ℕ) → length f ≡ bytesFor l → ByteAt f (l / 8) b → not (eqb (b / 2 ^ (l % 8)) 0) ≡ frameTest l f
 unfolding frameTest
-unused-refused f l b hl hb =
-    let g : length f ≡ (l + 7) / 8 = omega arith in
-    rw (eq-eqb (length f) ((l + 7) / 8) g, someOne-num (drop l (unpack f)), past-end f l b g hb)
+unused-refused f l b hl hb = rw (eq-eqb (length f) (bytesFor l) hl, someOne-num (drop l (unpack f)), past-end f l b hl hb)

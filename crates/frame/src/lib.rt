@@ -3,11 +3,11 @@ pub mod by_place;
 pub mod masks;
 
 ghost use mathlib.Core.Path.{_≡_};
-ghost use mathlib.Core.List.{[], _++_};
-ghost use Prim.Native.Nat.{ℕ, _+_, _-_, _*_, _/_, _%_, _^_, _≤_, _<_};
+ghost use mathlib.Core.List.{_++_};
+ghost use Prim.Native.Nat.{_+_, _-_, _*_, _/_, _%_, _^_, _≤_, _<_};
 ghost use lib.ListN.{length, getD, take, drop};
 ghost use Rattle.g9932.specs.Bits.{bits, num};
-ghost use Rattle.g9932.specs.Sizes.{unpack};
+ghost use Rattle.g9932.specs.Sizes.{bytesFor, unpack};
 ghost use Rattle.g9932.specs.Refusals.{frameTest};
 ghost use Rattle.frame.specs.Loads.{Ahead};
 ghost use Rattle.frame.specs.Written.{emptyWriter, written, Waits, Put};
@@ -19,11 +19,18 @@ fn byte_at(bytes: &[u8], i: usize) -> u64
     if i < bytes.len() { bytes[i] as u64 } else { 0 }
 }
 
+// The bytes of a frame of l bits: l/8 rounded up.
+pub fn bytes_for(l: usize) -> usize
+    ensures { λ r. ⌜ r ≡ bytesFor l ⌝ }
+{
+    l / 8 + (l % 8 + 7) / 8
+}
+
 // Whether FRAME (11) applies to a frame of l bits: its length is wrong, or an unused bit is 1.
 pub fn frame_refused(frame: &[u8], l: usize) -> bool
     ensures { λ r. ⌜ r ≡ frameTest l (now (frame .entry)) ⌝ }
 {
-    if frame.len() != l / 8 + (l % 8 + 7) / 8 {
+    if frame.len() != bytes_for(l) {
         return true;
     }
     byte_at(frame, l / 8) >> (l % 8) != 0
@@ -100,7 +107,7 @@ fn ahead_near_end(bytes: &[u8], at: usize) -> u64
     word_at(bytes, at / 8) >> bit_in_byte(at)
 }
 
-// The same anywhere; past the end the bits count as 0. Called by proved code only.
+// The same anywhere; past the end the bits count as 0.
 pub fn ahead(bytes: &[u8], at: usize) -> u64
     ensures { λ r. ⌜ Ahead r (drop at (unpack (now (bytes .entry)))) ⌝ }
 {

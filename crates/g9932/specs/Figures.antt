@@ -3,7 +3,7 @@ use Prim.Native.Nat.{ℕ}
 use mathlib.Core.List.{List, [], _∷_, map}
 use mathlib.Core.Path.{_≡_}
 use lib.IntN.{ℤ, pos}
-use Rattle.g9932.specs.Sizes.{Tables, tables, minus, point, points}
+use Rattle.g9932.specs.Sizes.{Tables, tables, minus, point}
 use Rattle.g9932.specs.Refusals.{accepted, tableVerdict}
 use Rattle.g9932.specs.Filler.{resetRegister}
 use Rattle.g9932.specs.Symbol.{orderOf, bitsIn}

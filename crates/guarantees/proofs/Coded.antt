@@ -13,7 +13,7 @@ use lib.ListN.{length, take, drop, getD, replicate, length-append, length-replic
 use lib.Seq.{getD-append-add}
 use Rattle.g9932.specs.Bits.{_⊕_, bit, bits, num, odd, weight}
 use Rattle.g9932.specs.Sizes.{Tables, entry, frameBits, Point, origin}
-use Rattle.g9932.specs.Order.{Pair, pair, sum, count, consIf, filter, isOne, bitsOf, oneBit, singles, others, ones, reorderedTones, reorderedBits, entries}
+use Rattle.g9932.specs.Order.{Pair, sum, count, consIf, filter, isOne, bitsOf, oneBit, singles, others, ones, reorderedTones, reorderedBits, entries}
 use Rattle.g9932.specs.Trellis.{zeroState, taken, takenTotal, lowBits, wordOf, nextOf, wordAt, encodePairs, sentOf}
 use Rattle.g9932.specs.Points.{pointOf}
 use Rattle.g9932.specs.Filler.{registerAfter}

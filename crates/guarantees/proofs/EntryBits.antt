@@ -7,9 +7,8 @@ use native.Mathlib.Nat.{zero-add}
 use native.Mathlib.Omega.{arith}
 use lib.ListN.{length, take, drop, getD, replicate, length-drop}
 use lib.Seq.{take-take, drop-drop, take-append-le, drop-append-le, drop-at, getD-take, getD-drop, length-take-le}
-use Rattle.g9932.specs.Bits.{bit, bits, odd}
-use Rattle.g9932.specs.Sizes.{entry}
-use Rattle.g9932.specs.Order.{Pair, pair, sum, isOne, entries, inTwos, zeroInFront, pairsOf}
+use Rattle.g9932.specs.Bits.{bit, odd}
+use Rattle.g9932.specs.Order.{Pair, pair, sum, isOne, inTwos, zeroInFront, pairsOf}
 use Rattle.g9932.specs.Trellis.{Word, lastTwo, taken, takenTotal, lowBitsOf, sentBits, nextOf, wordAt, encodePairs}
 use Rattle.g9932.specs.declared.TrellisState.{TrellisState}
 use Rattle.g9932.proofs.Formed.{AllTwo, fit-both, fit-lone, isOne-odd, isOne-even}

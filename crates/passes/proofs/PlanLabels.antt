@@ -10,7 +10,6 @@ use lib.ListN.{length, take, drop, replicate, length-append, length-drop, length
 use lib.Seq.{length-take-le, take-at, drop-at, getD-take, getD-drop, getD-append-add}
 use Rattle.frame.proofs.Labels.{length-at}
 use Rattle.frame.specs.Labels.{bitsOfLabels, Within, labelsAt, Placed}
-use Rattle.g9932.specs.Bits.{bits}
 use Rattle.g9932.specs.Order.{consIf, filter}
 use Rattle.g9932.specs.Sizes.{entry}
 use Rattle.g9932.specs.Symbol.{load}

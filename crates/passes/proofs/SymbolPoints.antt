@@ -18,7 +18,7 @@ use Rattle.g9932.proofs.Words.{num-lt, bits-num, length-bits}
 use Rattle.g9932.specs.Bits.{bits, num, first}
 use Rattle.g9932.specs.Filler.{drawn, registerAfter, afterDraws, draws}
 use Rattle.g9932.specs.Points.{pointOf, labelOf}
-use Rattle.g9932.specs.Sizes.{entry, Point, point, origin, points}
+use Rattle.g9932.specs.Sizes.{entry, Point, origin, points}
 use Rattle.g9932.specs.Symbol.{load, tonePoint, writePoints, inConstellation, isFiller, offgridTest, toneBits, gatherBits}
 use Rattle.g9932.specs.declared.Class.{Class}
 use Rattle.g9932.specs.declared.Class.the-variants.{Data, Monitored, Silent}

@@ -26,8 +26,7 @@ pub fn check_inputs(
             if y_len != nsc {
                 return Planned::Refused(Refusal::Room);
             }
-            let size = p.size;
-            if frame_len != size / 8 + (size % 8 + 7) / 8 {
+            if frame_len != frame::bytes_for(p.size) {
                 return Planned::Refused(Refusal::Room);
             }
             if prbs::seed_refused(register) {

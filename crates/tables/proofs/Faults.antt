@@ -1,12 +1,9 @@
 -- Laws of the checks: one scan for three tests, what the size test leaves, and refusals 1 to 6 from what the searches find.
-use Prim.Native.Nat.{ℕ, _<_, _≤_}
-use mathlib.Core.Bool.{Bool, true, false, not, _||_}
+use Prim.Native.Nat.{ℕ, _<_}
+use mathlib.Core.Bool.{Bool, true, false, _||_}
 use mathlib.Core.List.{List}
 use mathlib.Core.Path.{_≡_, refl, sym}
-use borrow.Author.Tests.{ltb-false, eqb-true, not-false}
-use lib.Dec.{ltb, eqb}
 use lib.ListN.{length}
-use Rattle.g9932.specs.Sizes.{mostTones}
 use Rattle.g9932.specs.Bits.{first}
 use Rattle.g9932.specs.Refusals.{Verdict, refused, accepted, sizeTest, toneTest, twiceTest, bitsTest, strayTest, gainTest, indexVerdict, listVerdict}
 use Rattle.g9932.specs.declared.Found.the-variants.{At, Nothing}

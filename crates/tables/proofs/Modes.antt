@@ -4,7 +4,7 @@ use mathlib.Core.List.{List}
 use mathlib.Core.Path.{_≡_, refl, sym, ap, _∙_}
 use Prim.Native.Nat.{ℕ, _+_, _-_, _/_, _%_, _<_, _≤_}
 use lib.Dec.{ltb}
-use lib.ListN.{length, take}
+use lib.ListN.{length}
 use borrow.Author.Tests.{eq-eqb, ne-eqb, lt-ltb, le-ltb}
 use native.Mathlib.Omega.{arith}
 use Rattle.g9932.proofs.Formed.{isOne-even, formed-size, formed-pairsOf, length-pairsOf, total-pairsOf}
@@ -12,7 +12,7 @@ use Rattle.g9932.proofs.Reordering.{sum-entries, length-entries, allTwo-entries
 use Rattle.g9932.proofs.Search.{first-none}
 use Rattle.g9932.proofs.Verdicts.{test-here, test-past, found-past}
 use Rattle.g9932.specs.Bits.{first}
-use Rattle.g9932.specs.Order.{sum, count, isOne, bitsOf, loaded, ones, entryCount, entries, pairsOf, reorderedBits, codedPairs, frameSize}
+use Rattle.g9932.specs.Order.{sum, count, isOne, bitsOf, ones, entryCount, entries, pairsOf, reorderedBits, codedPairs, frameSize}
 use Rattle.g9932.specs.Refusals.{Verdict, refused, accepted, refuseAt, pairTest, modeVerdict}
 use Rattle.g9932.specs.declared.Found.the-variants.{Nothing}
 use Rattle.g9932.specs.declared.Found.{Found}

@@ -3,10 +3,10 @@ mod pairs;
 
 ghost use mathlib.Core.Path.{_≡_};
 ghost use mathlib.Core.Bool.{false};
-ghost use Prim.Native.Nat.{_+_, _-_, _*_, _/_, _%_, _^_, _≤_, _<_};
+ghost use Prim.Native.Nat.{_+_, _*_, _^_, _≤_, _<_};
 ghost use lib.ListN.{length, getD, set};
 ghost use Rattle.frame.specs.Labels.{labelsAt, Rising, Placed};
-ghost use Rattle.g9932.specs.Bits.{weight as weightOf, bits};
+ghost use Rattle.g9932.specs.Bits.{weight as weightOf};
 ghost use Rattle.g9932.specs.Order.{pair};
 ghost use Rattle.g9932.specs.Sizes.{mostBytes};
 ghost use Rattle.g9932.specs.Trellis.{zeroState};

@@ -2,7 +2,7 @@
 // state is one number, and one look-up takes a step. Only this crate's proved code calls these functions.
 ghost use mathlib.Core.Path.{_≡_};
 ghost use mathlib.Core.Bool.{true, false};
-ghost use Prim.Native.Nat.{_+_, _-_, _*_, _/_, _%_, _^_, _≤_, _<_};
+ghost use Prim.Native.Nat.{_+_, _/_, _%_, _^_, _≤_, _<_};
 ghost use lib.ListN.{length, set};
 ghost use Rattle.frame.specs.Labels.{labelsAt, Rising, Placed};
 ghost use Rattle.frame.specs.Masks.{maskList};

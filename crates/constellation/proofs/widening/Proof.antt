@@ -1,7 +1,6 @@
 -- `constellation::widening` meets its contract: each table agrees with Table 10-3 at its sixteen entries.
 use native.Mathlib.Omega.{arith}
 use mathlib.Core.Logic.{⊎-elim}
-use Prim.Native.Nat.{_-_}
 use mathlib.Core.Path.{refl}
 use Rattle.g9932.specs.Bits.{first}
 use Rattle.constellation.specs.Widened.{topFour}

@@ -8,7 +8,6 @@ use native.Mathlib.Omega.{arith}
 use Rattle.decoder.proofs.DecodeLoop.{Decoding, decoding-start, decoding-end, pair-needs, decoding-broken, decoding-step}
 use Rattle.trellis.proofs.Entries.{pair-wide, pair-inside}
 use Rattle.frame.specs.Labels.{labelsAt}
-use borrow.Author.Needs.{needs}
 use Rattle.decoder.proofs.read_from.Statement.{statement}
 use Rattle.decoder.proofs.read_from.Tie as tie
 

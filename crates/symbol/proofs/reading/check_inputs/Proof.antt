@@ -5,7 +5,6 @@ use Rattle.g9932.specs.Sizes.{bytesFor}
 use Rattle.g9932.specs.Answers.{readInputs}
 use Rattle.symbol.proofs.PlannedInputs.{tables-refused, inputs-refused, inputs-pass}
 use Rattle.symbol.proofs.Answers.{room-x, room-y, rooms-two, rooms-frame, rooms-none}
-use native.Mathlib.Omega.{arith}
 use mathlib.Core.Path.{refl, sym, _∙_}
 use borrow.Author.Needs.{needs}
 use Rattle.symbol.proofs.reading.check_inputs.Statement.{statement}
@@ -24,34 +23,29 @@ returns-2 : tie.Need-returns-2
 unfolding readInputs
 returns-2 c =
     let p = c .before .before .planned2 in
-    let s = c .before .before .before .before in
-    let x = c .if1 in
-    inputs-refused (p .given .1) _ (test-here 10 _ (rooms-two (s .args .x-len) (s .args .y-len) (s .args .nsc) (s .args .frame-len) (bytesFor (p .given .0 .0 .size)) (room-x (s .args .x-len) (s .args .y-len) (s .args .nsc) (x .taken))))
+    let a = c .before .before .before .before .args in
+    inputs-refused (p .given .1) _ (test-here 10 _ (rooms-two (a .x-len) (a .y-len) (a .nsc) (a .frame-len) (bytesFor (p .given .0 .0 .size)) (room-x (a .x-len) (a .y-len) (a .nsc) (c .if1 .taken))))
 
 returns-3 : tie.Need-returns-3
 unfolding readInputs
 returns-3 c =
     let p = c .before .before .before .planned2 in
-    let s = c .before .before .before .before .before in
-    let x = c .before .if1 in
-    let y = c .if2 in
-    inputs-refused (p .given .1) _ (test-here 10 _ (rooms-two (s .args .x-len) (s .args .y-len) (s .args .nsc) (s .args .frame-len) (bytesFor (p .given .0 .0 .size)) (room-y (s .args .x-len) (s .args .y-len) (s .args .nsc) (x .left) (y .taken))))
+    let a = c .before .before .before .before .before .args in
+    let y = room-y (a .x-len) (a .y-len) (a .nsc) (c .before .if1 .left) (c .if2 .taken) in
+    inputs-refused (p .given .1) _ (test-here 10 _ (rooms-two (a .x-len) (a .y-len) (a .nsc) (a .frame-len) (bytesFor (p .given .0 .0 .size)) y))
 
-add-if3 : tie.Need-add-if3
-add-if3 c = search needs
-
-add-if3-2 : tie.Need-add-if3-2
-add-if3-2 c = search needs
+bytes-for-requires : tie.Need-bytes-for-requires
+bytes-for-requires c κs = search needs
 
 returns-4 : tie.Need-returns-4
 unfolding readInputs
 returns-4 c =
-    let p = c .before .before .before .before .planned2 in
-    let s = c .before .before .before .before .before .before in
-    let x = c .before .before .if1 in
-    let y = c .before .if2 in
-    let z = c .if3 in
-    inputs-refused (p .given .1) _ (test-here 10 _ (rooms-frame (s .args .x-len) (s .args .y-len) (s .args .nsc) (s .args .frame-len) (bytesFor (p .given .0 .0 .size)) (x .left) (y .left) (λ e. z .taken (omega arith))))
+    let p = c .before .before .before .before .before .planned2 in
+    let a = c .before .before .before .before .before .before .before .args in
+    let x = c .before .before .before .if1 .left in
+    let y = c .before .before .if2 .left in
+    let n = c .before .bytes-for .ensures in
+    inputs-refused (p .given .1) _ (test-here 10 _ (rooms-frame (a .x-len) (a .y-len) (a .nsc) (a .frame-len) (bytesFor (p .given .0 .0 .size)) x y (λ e. c .if3 .taken (e ∙ sym n))))
 
 seed-refused-requires : tie.Need-seed-refused-requires
 seed-refused-requires c κs = search needs
@@ -59,26 +53,24 @@ seed-refused-requires c κs = search needs
 returns-5 : tie.Need-returns-5
 unfolding readInputs
 returns-5 c =
-    let p = c .before .before .before .before .before .before .planned2 in
-    let s = c .before .before .before .before .before .before .before .before in
-    let x = c .before .before .before .before .if1 in
-    let y = c .before .before .before .if2 in
-    let z = c .before .before .if3 in
-    let r = c .before .seed-refused in
-    let q = c .if4 in
-    inputs-refused (p .given .1) _ (test-past 10 (rooms-none (s .args .x-len) (s .args .y-len) (s .args .nsc) (s .args .frame-len) (bytesFor (p .given .0 .0 .size)) (x .left) (y .left) (omega (arith, z .left))) (test-here 12 _ (sym (r .ensures) ∙ q .taken)))
+    let p = c .before .before .before .before .before .before .before .planned2 in
+    let a = c .before .before .before .before .before .before .before .before .before .args in
+    let x = c .before .before .before .before .before .if1 .left in
+    let y = c .before .before .before .before .if2 .left in
+    let n = c .before .before .before .bytes-for .ensures in
+    let room = rooms-none (a .x-len) (a .y-len) (a .nsc) (a .frame-len) (bytesFor (p .given .0 .0 .size)) x y (c .before .before .if3 .left ∙ n) in
+    inputs-refused (p .given .1) _ (test-past 10 room (test-here 12 _ (sym (c .before .seed-refused .ensures) ∙ c .if4 .taken)))
 
 returns-6 : tie.Need-returns-6
 unfolding readInputs
 returns-6 c =
-    let p = c .before .before .before .before .before .before .planned2 in
-    let s = c .before .before .before .before .before .before .before .before in
-    let x = c .before .before .before .before .if1 in
-    let y = c .before .before .before .if2 in
-    let z = c .before .before .if3 in
-    let r = c .before .seed-refused in
-    let q = c .if4 in
-    inputs-pass (p .given .1) (test-past 10 (rooms-none (s .args .x-len) (s .args .y-len) (s .args .nsc) (s .args .frame-len) (bytesFor (p .given .0 .0 .size)) (x .left) (y .left) (omega (arith, z .left))) (test-past 12 (sym (r .ensures) ∙ q .left) refl))
+    let p = c .before .before .before .before .before .before .before .planned2 in
+    let a = c .before .before .before .before .before .before .before .before .before .args in
+    let x = c .before .before .before .before .before .if1 .left in
+    let y = c .before .before .before .before .if2 .left in
+    let n = c .before .before .before .bytes-for .ensures in
+    let room = rooms-none (a .x-len) (a .y-len) (a .nsc) (a .frame-len) (bytesFor (p .given .0 .0 .size)) x y (c .before .before .if3 .left ∙ n) in
+    inputs-pass (p .given .1) (test-past 10 room (test-past 12 (sym (c .before .seed-refused .ensures) ∙ c .if4 .left) refl))
 
 pub check-inputs-spec : {M : Type 1} → statement M
 check-inputs-spec =
@@ -89,8 +81,7 @@ check-inputs-spec =
     enum-known-planned-2
     returns-2
     returns-3
-    add-if3
-    add-if3-2
+    bytes-for-requires
     returns-4
     seed-refused-requires
     returns-5
