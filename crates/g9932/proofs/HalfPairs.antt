@@ -12,10 +12,10 @@ use lib.ListN.{length, drop, length-drop}
 use Rattle.g9932.specs.Order.{Pair}
 use Rattle.g9932.specs.Trellis.{zeroState, lastTwo, nextOf, encodePairs, obeysCode, takenBits, frame, breaks, after, width, decodedAt, readPairs, takenTotal}
 use Rattle.g9932.specs.declared.TrellisState.{TrellisState}
-use Rattle.g9932.proofs.Pairs.{Ok, sentTotal, length-encode, read-stop, read-encode, Went, went}
+use Rattle.g9932.proofs.Pairs.{Ok, sentTotal, length-encode, read-stop, read-encode, FirstRead, first-read}
 use Rattle.g9932.proofs.Formed.{Full, Formed, whole, padded, full-ok, formed-ok}
 use Rattle.g9932.proofs.Coordinates.{oppositeLabel}
-use Rattle.g9932.proofs.HalfWord.{half, Turned, TurnedLone, both-turned, lone-turned, turned-keeps, turned-next, taken-differ, OffOne, lone-off, off-free, off-next, off-forced}
+use Rattle.g9932.proofs.HalfWord.{half, Turned, TurnedLone, both-turned, lone-turned, turned-obeys, turned-next, taken-differ, OffOne, lone-off, off-free, off-next, off-forced}
 use Rattle.g9932.proofs.Turns.{turnedBits, both-at, lone-at, turned-on, breaks-here}
 
 -- the sent bits of pairs, each label turned
@@ -43,19 +43,19 @@ turned-read : (ps : List Pair) (s : TrellisState) (d f : List Bool) → Full ps 
 unfolding readPairs
 turned-read [] s d f h l e = ([], refl)
 turned-read (p ∷ ps) s d f h l e =
-    let c : Went p ps s d f = went p ps s d f e in
+    let c : FirstRead p ps s d f = first-read p ps s d f e in
     let t : Turned (decodedAt p d) (decodedAt p (halfTurned (p ∷ ps) d)) = turned-at p ps d (omega arith) (h .0) (h .1) in
     let r = turned-read ps (nextOf s (decodedAt p d)) (drop (width p) d) (c .rest) (h .2) (simp length-drop (omega arith)) (c .on) in (
       takenBits (lastTwo ps) (p .x) (decodedAt p (halfTurned (p ∷ ps) d)) ++ r .0,
-      on p ps d (omega arith) s (turned-keeps (lastTwo ps) s (decodedAt p d) (decodedAt p (halfTurned (p ∷ ps) d)) t ∙ c .kept)
+      on p ps d (omega arith) s (turned-obeys (lastTwo ps) s (decodedAt p d) (decodedAt p (halfTurned (p ∷ ps) d)) t ∙ c .obeys)
           ∙ rw (turned-next s (decodedAt p d) (decodedAt p (halfTurned (p ∷ ps) d)) t, r .1),
     )
 
 turned-differs : (p : Pair) (ps : List Pair) (s : TrellisState) (d f g : List Bool) → Full (p ∷ ps) → length d ≡ sentTotal (p ∷ ps)
     → readPairs s (p ∷ ps) d ≡ frame f → readPairs s (p ∷ ps) (halfTurned (p ∷ ps) d) ≡ frame g → g ≢ f
 turned-differs p ps s d f g h l e k same-frame =
-    let c : Went p ps s d f = went p ps s d f e in
-    let c′ : Went p ps s (halfTurned (p ∷ ps) d) g = went p ps s (halfTurned (p ∷ ps) d) g k in
+    let c : FirstRead p ps s d f = first-read p ps s d f e in
+    let c′ : FirstRead p ps s (halfTurned (p ∷ ps) d) g = first-read p ps s (halfTurned (p ∷ ps) d) g k in
     taken-differ (lastTwo ps) (p .x) (decodedAt p d) (decodedAt p (halfTurned (p ∷ ps) d)) (c .rest) (c′ .rest) (h .0)
     (turned-at p ps d (omega arith) (h .0) (h .1)) (sym (c .whole) ∙ sym same-frame ∙ c′ .whole)
 
@@ -78,13 +78,13 @@ later (p ∷ ps) = 1
 breaks-soon : (q r : Pair) (ps : List Pair) (a b : TrellisState) (d f : List Bool) → OffOne a b → Full (q ∷ r ∷ ps)
     → length d ≡ sentTotal (q ∷ r ∷ ps) → readPairs a (q ∷ r ∷ ps) d ≡ frame f → readPairs b (q ∷ r ∷ ps) (halfTurned (q ∷ r ∷ ps) d) ≡ breaks (later ps)
 breaks-soon q r [] a b d f o h l e =
-    let c : Went q (r ∷ []) a d f = went q (r ∷ []) a d f e in
+    let c : FirstRead q (r ∷ []) a d f = first-read q (r ∷ []) a d f e in
     let t = turned-at q (r ∷ []) d (omega arith) (h .0) (h .1) in
-    read-stop q (r ∷ []) b (halfTurned (q ∷ r ∷ []) d) (off-forced a b (decodedAt q d) (decodedAt q (halfTurned (q ∷ r ∷ []) d)) o t (c .kept))
+    read-stop q (r ∷ []) b (halfTurned (q ∷ r ∷ []) d) (off-forced a b (decodedAt q d) (decodedAt q (halfTurned (q ∷ r ∷ []) d)) o t (c .obeys))
 breaks-soon q r (m ∷ ms) a b d f o h l e =
-    let c : Went q (r ∷ m ∷ ms) a d f = went q (r ∷ m ∷ ms) a d f e in
+    let c : FirstRead q (r ∷ m ∷ ms) a d f = first-read q (r ∷ m ∷ ms) a d f e in
     let t = turned-at q (r ∷ m ∷ ms) d (omega arith) (h .0) (h .1) in
-    on q (r ∷ m ∷ ms) d (omega arith) b (off-free a b (decodedAt q d) (decodedAt q (halfTurned (q ∷ r ∷ m ∷ ms) d)) o t ∙ c .kept)
+    on q (r ∷ m ∷ ms) d (omega arith) b (off-free a b (decodedAt q d) (decodedAt q (halfTurned (q ∷ r ∷ m ∷ ms) d)) o t ∙ c .obeys)
     ∙ rw (breaks-here half r (m ∷ ms) (nextOf a (decodedAt q d)) (nextOf b (decodedAt q (halfTurned (q ∷ r ∷ m ∷ ms) d))) (drop (width q) d) (c .rest)
     (off-next a b (decodedAt q d) (decodedAt q (halfTurned (q ∷ r ∷ m ∷ ms) d)) o t) (h .2) (simp length-drop (omega arith)) (c .on))
 
@@ -92,9 +92,9 @@ breaks-padded : (p q r : Pair) (ps : List Pair) (s : TrellisState) (d f : List B
     → length d ≡ sentTotal (p ∷ q ∷ r ∷ ps) → readPairs s (p ∷ q ∷ r ∷ ps) d ≡ frame f
     → readPairs s (p ∷ q ∷ r ∷ ps) (halfTurned (p ∷ q ∷ r ∷ ps) d) ≡ breaks (suc (later ps))
 breaks-padded p q r ps s d f z y h l e =
-    let c : Went p (q ∷ r ∷ ps) s d f = went p (q ∷ r ∷ ps) s d f e in
+    let c : FirstRead p (q ∷ r ∷ ps) s d f = first-read p (q ∷ r ∷ ps) s d f e in
     let t = turned-lone p (q ∷ r ∷ ps) d (omega arith) z y in
-    on p (q ∷ r ∷ ps) d (omega arith) s (rw (t .same0) (c .kept))
+    on p (q ∷ r ∷ ps) d (omega arith) s (rw (t .same0) (c .obeys))
     ∙ rw (breaks-soon q r ps (nextOf s (decodedAt p d)) (nextOf s (decodedAt p (halfTurned (p ∷ q ∷ r ∷ ps) d))) (drop (width p) d) (c .rest)
     (lone-off s (decodedAt p d) (decodedAt p (halfTurned (p ∷ q ∷ r ∷ ps) d)) t) h (simp length-drop (omega arith)) (c .on))
 

@@ -11,7 +11,7 @@ use Rattle.g9932.specs.Trellis.{Word, nextOf, implied, same, obeysCode, 
 use Rattle.g9932.specs.declared.TrellisState.{TrellisState}
 use Rattle.g9932.proofs.Coordinates.{oppositeLabel, length-opposite}
 use Rattle.g9932.proofs.Identities.{bits-agree}
-use Rattle.g9932.proofs.OnePair.{forced-kept, same-not}
+use Rattle.g9932.proofs.OnePair.{forced-obeys, same-not}
 use Rattle.g9932.proofs.Turns.{Turn, both-u0, lone-u0, turned-parity}
 
 -- ---- bits
@@ -48,7 +48,7 @@ half =
       word = oppositeLabel;
       low = λ v0 v1. (not v0, not v1);
       flips = false;
-      kept = length-opposite;
+      sameLength = length-opposite;
       lowest = half-lowest;
       parity = bits-agree 2 (λ a b. not a ⊕ not b) (λ a b. a ⊕ b ⊕ false) refl;
       moves = bits-agree 2 (λ a b. same (not a) a && same (not b) b) (λ a b. false) refl;
@@ -88,9 +88,9 @@ lone-turned w h =
 
 -- ---- from the same state
 
-pub turned-keeps : (forced : Bool) (s : TrellisState) (u t : Word) → Turned u t → obeysCode forced s t ≡ obeysCode forced s u
-turned-keeps false s u t h = rw (h .same0)
-turned-keeps true s u t h = rw (h .same0, h .same1, h .same2)
+pub turned-obeys : (forced : Bool) (s : TrellisState) (u t : Word) → Turned u t → obeysCode forced s t ≡ obeysCode forced s u
+turned-obeys false s u t h = rw (h .same0)
+turned-obeys true s u t h = rw (h .same0, h .same1, h .same2)
 
 pub turned-next : (s : TrellisState) (u t : Word) → Turned u t → nextOf s t ≡ nextOf s u
 turned-next s u t h = rw (h .same1, h .same2)
@@ -112,7 +112,7 @@ pub record OffOne (a b : TrellisState) : Type 0 where
 pub lone-off : (s : TrellisState) (u t : Word) → TurnedLone u t → OffOne (nextOf s u) (nextOf s t)
 lone-off s u t h = record { off1 = rw (h .other2) (xor-not (s .s2) (u .u2)); like3 = refl; like0 = rw (h .same1) }
 
--- a pair that is not forced keeps the code, and S0 differs after it
+-- a pair that is not forced obeys the code, and S0 differs after it
 pub off-free : (a b : TrellisState) (u t : Word) → OffOne a b → Turned u t → obeysCode false b t ≡ obeysCode false a u
 off-free a b u t o h = rw (h .same0, o .like0)
 
@@ -122,6 +122,6 @@ off-next a b u t o h = rw (h .same1, o .off1, o .like3, not-xor (a .s1) (a .s3),
 -- a forced pair breaks it, by its u1
 pub off-forced : (a b : TrellisState) (u t : Word) → OffOne a b → Turned u t → obeysCode true a u ≡ true → obeysCode true b t ≡ false
 off-forced a b u t o h k =
-    let e = forced-kept (u .u0) (a .s0) (u .u1) (a .s1 ⊕ a .s3) (u .u2) (a .s2) k .1 in
+    let e = forced-obeys (u .u0) (a .s0) (u .u1) (a .s1 ⊕ a .s3) (u .u2) (a .s2) k .1 in
     rw (h .same1, o .off1, o .like3, not-xor (a .s1) (a .s3), e, same-not (a .s1 ⊕ a .s3))
     (and-false (same (t .u0) (b .s0)) (same (t .u2) (b .s2)))

@@ -12,8 +12,8 @@ use Rattle.g9932.specs.Order.{Pair}
 use Rattle.g9932.specs.Trellis.{Word, lastTwo, nextOf, implied, decodedWord, same, obeysCode, takenBits, frame, breaks, after, width, decodedAt, readPairs}
 use Rattle.g9932.specs.declared.TrellisState.{TrellisState}
 use Rattle.g9932.proofs.Identities.{bits-agree}
-use Rattle.g9932.proofs.OnePair.{kept-u0, breaks-u0}
-use Rattle.g9932.proofs.Pairs.{read-on, read-stop, Went, went}
+use Rattle.g9932.proofs.OnePair.{obeys-u0, breaks-u0}
+use Rattle.g9932.proofs.Pairs.{read-on, read-stop, FirstRead, first-read}
 use Rattle.g9932.proofs.Formed.{Full}
 
 -- The turn of a label: its length stays, `low` says what v0 and v1 become, always another two, and `flips` whether v0 xor v1 becomes
@@ -22,7 +22,7 @@ pub record Turn : Type 0 where
   pub word : List Bool → List Bool
   pub low : Bool → Bool → Bool × Bool
   pub flips : Bool
-  pub kept : (v : List Bool) → length (word v) ≡ length v
+  pub sameLength : (v : List Bool) → length (word v) ≡ length v
   pub lowest : (v : List Bool) → 2 ≤ length v → (bit (word v) 0 ≡ low (bit v 0) (bit v 1) .0) × (bit (word v) 1 ≡ low (bit v 0) (bit v 1) .1)
   pub parity : (a b : Bool) → low a b .0 ⊕ low a b .1 ≡ a ⊕ b ⊕ flips
   pub moves : (a b : Bool) → same (low a b .0) a && same (low a b .1) b ≡ false
@@ -59,7 +59,7 @@ module _ (turn : Turn) where
   word = turn .word
 
   pub turned-nil : word [] ≡ []
-  turned-nil = nil-length (word []) (turn .kept [])
+  turned-nil = nil-length (word []) (turn .sameLength [])
 
   -- a label of 2 bits or more never stays
   pub turn-moves : (v : List Bool) → 2 ≤ length v → word v ≡ v → ⊥
@@ -89,10 +89,10 @@ module _ (turn : Turn) where
   -- ---- a turned pair, decoded
 
   length-pair : (x : ℕ) (d : List Bool) → length (turnedPair word x d) ≡ length d
-  length-pair zero d = turn .kept d
+  length-pair zero d = turn .sameLength d
   length-pair (suc x) d =
       length-append (word (take (suc x) d)) (word (drop (suc x) d))
-      ∙ omega (arith, turn .kept (take (suc x) d), turn .kept (drop (suc x) d), length-take (suc x) d, length-drop (suc x) d)
+      ∙ omega (arith, turn .sameLength (take (suc x) d), turn .sameLength (drop (suc x) d), length-take (suc x) d, length-drop (suc x) d)
 
   -- a relation between the words implied holds between the words decoded
   module _ (R : Word → Word → Type 0) where
@@ -102,7 +102,7 @@ module _ (turn : Turn) where
     both-decoded law zero y d h k e = absurd (omega arith)
     both-decoded law (suc x) y d h k e =
         let lv : length (take (suc x) d) ≡ suc x = length-take-le (suc x) d (omega arith) in
-        let lt : length (word (take (suc x) d)) ≡ suc x = turn .kept (take (suc x) d) ∙ lv in
+        let lt : length (word (take (suc x) d)) ≡ suc x = turn .sameLength (take (suc x) d) ∙ lv in
         rw (
           take-at (word (take (suc x) d)) (word (drop (suc x) d)) (suc x) lt,
           drop-at (word (take (suc x) d)) (word (drop (suc x) d)) (suc x) lt,
@@ -148,8 +148,8 @@ module _ (turn : Turn) where
   pub breaks-here : (p : Pair) (ps : List Pair) (a b : TrellisState) (d f : List Bool) → b .s0 ≡ not (a .s0) → Full (p ∷ ps)
       → width p ≤ length d → readPairs a (p ∷ ps) d ≡ frame f → readPairs b (p ∷ ps) (turnedBits word (p ∷ ps) d) ≡ breaks 0
   breaks-here p ps a b d f o h l e =
-      let c : Went p ps a d f = went p ps a d f e in
+      let c : FirstRead p ps a d f = first-read p ps a d f e in
       let u : Word = decodedAt p (turnedBits word (p ∷ ps) d) in
       let t : u .u0 ≡ decodedAt p d .u0 = both-at p ps d l (λ u t. t .u0 ≡ u .u0) both-u0 (h .0) (h .1) in
       read-stop p ps b (turnedBits word (p ∷ ps) d)
-      (breaks-u0 (lastTwo ps) b u (o ∙ ap not (sym (t ∙ kept-u0 (lastTwo ps) a (decodedAt p d) (c .kept)))))
+      (breaks-u0 (lastTwo ps) b u (o ∙ ap not (sym (t ∙ obeys-u0 (lastTwo ps) a (decodedAt p d) (c .obeys)))))

@@ -31,7 +31,7 @@ use Rattle.g9932.proofs.OnePair.{Fit, both}
 use Rattle.g9932.proofs.Packed.{length-frame}
 use Rattle.g9932.proofs.Pairs.{Ok}
 use Rattle.g9932.proofs.Reordering.{entries-law, allTwo-entries, nonzero-entries, length-order}
-use Rattle.g9932.proofs.Sent.{load-classes, length-sentOf}
+use Rattle.g9932.proofs.Sent.{load-classes, length-taken, length-sentOf}
 use Rattle.g9932.proofs.Symbols.{loads, length-write, write-append}
 use Rattle.guarantees.specs.Words.{AcceptedTables, AcceptedFrame, nonZero, wordsOf, stateAfter, wordsIn, labelsOf, lowest, lowestAt, oneBitTones, firstOfTwo, sharedEntry, table10-2}
 use Rattle.guarantees.proofs.EntryBits.{pairs-low, labels-append, length-labels, twos-bit}
@@ -111,8 +111,8 @@ module _ (T : Tables) (ok : AcceptedTables T) (m : T .mode ≡ Coded) (f : List 
   abbrev g : List Bool
   g = frameBits (sizeOf T) f
 
-  length-g : length g ≡ takenTotal (pairsIn T)
-  length-g = length-frame (sizeOf T) f (a .passes) ∙ sym (c .taken)
+  taken-bits : length g ≡ takenTotal (pairsIn T)
+  taken-bits = length-taken T facts m f (a .passes)
 
   length-sent-bits : length (sentIn T f) ≡ sum (bitsOf (T .bits) (T .tones))
   length-sent-bits = length-sentOf T facts g (length-frame (sizeOf T) f (a .passes))
@@ -127,7 +127,7 @@ module _ (T : Tables) (ok : AcceptedTables T) (m : T .mode ≡ Coded) (f : List 
       let es : List ℕ = entries (T .bits) (T .tones) in
       let sent : sentIn T f ≡ encodePairs zeroState (pairsIn T) g = ap (λ (n : Mode). sentOf n (pairsIn T) g) m in
       let low : map (take 2) (labelsOf es (encodePairs zeroState (pairsIn T) g)) ≡ lowest (pairsIn T) (wordsIn T f) =
-      rw (c .pairs) (pairs-low es zeroState g (allTwo-entries (T .bits) (T .tones)) (c .fewEntries) (length-g ∙ ap takenTotal (c .pairs))) in
+      rw (c .pairs) (pairs-low es zeroState g (allTwo-entries (T .bits) (T .tones)) (c .fewEntries) (taken-bits ∙ ap takenTotal (c .pairs))) in
       ap (λ (d : List Bool). map (take 2) (labelsOf es d)) sent ∙ low
 
   -- the entries before those of the 1-bit tones, and the places

@@ -29,10 +29,9 @@ use Rattle.g9932.proofs.Constellations.{point-opposite}
 use Rattle.g9932.proofs.Formed.{Formed}
 use Rattle.g9932.proofs.HalfPairs.{halfTurned, turned-even, turned-odd}
 use Rattle.g9932.proofs.HalfWord.{half}
-use Rattle.g9932.proofs.Packed.{length-frame}
 use Rattle.g9932.proofs.Reordering.{nonzero-entries}
 use Rattle.g9932.proofs.Search.{first-no, first-all}
-use Rattle.g9932.proofs.Sent.{length-classes, loads-sum, sentOf-read}
+use Rattle.g9932.proofs.Sent.{length-classes, loads-sum, length-taken, sentOf-read}
 use Rattle.g9932.proofs.Symbols.{length-gather}
 use Rattle.g9932.proofs.TurnedTones.{half-ones}
 use Rattle.g9932.proofs.Verdicts.{found-here, found-past}
@@ -94,7 +93,7 @@ module _ (T : Tables) (a : Accepted T) (m : T .mode ≡ Coded) (r : ℕ) (f : Li
       turned-reading halfPoint T a m r f ok none (λ d l. half-ones (n / 2) n d (omega arith) l)
 
   taken-bits : length g ≡ takenTotal (pairsIn T)
-  taken-bits = length-frame (sizeOf T) f (ok .passes) ∙ sym (c .taken)
+  taken-bits = length-taken T a m f (ok .passes)
 
   parity : nonZero T ≡ length (entries (T .bits) (T .tones))
   parity = ap (λ (n : Mode). count (ltb 0) (reorderedBits n (T .bits) (T .tones))) m ∙ nonzero-entries (T .bits) (T .tones)

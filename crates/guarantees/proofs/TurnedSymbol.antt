@@ -80,7 +80,7 @@ module _ (turn : PointTurn) where
   -- ---- one tone
 
   turned-label : (n : ℕ) (v : List Bool) → turn .least ≤ n → length v ≡ n → labelOf n (point (pointOf n v)) ≡ some (word v)
-  turned-label n v h l = ap (labelOf n) (turn .label n v h l) ∙ label-point n (word v) (turn .labels .kept v ∙ l)
+  turned-label n v h l = ap (labelOf n) (turn .label n v h l) ∙ label-point n (word v) (turn .labels .sameLength v ∙ l)
 
   module _ (r : ℕ) where
     tone-off : (c : Class) (d : List Bool) → Loaded c → load c ≤ length d → not (inConstellation c (point (tonePoint r c d))) ≡ leaves c
@@ -100,7 +100,7 @@ module _ (turn : PointTurn) where
         go false e = refl
         go true e =
             let p = samePoint→eq (point (pointOf 2 (drawn 2 r))) (pointOf 2 (drawn 2 r)) e in
-            let i = point-inj 2 (word (drawn 2 r)) (drawn 2 r) (turn .labels .kept (drawn 2 r)) refl (sym (turn .label 2 (drawn 2 r) (turn .small) refl) ∙ p) in
+            let i = point-inj 2 (word (drawn 2 r)) (drawn 2 r) (turn .labels .sameLength (drawn 2 r)) refl (sym (turn .label 2 (drawn 2 r) (turn .small) refl) ∙ p) in
             absurd (turn-moves (turn .labels) (drawn 2 r) (omega arith) i)
 
     tone-filler : (c : Class) (d : List Bool) → not (isFiller c r (point (tonePoint r c d))) ≡ isMonitored c
