@@ -26,15 +26,15 @@ coded-mode (suc n) h = refl
 pub fields : {n n' p p' : ℕ} (reg : ℕ) → n ≡ n' → p ≡ p' → _≡_ {A = SymbolAnswer} (record { number = n; place = p; size = 0; reg = reg }) (record { number = n'; place = p'; size = 0; reg = reg })
 fields reg e f = rw (e, f)
 
--- an answer as a match told it
+-- an answer, and the case of it that a match has found
 pub small-checked : {a b : Checked} → a ≡ b → Small (verdictOf a) → Small (verdictOf b)
 small-checked e s = rw e at s
 
 pub small-answer : {a b : Answer} → a ≡ b → Small (reportOf a .verdict) → Small (reportOf b .verdict)
 small-answer e s = rw e at s
 
-pub told-as : {a b : Checked} {v : SymbolAnswer} → a ≡ b → v ≡ answerOf (verdictOf b) 0 → v ≡ answerOf (verdictOf a) 0
-told-as e t = rw e t
+pub checked-as : {a b : Checked} {v : SymbolAnswer} → a ≡ b → v ≡ answerOf (verdictOf b) 0 → v ≡ answerOf (verdictOf a) 0
+checked-as e t = rw e t
 
 pub reported-as : {a b : Answer} {v : SymbolAnswer} → a ≡ b → v ≡ reported (reportOf b) → v ≡ reported (reportOf a)
 reported-as e t = rw e t
@@ -53,28 +53,28 @@ module _ {m n : Mode} (b g t : List ℕ) (e : m ≡ n) where
   pub checked-small : (a : Checked) → verdictOf a ≡ tableVerdict (tables m b g t) → Small (verdictOf a)
   checked-small a h = rw h (small-table (tables m b g t))
 
-  pub checked-told : (a : Checked) {v : SymbolAnswer} → verdictOf a ≡ tableVerdict (tables m b g t) → v ≡ answerOf (verdictOf a) 0 → v ≡ answerOf (tableVerdict (tables n b g t)) 0
-  checked-told a h k = k ∙ ap (λ (w : Verdict). answerOf w 0) h ∙ rw e
+  pub checked-answered : (a : Checked) {v : SymbolAnswer} → verdictOf a ≡ tableVerdict (tables m b g t) → v ≡ answerOf (verdictOf a) 0 → v ≡ answerOf (tableVerdict (tables n b g t)) 0
+  checked-answered a h k = k ∙ ap (λ (w : Verdict). answerOf w 0) h ∙ rw e
 
-  pub order-small : {a : Checked} {order ents orderAfter entsAfter : List ℕ} → Reorders (tables m b g t) order ents a orderAfter entsAfter → Small (verdictOf a)
-  order-small {order = order} {ents = ents} h = rw (h .answer) (small-order (tables m b g t) (length order) (length ents))
+  pub order-small : {a : Checked} {tones bits tonesAfter bitsAfter : List ℕ} → Reorders (tables m b g t) tones bits a tonesAfter bitsAfter → Small (verdictOf a)
+  order-small {tones = tones} {bits = bits} h = rw (h .answer) (small-order (tables m b g t) (length tones) (length bits))
 
-  pub order-told : {a : Checked} {v : SymbolAnswer} {order ents orderAfter entsAfter : List ℕ} → Reorders (tables m b g t) order ents a orderAfter entsAfter → v ≡ answerOf (verdictOf a) 0
-      → ReorderAnswered (tables n b g t) order ents v orderAfter entsAfter
-  order-told h k = rw (sym e) (record { answer = k ∙ ap (λ (w : Verdict). answerOf w 0) (h .answer); tonesHold = h .tonesHold; bitsHold = h .bitsHold })
+  pub order-answered : {a : Checked} {v : SymbolAnswer} {tones bits tonesAfter bitsAfter : List ℕ} → Reorders (tables m b g t) tones bits a tonesAfter bitsAfter → v ≡ answerOf (verdictOf a) 0
+      → ReorderAnswered (tables n b g t) tones bits v tonesAfter bitsAfter
+  order-answered h k = rw (sym e) (record { answer = k ∙ ap (λ (w : Verdict). answerOf w 0) (h .answer); tonesHold = h .tonesHold; bitsHold = h .bitsHold })
 
   pub encode-small : {f : List ℕ} {r : ℕ} {xs ys xsAfter ysAfter : List ℤ} {a : Answer} → Encodes (tables m b g t) f r xs ys a xsAfter ysAfter → Small (reportOf a .verdict)
   unfolding reportBy
   encode-small {f = f} {r = r} {xs = xs} {ys = ys} h = rw (h .answer) (small-encode (tables m b g t) f r (length xs) (length ys))
 
-  pub encode-told : {f : List ℕ} {r : ℕ} {xs ys xsAfter ysAfter : List ℤ} {a : Answer} {v : SymbolAnswer} → Encodes (tables m b g t) f r xs ys a xsAfter ysAfter → v ≡ reported (reportOf a)
+  pub encode-answered : {f : List ℕ} {r : ℕ} {xs ys xsAfter ysAfter : List ℤ} {a : Answer} {v : SymbolAnswer} → Encodes (tables m b g t) f r xs ys a xsAfter ysAfter → v ≡ reported (reportOf a)
       → EncodeAnswered (tables n b g t) f r xs ys v xsAfter ysAfter
-  encode-told h k = rw (sym e) (record { answer = k ∙ ap reported (h .answer); xsHold = h .xsHold; ysHold = h .ysHold })
+  encode-answered h k = rw (sym e) (record { answer = k ∙ ap reported (h .answer); xsHold = h .xsHold; ysHold = h .ysHold })
 
   pub read-small : {f fAfter : List ℕ} {r : ℕ} {xs ys : List ℤ} {a : Answer} → Reads (tables m b g t) xs ys r f a fAfter → Small (reportOf a .verdict)
   unfolding reportBy
   read-small {f = f} {r = r} {xs = xs} {ys = ys} h = rw (h .answer) (small-read (tables m b g t) xs ys r (length f))
 
-  pub read-told : {f fAfter : List ℕ} {r : ℕ} {xs ys : List ℤ} {a : Answer} {v : SymbolAnswer} → Reads (tables m b g t) xs ys r f a fAfter → v ≡ reported (reportOf a)
+  pub read-answered : {f fAfter : List ℕ} {r : ℕ} {xs ys : List ℤ} {a : Answer} {v : SymbolAnswer} → Reads (tables m b g t) xs ys r f a fAfter → v ≡ reported (reportOf a)
       → ReadAnswered (tables n b g t) xs ys r f v fAfter
-  read-told h k = rw (sym e) (record { answer = k ∙ ap reported (h .answer); frameHolds = h .frameHolds })
+  read-answered h k = rw (sym e) (record { answer = k ∙ ap reported (h .answer); frameHolds = h .frameHolds })

@@ -1,4 +1,4 @@
--- A C answer has room for every place and for every L.
+-- Every place and every L fits the 32 bits of a C answer.
 use Prim.Native.Nat.{ℕ, zero, suc, _+_, _/_, _≤_}
 use mathlib.Core.Bool.{Bool, true, false, cond}
 use mathlib.Core.List.{List, [], _∷_}
@@ -11,7 +11,7 @@ use lib.ListN.{length, drop, length-append, length-map, length-replicate, replic
 use Rattle.g9932.specs.Bits.{orAt, first}
 use Rattle.g9932.specs.Sizes.{Tables, entry, mostTones, mostBits, Point, points}
 use Rattle.g9932.specs.Refusals.{Verdict, refuseIf, refuseAt, verdictBy, andThen, sizeTest, listVerdict, modeVerdict, tableVerdict}
-use Rattle.g9932.specs.Order.{consIf, filter, isOne, bitsOf, ones, entries, reorderedTones, codedPairs}
+use Rattle.g9932.specs.Order.{Pair, filter, isOne, bitsOf, ones, entries, reorderedTones, codedPairs}
 use Rattle.g9932.specs.Trellis.{Reading, frame, breaks, after, zeroState, readPairs, readingOf, obeysCode, lastTwo, decodedAt, nextOf, takenBits, width}
 use Rattle.g9932.specs.Symbol.{classesOf, pairsIn, sizeOf, gatherBits, readingIn}
 use Rattle.g9932.specs.Answers.{breakIn, orderVerdict, encodeInputs, encodeVerdict, pointsVerdict, readInputs, readVerdict}
@@ -20,10 +20,9 @@ use Rattle.g9932.specs.declared.Found.the-variants.{At, Nothing}
 use Rattle.g9932.specs.declared.Mode.{Mode}
 use Rattle.g9932.specs.declared.Mode.the-variants.{Uncoded, Coded}
 use Rattle.g9932.specs.declared.TrellisState.{TrellisState}
-use Rattle.g9932.specs.Order.{Pair}
 use Rattle.g9932.proofs.Verdicts.{test-none}
 use Rattle.g9932.proofs.Accepted.{accepted-tables, size-facts}
-use Rattle.g9932.proofs.Counts.{count-most}
+use Rattle.g9932.proofs.Counts.{count-filter, count-most}
 use Rattle.g9932.proofs.Formed.{length-pairsOf}
 use Rattle.g9932.proofs.Reordering.{length-order}
 use Rattle.clevisroot.specs.CAnswers.{Small}
@@ -85,19 +84,12 @@ module _ (m : ℕ) where
 
 -- ---- the tables
 
-filter-most : (p : ℕ → Bool) (l : List ℕ) → length (filter p l) ≤ length l
-filter-most p [] = omega arith
-filter-most p (n ∷ l) = go (p n) (filter-most p l)
-  where
-    go : (b : Bool) → length (filter p l) ≤ length l → length (consIf b n (filter p l)) ≤ suc (length l)
-    go true h = omega arith
-    go false h = omega arith
-
 entries-most : (b t : List ℕ) → length (entries b t) ≤ length t + length t / 2
 entries-most b t =
     let o = length-order b t Coded in
     let s = length-map (reorderedTones Coded b t) (entry b) in
-    let f = filter-most (leb 2) (bitsOf b (reorderedTones Coded b t)) in
+    let f = count-filter (leb 2) (bitsOf b (reorderedTones Coded b t)) in
+    let k = count-most (leb 2) (bitsOf b (reorderedTones Coded b t)) in
     let c = count-most isOne (bitsOf b t) in
     let n = length-map t (entry b) in
     let r = length-replicate {A = ℕ} (ones b t / 2) 2 in

@@ -33,9 +33,9 @@ encoding T byte = encodeOf T (byte ∷ []) resetRegister (blank T) (blank T)
 abbrev pub done : ℕ → ℕ → Report
 done l r = record { verdict = accepted l; register = r }
 
--- all loaded points (−1, −1), the silent one (0, 0), in t' order
-abbrev pub opposite : List ℤ
-opposite = minus 1 ∷ minus 1 ∷ minus 1 ∷ pos 0 ∷ minus 1 ∷ minus 1 ∷ []
+-- a coordinate of all loaded points (−1, −1) and the silent one (0, 0), in t' order
+abbrev pub allMinusOne : List ℤ
+allMinusOne = minus 1 ∷ minus 1 ∷ minus 1 ∷ pos 0 ∷ minus 1 ∷ minus 1 ∷ []
 
 abbrev pub points0 : List ℤ
 points0 = pos 1 ∷ pos 1 ∷ pos 1 ∷ minus 1 ∷ pos 1 ∷ pos 1 ∷ []
@@ -48,7 +48,7 @@ pub record MarkedFigures : Type 0 where
   pub byte1 :
       (encoding (tableA 512) 1 .xs ≡ pos 3 ∷ minus 1 ∷ pos 1 ∷ minus 1 ∷ pos 1 ∷ pos 1 ∷ []) ×
       (encoding (tableA 512) 1 .ys ≡ pos 3 ∷ minus 1 ∷ pos 1 ∷ minus 1 ∷ pos 1 ∷ pos 1 ∷ [])
-  pub opposite15 : readOf (tableA 0) opposite opposite resetRegister (0 ∷ []) ≡ record { report = done 5 resetRegister; frame = 15 ∷ [] }
+  pub minusOne15 : readOf (tableA 0) allMinusOne allMinusOne resetRegister (0 ∷ []) ≡ record { report = done 5 resetRegister; frame = 15 ∷ [] }
   pub silent0 : encoding (tableA 0) 0 .report ≡ done 5 resetRegister
   pub five : tableVerdict fiveTones ≡ accepted 3
   pub five1 :

@@ -1,5 +1,6 @@
--- Every promise over the definitions of document 01: those that demands 2 and 3 ask, in full, and what else is shown of the
--- definitions. Each proof cites the part that shows it. The words are those of specs/Words.antt and of crate g9932.
+-- The promises over the definitions of document 01: demand 3, in full; of demand 2, how many bits go on the tones, and which go where;
+-- and what else is shown of the definitions. That the code gives what they say is the `ensures` of each operation. Each proof cites
+-- the part that shows it. The words are those of specs/Words.antt and of crate g9932.
 use Prim.Native.Nat.{ℕ, _+_, _-_, _/_, _%_, _^_, _≤_, _<_}
 use mathlib.Core.Bool.{Bool, true, cond, not}
 use mathlib.Core.List.{List, [], _∷_, map}
@@ -24,7 +25,7 @@ use Rattle.g9932.proofs.Figures as Figures
 use Rattle.g9932.proofs.Packed as Packed
 use Rattle.g9932.proofs.Reordering as Reordering
 use Rattle.g9932.proofs.Verdicts as Verdicts
-use Rattle.guarantees.specs.Words.{AcceptedTables, AcceptedFrame, ValidRegister, RightLength, Ready, nonZero, wordsIn, stateAfter, labelsOf, lowest, lowestAt, oneBitTones, firstOfTwo, sharedEntry, table10-2, secondBit, fillerBit, turned}
+use Rattle.guarantees.specs.Words.{AcceptedTables, AcceptedFrame, ValidRegister, RightLength, Ready, nonZero, wordsIn, stateAfter, labelsOf, lowest, lowestAt, oneBitTones, firstOfTwo, sharedEntry, table10-2, bitOne, fillerBit, turned}
 use Rattle.guarantees.proofs.Coded as Coded
 use Rattle.guarantees.proofs.EntryBits as EntryBits
 use Rattle.guarantees.proofs.HalfTurn as HalfTurn
@@ -204,7 +205,7 @@ labels-below = Mapping.labels-below
 
 -- From 2 bits on, bit 1 of X in two's complement is bit 1 of the label (v1), and bit 1 of Y is bit 0 of the label (v0).
 pub low-bits : (b l : ℕ) (p : Point) → 2 ≤ b → mapLabel b l ≡ toneDone p
-    → (secondBit (p .px) ≡ bit (bits b l) 1) × (secondBit (p .py) ≡ bit (bits b l) 0)
+    → (bitOne (p .px) ≡ bit (bits b l) 1) × (bitOne (p .py) ≡ bit (bits b l) 0)
 low-bits = Mapping.low-bits
 
 -- The opposite point has a label: the other one for 1 bit, and from 2 bits on one with both lowest bits complemented.

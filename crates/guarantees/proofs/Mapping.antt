@@ -22,7 +22,7 @@ use Rattle.g9932.proofs.Identities.{or-false}
 use Rattle.g9932.proofs.Labels.{point-label, label-point}
 use Rattle.g9932.proofs.TwosComplement.{num-not}
 use Rattle.g9932.proofs.Words.{odd-weight, half-weight, num-bits, bits-num, length-bits, num-lt}
-use Rattle.guarantees.specs.Words.{secondBit}
+use Rattle.guarantees.specs.Words.{bitOne}
 
 -- ---- what an answer of DONE says
 
@@ -95,7 +95,7 @@ second-low : (x : Bool) (l : List Bool) → odd (num (true ∷ x ∷ l) / 2) ≡
 unfolding num
 second-low x l = rw (half-weight true (weight x + 2 * num l)) (odd-weight x (num l))
 
-second-neg : (n : ℕ) (l : List Bool) (x : Bool) → n ≡ suc (num (false ∷ x ∷ l)) → secondBit (negℤ (pos n)) ≡ not x
+second-neg : (n : ℕ) (l : List Bool) (x : Bool) → n ≡ suc (num (false ∷ x ∷ l)) → bitOne (negℤ (pos n)) ≡ not x
 unfolding num
 second-neg zero l x h = absurd (omega arith)
 second-neg (suc n) l x h =
@@ -106,27 +106,27 @@ not-not : (a : Bool) → not (not a) ≡ a
 not-not true = refl
 not-not false = refl
 
-twos-second : (x : Bool) (l : List Bool) → secondBit (twosComplement (true ∷ x ∷ l)) ≡ x
+twos-second : (x : Bool) (l : List Bool) → bitOne (twosComplement (true ∷ x ∷ l)) ≡ x
 unfolding twosComplement
 twos-second x l = go (signBit (true ∷ x ∷ l))
   where
-    go : (s : Bool) → secondBit (cond s (negℤ (pos (2 ^ length (true ∷ x ∷ l) - num (true ∷ x ∷ l)))) (pos (num (true ∷ x ∷ l)))) ≡ x
+    go : (s : Bool) → bitOne (cond s (negℤ (pos (2 ^ length (true ∷ x ∷ l) - num (true ∷ x ∷ l)))) (pos (num (true ∷ x ∷ l)))) ≡ x
     go true =
         second-neg (2 ^ length (true ∷ x ∷ l) - num (true ∷ x ∷ l)) (map not l) (not x) (omega (arith, num-not (true ∷ x ∷ l))) ∙ not-not x
     go false = second-low x l
 
-point-second : (b : ℕ) (v : List Bool) → length v ≡ b → 2 ≤ b → (secondBit (pointOf b v .px) ≡ bit v 1) × (secondBit (pointOf b v .py) ≡ bit v 0)
+point-second : (b : ℕ) (v : List Bool) → length v ≡ b → 2 ≤ b → (bitOne (pointOf b v .px) ≡ bit v 1) × (bitOne (pointOf b v .py) ≡ bit v 0)
 point-second b [] l h = absurd (omega arith)
 point-second b (x ∷ []) l h = absurd (omega arith)
 point-second b (x ∷ y ∷ v) l h =
     let e : pointOf b (x ∷ y ∷ v) ≡ axesPoint (coords (x ∷ y ∷ v)) = rw l at (point-coords (x ∷ y ∷ v)) in
     let c = coords-low x y v in (
-      ap (λ (p : Point). secondBit (p .px)) e ∙ ap (λ (z : List Bool). secondBit (twosComplement (true ∷ z))) (c .0) ∙ twos-second y (drop 1 (coords (x ∷ y ∷ v) .xs)),
-      ap (λ (p : Point). secondBit (p .py)) e ∙ ap (λ (z : List Bool). secondBit (twosComplement (true ∷ z))) (c .1) ∙ twos-second x (drop 1 (coords (x ∷ y ∷ v) .ys)),
+      ap (λ (p : Point). bitOne (p .px)) e ∙ ap (λ (z : List Bool). bitOne (twosComplement (true ∷ z))) (c .0) ∙ twos-second y (drop 1 (coords (x ∷ y ∷ v) .xs)),
+      ap (λ (p : Point). bitOne (p .py)) e ∙ ap (λ (z : List Bool). bitOne (twosComplement (true ∷ z))) (c .1) ∙ twos-second x (drop 1 (coords (x ∷ y ∷ v) .ys)),
     )
 
 pub low-bits : (b l : ℕ) (p : Point) → 2 ≤ b → mapLabel b l ≡ toneDone p
-    → (secondBit (p .px) ≡ bit (bits b l) 1) × (secondBit (p .py) ≡ bit (bits b l) 0)
+    → (bitOne (p .px) ≡ bit (bits b l) 1) × (bitOne (p .py) ≡ bit (bits b l) 0)
 low-bits b l p h e =
     let m = maps b l p e in
     let s = point-second b (bits b l) (length-bits b l) h in

@@ -103,9 +103,9 @@ table10-2 =
 -- ---- one tone, and filler bits
 
 -- bit 1 of a number in two's complement, where −1 − n has every bit of n complemented
-abbrev pub secondBit : ℤ → Bool
-secondBit (pos n) = odd (n / 2)
-secondBit (negsuc n) = not (odd (n / 2))
+abbrev pub bitOne : ℤ → Bool
+bitOne (pos n) = odd (n / 2)
+bitOne (negsuc n) = not (odd (n / 2))
 
 -- dn, the n-th filler bit drawn from reset
 abbrev pub fillerBit : ℕ → Bool

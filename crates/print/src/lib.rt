@@ -12,7 +12,7 @@ ghost use mathlib.Core.Path.{_≡_};
 ghost use lib.IntN.{pos, _+ℤ_};
 use libc::STDOUT_FILENO;
 
-// The refusal whose place is a pair: TRELLIS.
+// The refusal that tells a pair: TRELLIS. (PAIR has one too, and is never given.)
 const AT_PAIR: u32 = 15;
 
 pub fn text(bytes: &[u8]) {

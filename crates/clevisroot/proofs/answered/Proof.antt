@@ -1,4 +1,4 @@
--- The contract of `answered`.
+-- `answered` meets its contract, by the cases of an answer: L and every place fit 32 bits.
 use mathlib.Core.Path.{refl}
 use native.Mathlib.Omega.{arith}
 use Rattle.clevisroot.proofs.Calls.{small-answer, reported-as}

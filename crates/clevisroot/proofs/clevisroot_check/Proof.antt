@@ -1,5 +1,5 @@
--- The contract of `clevisroot_check`.
-use Rattle.clevisroot.proofs.Calls.{checked-small, checked-told}
+-- `clevisroot_check` meets its contract: what checking answers in the mode of `coded`, as C has it.
+use Rattle.clevisroot.proofs.Calls.{checked-small, checked-answered}
 use borrow.Author.Needs.{needs}
 use Rattle.clevisroot.proofs.clevisroot_check.Statement.{statement}
 use Rattle.clevisroot.proofs.clevisroot_check.Tie as tie
@@ -19,7 +19,7 @@ returns : tie.Need-returns
 returns c =
     let start = c .before .before .before .before .before .before in
     let mode-of = c .before .before .mode-of in
-    checked-told (start .args .bits .now) (start .args .gains .now) (start .args .tones .now) (mode-of .ensures) (c .before .check-tables .result) (c .before .check-tables .ensures) (c .checked .ensures)
+    checked-answered (start .args .bits .now) (start .args .gains .now) (start .args .tones .now) (mode-of .ensures) (c .before .check-tables .result) (c .before .check-tables .ensures) (c .checked .ensures)
 
 pub clevisroot-check-spec : {M : Type 1} → statement M
 clevisroot-check-spec =

@@ -1,4 +1,4 @@
--- The contract of `clevisroot_draw`.
+-- `clevisroot_draw` meets its contract: what drawing answers, as C has it.
 use mathlib.Core.Path.{_∙_, sym, ap}
 use Rattle.g9932.specs.Answers.{drawnOf}
 use Rattle.clevisroot.proofs.Calls.{byte-weight}

@@ -1,5 +1,5 @@
--- The contract of `clevisroot_encode`.
-use Rattle.clevisroot.proofs.Calls.{encode-small, encode-told}
+-- `clevisroot_encode` meets its contract: what encoding answers in the mode of `coded`, as C has it.
+use Rattle.clevisroot.proofs.Calls.{encode-small, encode-answered}
 use borrow.Author.Needs.{needs}
 use Rattle.clevisroot.proofs.clevisroot_encode.Statement.{statement}
 use Rattle.clevisroot.proofs.clevisroot_encode.Tie as tie
@@ -20,7 +20,7 @@ same-length-2 : tie.Need-same-length-2
 same-length-2 c = search needs
 
 returns : tie.Need-returns
-returns c = encode-told _ _ _ (c .before .before .before .before .before .before .mode-of .ensures) (c .before .before .before .encode .ensures) (c .answered .ensures)
+returns c = encode-answered _ _ _ (c .before .before .before .before .before .before .mode-of .ensures) (c .before .before .before .encode .ensures) (c .answered .ensures)
 
 pub clevisroot-encode-spec : {M : Type 1} → statement M
 clevisroot-encode-spec =

@@ -1,4 +1,4 @@
--- The contract of `clevisroot_map_label`.
+-- `clevisroot_map_label` meets its contract: what mapping answers, as C has it.
 use mathlib.Core.Path.{_∙_, sym, ap}
 use mir.ValLaws.{toZ-ofZ}
 use mir.Syntax.{w16}

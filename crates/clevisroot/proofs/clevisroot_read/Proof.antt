@@ -1,5 +1,5 @@
--- The contract of `clevisroot_read`.
-use Rattle.clevisroot.proofs.Calls.{read-small, read-told}
+-- `clevisroot_read` meets its contract: what reading answers in the mode of `coded`, as C has it.
+use Rattle.clevisroot.proofs.Calls.{read-small, read-answered}
 use borrow.Author.Needs.{needs}
 use Rattle.clevisroot.proofs.clevisroot_read.Statement.{statement}
 use Rattle.clevisroot.proofs.clevisroot_read.Tie as tie
@@ -17,7 +17,7 @@ same-length : tie.Need-same-length
 same-length c = search needs
 
 returns : tie.Need-returns
-returns c = read-told _ _ _ (c .before .before .before .before .before .mode-of .ensures) (c .before .before .before .read .ensures) (c .answered .ensures)
+returns c = read-answered _ _ _ (c .before .before .before .before .before .mode-of .ensures) (c .before .before .before .read .ensures) (c .answered .ensures)
 
 pub clevisroot-read-spec : {M : Type 1} → statement M
 clevisroot-read-spec =

@@ -1,4 +1,4 @@
--- The contract of `clevisroot_read_point`.
+-- `clevisroot_read_point` meets its contract: what reading a point answers, as C has it.
 use mathlib.Core.Path.{_∙_, sym, ap}
 use mir.ValLaws.{toZ-ofZ}
 use mir.Syntax.{w16}

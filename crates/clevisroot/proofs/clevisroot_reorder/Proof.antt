@@ -1,5 +1,5 @@
--- The contract of `clevisroot_reorder`.
-use Rattle.clevisroot.proofs.Calls.{order-small, order-told}
+-- `clevisroot_reorder` meets its contract: what re-ordering answers in the mode of `coded`, as C has it.
+use Rattle.clevisroot.proofs.Calls.{order-small, order-answered}
 use borrow.Author.Needs.{needs}
 use Rattle.clevisroot.proofs.clevisroot_reorder.Statement.{statement}
 use Rattle.clevisroot.proofs.clevisroot_reorder.Tie as tie
@@ -20,7 +20,7 @@ same-length-2 : tie.Need-same-length-2
 same-length-2 c = search needs
 
 returns : tie.Need-returns
-returns c = order-told _ _ _ (c .before .before .before .before .before .before .before .before .mode-of .ensures) (c .before .before .before .before .before .reorder .ensures) (c .checked .ensures)
+returns c = order-answered _ _ _ (c .before .before .before .before .before .before .before .before .mode-of .ensures) (c .before .before .before .before .before .reorder .ensures) (c .checked .ensures)
 
 pub clevisroot-reorder-spec : {M : Type 1} → statement M
 clevisroot-reorder-spec =

@@ -1,4 +1,4 @@
--- The contract of `mode_of`.
+-- `mode_of` meets its contract: 0 is uncoded, anything else coded.
 use Rattle.clevisroot.proofs.Calls.{coded-mode}
 use borrow.Author.Needs.{needs}
 use Rattle.clevisroot.proofs.mode_of.Statement.{statement}

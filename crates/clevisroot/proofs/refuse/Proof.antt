@@ -1,4 +1,4 @@
--- The contract of `refuse`.
+-- `refuse` meets its contract: a refusal's number and its place, which fits 32 bits.
 use Rattle.clevisroot.proofs.Calls.{fields}
 use borrow.Author.Needs.{needs}
 use Rattle.clevisroot.proofs.refuse.Statement.{statement}
