@@ -22,7 +22,7 @@ use Rattle.g9932.specs.Filler.{drawn, afterDraws}
 use Rattle.g9932.specs.Order.{pairsOf}
 use Rattle.g9932.specs.Sizes.{entry, origin, points}
 use Rattle.g9932.specs.Symbol.{load, isMonitored, isFiller, offgridTest, monitorTest}
-use Rattle.g9932.specs.Trellis.{zeroState, readPairs}
+use Rattle.g9932.specs.Trellis.{readingOf}
 use Rattle.g9932.specs.declared.Class.{Class}
 use Rattle.g9932.specs.declared.Class.the-variants.{Monitored, Silent}
 use Rattle.g9932.specs.declared.Found.{Found}
@@ -34,9 +34,9 @@ use Rattle.g9932.specs.declared.Refusal.the-variants.{Offgrid, Monitor}
 use Rattle.mapper.specs.Reading.{DemapAllNeeds, LabelIs, DemapsPoints, wrongFiller, ChecksFiller, JoinNeeds, CollectNeeds, CollectsLabels}
 use Rattle.mapper.specs.Writing.{FillerNeeds}
 use Rattle.mapper.specs.declared.read.FillerRead.{FillerRead}
-use Rattle.passes.specs.ReadSymbol.{PlacesOf, ReadsPlaces, HeldFits, FrameOf, ReadsFrame}
+use Rattle.passes.specs.ReadSymbol.{ReadPlacesSupposes, ReadsPlaces, HeldFits, ReadFrameSupposes, ReadsFrame}
 use Rattle.passes.specs.declared.read.PlacesRead.the-variants.{Refused, Done}
-use Rattle.decoder.specs.Reading.{ReadLabelNeeds as TrellisNeeds, readingOfAll, ReadsLabels}
+use Rattle.decoder.specs.Reading.{ReadLabelNeeds as TrellisNeeds, ReadsLabels}
 use Rattle.decoder.specs.declared.PairsRead.{PairsRead}
 use Rattle.passes.proofs.FillerPlaces.{register-places, wrong-first}
 use Rattle.passes.proofs.PlanLabels.{joined, joined-count, by-entry, joined-within, ones-small, plan-placed, where-inside, all-count}
@@ -44,7 +44,7 @@ use Rattle.passes.proofs.SymbolPoints.{class-at, load-at, tone-layout, 
 
 -- ---- the places
 
-module _ {cs : List Class} {from : ℕ} {es ps ms layouts labels : List ℕ} {xs ys : List ℤ} (w : PlacesOf cs from es ps ms layouts labels xs ys) where
+module _ {cs : List Class} {from : ℕ} {es ps ms layouts labels : List ℕ} {xs ys : List ℤ} (w : ReadPlacesSupposes cs from es ps ms layouts labels xs ys) where
   same : length ys ≡ length xs
   same = w .ysLength ∙ sym (w .xsLength)
 
@@ -77,7 +77,7 @@ module _ {cs : List Class} {from : ℕ} {es ps ms layouts labels : List ℕ} {xs
 
     -- 13
     pub off-found : {k : Place} → f ≡ At (k .0) → (r : ℕ) → ReadsPlaces cs r (points xs ys) (Refused (Offgrid k)) ls
-    off-found e r = record { answer = λ v. found-here 13 _ (sym offgrid-is ∙ e) }
+    off-found e r = record { answer = found-here 13 _ (sym offgrid-is ∙ e) }
 
     module _ (on : f ≡ Nothing) {r : ℕ} {c : FillerRead} (k : ChecksFiller ms r ls c) where
       label : (i : ℕ) → i < length cs → LabelIs (classLayout (getD cs i Silent)) (getD (points xs ys) i origin) (entry ls i)
@@ -91,7 +91,7 @@ module _ {cs : List Class} {from : ℕ} {es ps ms layouts labels : List ℕ} {xs
 
       -- 14
       pub filler-found : {j : Place} → c .monitor ≡ At (j .0) → ReadsPlaces cs r (points xs ys) (Refused (Monitor j)) ls
-      filler-found e = record { answer = λ v. found-past 13 (sym offgrid-is ∙ on) (found-here 14 _ (sym monitor-is ∙ e)) }
+      filler-found e = record { answer = found-past 13 (sym offgrid-is ∙ on) (found-here 14 _ (sym monitor-is ∙ e)) }
 
       pub none-found : c .monitor ≡ Nothing → ReadsPlaces cs r (points xs ys) (Done (c .register)) ls
       none-found e =
@@ -99,8 +99,7 @@ module _ {cs : List Class} {from : ℕ} {es ps ms layouts labels : List ℕ} {xs
           record {
             answer =
                 record {
-                  onGrid = sym offgrid-is ∙ on;
-                  matched = sym monitor-is ∙ e;
+                  passed = found-past 13 (sym offgrid-is ∙ on) (found-past 14 (sym monitor-is ∙ e) refl);
                   registerIs = k .registerIs ∙ ap (λ (l : List ℕ). afterDraws (2 * length l) r) (w .plan .monitoredAre) ∙ register-places cs 0 r;
                   labelsAre =
                       record {
@@ -114,7 +113,7 @@ module _ {cs : List Class} {from : ℕ} {es ps ms layouts labels : List ℕ} {xs
 
 -- ---- the frame
 
-module _ {m : Mode} {cs : List Class} {d : List Bool} {from : ℕ} {es ps ms layouts labels held : List ℕ} (w : FrameOf m cs d from es ps ms layouts labels held) where
+module _ {m : Mode} {cs : List Class} {d : List Bool} {from : ℕ} {es ps ms layouts labels held : List ℕ} (w : ReadFrameSupposes m cs d from es ps ms layouts labels held) where
   abbrev small : (k : ℕ) → k < length cs → 1 ≤ entry (map load cs) k → entry labels k < 2 ^ entry (map load cs) k
   small = w .labelled .small
 
@@ -141,7 +140,7 @@ module _ {m : Mode} {cs : List Class} {d : List Bool} {from : ℕ} {es ps ms lay
 
   pub collect-needs : m ≡ Uncoded → CollectNeeds emptyWriter es ps ls held
   collect-needs e =
-      let r : HeldFits Uncoded es (length held) = rw e at (w .room) in
+      let r : HeldFits Uncoded es (length held) = rw e at (w .heldFits) in
       record {
         same = placed .same;
         counts = r .0;
@@ -153,11 +152,11 @@ module _ {m : Mode} {cs : List Class} {d : List Bool} {from : ℕ} {es ps ms lay
 
   pub trellis-needs : m ≡ Coded → Placed es ps ls × TrellisNeeds emptyWriter es (labelsAt ps ls) held
   trellis-needs e =
-      let r : HeldFits Coded es (length held) = rw e at (w .room) in
+      let r : HeldFits Coded es (length held) = rw e at (w .heldFits) in
       let t : TrellisNeeds emptyWriter es (labelsAt ps ls) held =
       record {
         wide = r .0;
-        few = r .1;
+        enough = r .1;
         many = r .2;
         within = joined-within (w .plan) labels n small;
         bytes = omega (arith, r .3);
@@ -167,6 +166,7 @@ module _ {m : Mode} {cs : List Class} {d : List Bool} {from : ℕ} {es ps ms lay
 
   -- uncoded, the frame's bits are the labels'
   pub collected : m ≡ Uncoded → (v : BitWriter) (mid after : List ℕ) → CollectsLabels emptyWriter es ps ls held v mid → Framed (written v mid) after → ReadsFrame m es d Nothing after
+  unfolding readingOf
   collected e v mid after c f =
       rw e
       (record {
@@ -176,7 +176,7 @@ module _ {m : Mode} {cs : List Class} {d : List Bool} {from : ℕ} {es ps ms lay
 
   -- coded, the code is read
   module _ (e : m ≡ Coded) {p : PairsRead} {mid : List ℕ} (c : ReadsLabels emptyWriter es (labelsAt ps ls) held p mid) where
-    reading-is : readingOfAll es (labelsAt ps ls) ≡ readPairs zeroState (pairsOf es) d
+    reading-is : readingOf Coded (pairsOf es) (bitsOfLabels es (labelsAt ps ls)) ≡ readingOf Coded (pairsOf es) d
     reading-is = rw bits-are
 
     pub broken-found : {k : ℕ} (after : List ℕ) → p .broken ≡ At k → ReadsFrame m es d (At k) after
@@ -191,12 +191,12 @@ module _ {m : Mode} {cs : List Class} {d : List Bool} {from : ℕ} {es ps ms lay
         })
 
     -- the last byte is there
-    pub broken-room : p .broken ≡ Nothing → length mid ≡ length held → p .writer .next < length mid
-    broken-room b same =
-        let r : HeldFits Coded es (length held) = rw e at (w .room) in
+    pub broken-fits : p .broken ≡ Nothing → length mid ≡ length held → p .writer .next < length mid
+    broken-fits b same =
+        let r : HeldFits Coded es (length held) = rw e at (w .heldFits) in
         omega (arith, c .counted b, r .3)
 
-  pub collect-room : m ≡ Uncoded → {v : BitWriter} {mid : List ℕ} → CollectsLabels emptyWriter es ps ls held v mid → length mid ≡ length held → v .next < length mid
-  collect-room e c same =
-      let r : HeldFits Uncoded es (length held) = rw e at (w .room) in
+  pub collect-fits : m ≡ Uncoded → {v : BitWriter} {mid : List ℕ} → CollectsLabels emptyWriter es ps ls held v mid → length mid ≡ length held → v .next < length mid
+  collect-fits e c same =
+      let r : HeldFits Uncoded es (length held) = rw e at (w .heldFits) in
       omega (arith, c .counted, r .1)
