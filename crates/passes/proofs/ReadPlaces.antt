@@ -1,26 +1,26 @@
 -- Reading points to labels by place, and these to a frame: what the steps ask, and what they find.
 use Prim.Native.Nat.{ℕ, _+_, _-_, _*_, _^_, _≤_, _<_}
 use mathlib.Core.Bool.{Bool}
-use mathlib.Core.List.{List, map}
+use mathlib.Core.List.{List, _++_, map}
 use mathlib.Core.Path.{_≡_, refl, sym, ap, _∙_}
 use native.Mathlib.Omega.{arith}
 use lib.Dec.{eqb}
 use lib.IntN.{ℤ}
-use lib.ListN.{length, getD, length-map, length-drop}
+use lib.ListN.{length, take, getD, length-map, length-drop}
 use lib.Seq.{getD-drop}
 use Rattle.constellation.specs.Layouts.{classLayout}
-use Rattle.frame.proofs.Stores.{written-empty, empty-waits}
+use Rattle.frame.proofs.Stores.{written-empty, empty-waits, finished}
 use Rattle.frame.specs.Labels.{bitsOfLabels, labelsAt, Placed}
-use Rattle.frame.specs.Written.{emptyWriter, written, Framed}
+use Rattle.frame.specs.Written.{emptyWriter, written}
 use Rattle.frame.specs.declared.BitWriter.{BitWriter}
 use Rattle.g9932.proofs.PointLists.{length-points}
 use Rattle.g9932.proofs.Search.{found-not}
 use Rattle.g9932.proofs.Verdicts.{found-here, found-past}
 use Rattle.g9932.specs.Answers.{breakIn}
-use Rattle.g9932.specs.Bits.{num, first}
+use Rattle.g9932.specs.Bits.{num, bits, first}
 use Rattle.g9932.specs.Filler.{drawn, afterDraws}
 use Rattle.g9932.specs.Order.{pairsOf}
-use Rattle.g9932.specs.Sizes.{entry, origin, points}
+use Rattle.g9932.specs.Sizes.{entry, origin, points, unpack}
 use Rattle.g9932.specs.Symbol.{load, isMonitored, isFiller, offgridTest, monitorTest}
 use Rattle.g9932.specs.Trellis.{readingOf}
 use Rattle.g9932.specs.declared.Class.{Class}
@@ -165,14 +165,22 @@ module _ {m : Mode} {cs : List Class} {d : List Bool} {from : ℕ} {es ps ms lay
       (placed, t)
 
   -- uncoded, the frame's bits are the labels'
-  pub collected : m ≡ Uncoded → (v : BitWriter) (mid after : List ℕ) → CollectsLabels emptyWriter es ps ls held v mid → Framed (written v mid) after → ReadsFrame m es d Nothing after
-  unfolding readingOf
-  collected e v mid after c f =
-      rw e
-      (record {
-        brokenIs = refl;
-        framed = λ _. rw (c .whole, written-empty held, bits-are) at f;
-      })
+  module _ (e : m ≡ Uncoded) {v : BitWriter} {mid : List ℕ} (c : CollectsLabels emptyWriter es ps ls held v mid) (same : length mid ≡ length held) where
+    -- the last byte is there
+    pub collect-fits : v .next < length mid
+    collect-fits =
+        let r : HeldFits Uncoded es (length held) = rw e at (w .heldFits) in
+        omega (arith, c .counted, r .1)
+
+    pub collected : {after : List ℕ} → length after ≡ length mid → unpack (take (v .next + 1) after) ≡ written v mid ++ bits (8 - v .fill) 0 → ReadsFrame m es d Nothing after
+    unfolding readingOf
+    collected {after} k f =
+        let h = collect-fits in
+        rw e
+        (record {
+          brokenIs = refl;
+          framed = λ _. rw (c .whole, written-empty held, bits-are) at (finished v mid after (omega arith) (omega arith) (c .waits) f);
+        })
 
   -- coded, the code is read
   module _ (e : m ≡ Coded) {p : PairsRead} {mid : List ℕ} (c : ReadsLabels emptyWriter es (labelsAt ps ls) held p mid) where
@@ -182,21 +190,19 @@ module _ {m : Mode} {cs : List Class} {d : List Bool} {from : ℕ} {es ps ms lay
     pub broken-found : {k : ℕ} (after : List ℕ) → p .broken ≡ At k → ReadsFrame m es d (At k) after
     broken-found after b = rw e (record { brokenIs = sym b ∙ c .broken ∙ ap breakIn reading-is; framed = λ z. absurd (found-not z) })
 
-    pub none-broken : (after : List ℕ) → p .broken ≡ Nothing → Framed (written (p .writer) mid) after → ReadsFrame m es d Nothing after
-    none-broken after b f =
-        rw e
-        (record {
-          brokenIs = sym b ∙ c .broken ∙ ap breakIn reading-is;
-          framed = λ _. rw (c .whole b, written-empty held, reading-is) at f;
-        })
+    module _ (b : p .broken ≡ Nothing) (same : length mid ≡ length held) where
+      -- the last byte is there
+      pub read-fits : p .writer .next < length mid
+      read-fits =
+          let r : HeldFits Coded es (length held) = rw e at (w .heldFits) in
+          omega (arith, c .counted b, r .3)
 
-    -- the last byte is there
-    pub broken-fits : p .broken ≡ Nothing → length mid ≡ length held → p .writer .next < length mid
-    broken-fits b same =
-        let r : HeldFits Coded es (length held) = rw e at (w .heldFits) in
-        omega (arith, c .counted b, r .3)
-
-  pub collect-fits : m ≡ Uncoded → {v : BitWriter} {mid : List ℕ} → CollectsLabels emptyWriter es ps ls held v mid → length mid ≡ length held → v .next < length mid
-  collect-fits e c same =
-      let r : HeldFits Uncoded es (length held) = rw e at (w .heldFits) in
-      omega (arith, c .counted, r .1)
+      pub none-broken : {after : List ℕ} → length after ≡ length mid → unpack (take (p .writer .next + 1) after) ≡ written (p .writer) mid ++ bits (8 - p .writer .fill) 0
+          → ReadsFrame m es d Nothing after
+      none-broken {after} k f =
+          let h = read-fits in
+          rw e
+          (record {
+            brokenIs = sym b ∙ c .broken ∙ ap breakIn reading-is;
+            framed = λ _. rw (c .whole b, written-empty held, reading-is) at (finished (p .writer) mid after (omega arith) (omega arith) (c .waits) f);
+          })

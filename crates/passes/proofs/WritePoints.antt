@@ -64,9 +64,9 @@ module _ {cs : List Class} {d : List Bool} {from : ℕ} {es ps ms layouts labels
               rw (layout k i, held k i) (mappable (getD cs k Silent) (registerAfter r (take k cs)) (entry ls k) (w .plan .carries k i) (small k i));
         }
 
-    pub written : (after : ℕ) (xsAfter ysAfter : List ℤ) → after ≡ afterDraws (2 * length ms) r → length xsAfter ≡ length xs → length ysAfter ≡ length ys
+    pub written : {after : ℕ} {xsAfter ysAfter : List ℤ} → after ≡ afterDraws (2 * length ms) r → length xsAfter ≡ length xs → length ysAfter ≡ length ys
         → PutsPoints layouts (withFiller r ms ls) xsAfter ysAfter → WritesPoints cs r d after xsAfter ysAfter
-    written after xsAfter ysAfter e nx ny put =
+    written {xsAfter = xsAfter} {ysAfter = ysAfter} e nx ny put =
         let q : List Point = writePoints r cs d in
         let n : length q ≡ length cs = length-write r cs d in
         let bits : d ≡ bitsOfLabels (map load cs) ls = sym (w .labelled .bitsAre) ∙ by-place (w .plan) labels (w .labelsLength) in

@@ -29,7 +29,7 @@ use Rattle.trellis.specs.Coding.{Wide}
 
 -- ---- the places
 
--- the points are those of some classes, by the plan of these
+-- the points are to be read by the plan of some classes
 pub record ReadPlacesSupposes (cs : List Class) (from : ℕ) (es ps ms layouts labels : List ℕ) (xs ys : List ℤ) : Type 0 where
   pub plan : PlanOf cs from es ps ms layouts
   pub labelsLength : length labels ≡ length cs
@@ -37,7 +37,8 @@ pub record ReadPlacesSupposes (cs : List Class) (from : ℕ) (es ps ms layouts l
   pub ysLength : length ys ≡ length cs
 
 abbrev pub ReadPlacesNeeds : List ℕ → List ℕ → List ℕ → List ℤ → List ℤ → Type 0
-ReadPlacesNeeds ms layouts labels xs ys = (cs : List Class) × (from : ℕ) × (es : List ℕ) × (ps : List ℕ) × ReadPlacesSupposes cs from es ps ms layouts labels xs ys
+ReadPlacesNeeds ms layouts labels xs ys =
+    (cs : List Class) × (from : ℕ) × (es : List ℕ) × (ps : List ℕ) × ReadPlacesSupposes cs from es ps ms layouts labels xs ys
 
 -- labels by place: those of the tones' bits, none larger than the bits of its tone allow where it has data
 pub record ToneLabels (cs : List Class) (d : List Bool) (labels : List ℕ) : Type 0 where
@@ -91,7 +92,7 @@ ReadsAnyFrame m from es ps labels held broken after =
 
 -- ---- a whole symbol
 
--- the points are those of some tables, by the plan of these
+-- the points are to be read by the plan of some tables
 pub record ReadSymbolSupposes (T : Tables) (m : Mode) (from size : ℕ) (es ps ms layouts : List ℕ) (xs ys : List ℤ) (labels held f : List ℕ) : Type 0 where
   pub plan : PlanOf (classesOf T) from es ps ms layouts
   pub labelsLength : length labels ≡ length (classesOf T)
@@ -106,11 +107,11 @@ pub record ReadSymbolSupposes (T : Tables) (m : Mode) (from size : ℕ) (es ps m
   pub whole : (q : List Point) (r : ℕ) → placesVerdict (classesOf T) q r .number ≡ 0 → length q ≡ length (classesOf T)
       → breakIn (readingIn T q) ≡ Nothing → length (frameIn (readingIn T q)) ≡ sizeOf T
 
+-- the same, of arrays that begin with the lists of the plan
 abbrev pub ReadSymbolBy : Tables → Mode → PlanSizes → ℕ → List ℕ → List ℕ → List ℕ → List ℕ → List ℤ → List ℤ → List ℕ → List ℕ → List ℕ → Type 0
 ReadSymbolBy T m p n layouts entries places monitored xs ys labels held f =
     ReadSymbolSupposes T m (p .shared) (p .size) (take (p .entries) entries) (take (p .entries) places) (take (p .monitored) monitored) (take n layouts) xs ys (take n labels) held f
 
--- the arrays begin with the lists of some tables' plan
 pub record ReadSymbolNeeds (m : Mode) (p : PlanSizes) (n : ℕ) (layouts entries places monitored : List ℕ) (xs ys : List ℤ) (labels held f : List ℕ) : Type 0 where
   pub fits : PlanFits p n layouts entries places monitored labels
   pub tables : Tables

@@ -39,6 +39,7 @@ pub record EntryLabels (d : List Bool) (es ps labels : List ℕ) : Type 0 where
 
 -- ---- the points of labels
 
+-- the labels are those of some classes and their bits
 pub record WritePointsSupposes (cs : List Class) (d : List Bool) (from : ℕ) (es ps ms layouts labels : List ℕ) (xs ys : List ℤ) : Type 0 where
   pub plan : PlanOf cs from es ps ms layouts
   pub labelled : EntryLabels d es ps labels
@@ -46,9 +47,9 @@ pub record WritePointsSupposes (cs : List Class) (d : List Bool) (from : ℕ) (e
   pub xsLength : length xs ≡ length cs
   pub ysLength : length ys ≡ length cs
 
--- they are the labels of some classes' bits
 abbrev pub WritePointsNeeds : ℕ → List ℕ → List ℕ → List ℕ → List ℤ → List ℤ → Type 0
-WritePointsNeeds from ms layouts labels xs ys = (cs : List Class) × (d : List Bool) × (es : List ℕ) × (ps : List ℕ) × WritePointsSupposes cs d from es ps ms layouts labels xs ys
+WritePointsNeeds from ms layouts labels xs ys =
+    (cs : List Class) × (d : List Bool) × (es : List ℕ) × (ps : List ℕ) × WritePointsSupposes cs d from es ps ms layouts labels xs ys
 
 pub record WritesPoints (cs : List Class) (r : ℕ) (d : List Bool) (after : ℕ) (xsAfter ysAfter : List ℤ) : Type 0 where
   pub xsHold : xsAfter ≡ map (λ p. p .px) (writePoints r cs d)
@@ -62,6 +63,7 @@ WritesAnyPoints from ms layouts labels xs ys r after xsAfter ysAfter =
 
 -- ---- a whole symbol
 
+-- the frame is to be written by the plan of some tables
 pub record WriteSymbolSupposes (T : Tables) (m : Mode) (from : ℕ) (f es ps ms layouts labels : List ℕ) (xs ys : List ℤ) : Type 0 where
   pub plan : PlanOf (classesOf T) from es ps ms layouts
   pub labelNeeds : LabelFrameNeeds m f 0 es ps labels
@@ -70,11 +72,11 @@ pub record WriteSymbolSupposes (T : Tables) (m : Mode) (from : ℕ) (f es ps ms 
   pub xsLength : length xs ≡ length (classesOf T)
   pub ysLength : length ys ≡ length (classesOf T)
 
+-- the same, of arrays that begin with the lists of the plan
 abbrev pub WriteSymbolBy : Tables → Mode → PlanSizes → ℕ → List ℕ → List ℕ → List ℕ → List ℕ → List ℕ → List ℕ → List ℤ → List ℤ → Type 0
 WriteSymbolBy T m p n f layouts entries places monitored labels xs ys =
     WriteSymbolSupposes T m (p .shared) f (take (p .entries) entries) (take (p .entries) places) (take (p .monitored) monitored) (take n layouts) (take n labels) xs ys
 
--- the arrays begin with the lists of some tables' plan
 pub record WriteSymbolNeeds (m : Mode) (p : PlanSizes) (n : ℕ) (f layouts entries places monitored labels : List ℕ) (xs ys : List ℤ) : Type 0 where
   pub fits : PlanFits p n layouts entries places monitored labels
   pub tables : Tables

@@ -90,7 +90,8 @@ pub fn read_symbol(
     frame: &mut [u8],
 ) -> Answer
     requires { ⌜ ReadSymbolNeeds mode p n (now layouts) (now entries) (now places) (now monitored) (now xs) (now ys) (now labels) (now held) (now frame) ⌝ }
-    ensures { λ r. ⌜ ReadsAnySymbol mode p n (now (layouts .entry)) (now (entries .entry)) (now (places .entry)) (now (monitored .entry)) (now (xs .entry)) (now (ys .entry)) (now (labels .entry)) (now (held .entry)) (now (frame .entry)) register r (now (frame .exit)) ⌝ }
+    ensures { λ r. ⌜ ReadsAnySymbol mode p n (now (layouts .entry)) (now (entries .entry)) (now (places .entry)) (now (monitored .entry))
+        (now (xs .entry)) (now (ys .entry)) (now (labels .entry)) (now (held .entry)) (now (frame .entry)) register r (now (frame .exit)) ⌝ }
 {
     let e = p.entries;
     let m = p.monitored;

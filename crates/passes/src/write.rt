@@ -57,7 +57,8 @@ pub fn write_symbol(
     ys: &mut [i16],
 ) -> u32
     requires { ⌜ WriteSymbolNeeds mode p n (now frame) (now layouts) (now entries) (now places) (now monitored) (now labels) (now xs) (now ys) ⌝ }
-    ensures { λ r. ⌜ WritesAnySymbol mode p n (now (frame .entry)) (now (layouts .entry)) (now (entries .entry)) (now (places .entry)) (now (monitored .entry)) (now (labels .entry)) (now (xs .entry)) (now (ys .entry)) register r (now (xs .exit)) (now (ys .exit)) ⌝ }
+    ensures { λ r. ⌜ WritesAnySymbol mode p n (now (frame .entry)) (now (layouts .entry)) (now (entries .entry)) (now (places .entry)) (now (monitored .entry))
+        (now (labels .entry)) (now (xs .entry)) (now (ys .entry)) register r (now (xs .exit)) (now (ys .exit)) ⌝ }
 {
     let e = p.entries;
     let m = p.monitored;

@@ -1,12 +1,22 @@
 -- `passes::read::read_symbol` meets its contract: 13 and 14 by the places, 15 by the pairs, or the frame copied. The labels are
 -- sliced twice, and the second time are as they were written.
 use Rattle.passes.proofs.SymbolPasses.{again, again-length, places-of, place-refused, frame-of, pair-refused, frame-fits, frame-read}
+use lib.ListN.{take, drop}
 use lib.Seq.{length-take-le}
 use native.Mathlib.Omega.{arith}
-use mathlib.Core.Path.{sym}
+use mathlib.Core.List.{_++_}
+use mathlib.Core.Path.{_≡_, sym}
 use borrow.Author.Needs.{needs}
 use Rattle.passes.proofs.read.read_symbol.Statement.{statement}
 use Rattle.passes.proofs.read.read_symbol.Tie as tie
+
+-- the labels, when they are lent again
+lent-again : (c : tie.After-read-places) → let a = c .before .before .before .before .before .before .before .before .before .before .before .args in
+    let l = c .read-places .last .1 .1 .1 .1 .1 .0 in
+    take (a .n) (l ++ drop (a .n) (a .labels .now)) ≡ l
+lent-again c =
+    let s = c .before .before .before .before .before .before .before .before .before .before .before in
+    again _ (s .args .labels .now) _ (s .pre .fits .labelsFit) (c .read-places .kept .1 .1 .1 .1 .1 .0)
 
 slice-aggregate-read-places : tie.Need-slice-aggregate-read-places
 slice-aggregate-read-places c =
@@ -67,10 +77,7 @@ slice-aggregate-read-frame-3 c =
 read-frame-requires : tie.Need-read-frame-requires
 read-frame-requires c κs =
     let p = c .before .before .before .before .before .before .before .before .before in
-    let s = p .before .before .before .before .before .before .before .before .before .before .before in
-    let d = p .read-places in
-    let l = again _ (s .args .labels .now) _ (s .pre .fits .labelsFit) (d .kept .1 .1 .1 .1 .1 .0) in
-    (_, _, _, _, frame-of (s .pre .planned) (d .ensures) (c .before .before .before .before .before .t2 .given .1) l)
+    (_, _, _, _, frame-of (p .before .before .before .before .before .before .before .before .before .before .before .pre .planned) (p .read-places .ensures) (c .before .before .before .before .before .t2 .given .1) (lent-again p))
 
 enum-known-broken : tie.Need-enum-known-broken
 enum-known-broken c = search needs
@@ -86,10 +93,7 @@ returns-2 c =
     let b = c .before .before .before .before .before .before .before in
     let t = b .before .before .before .before .before .before .t2 in
     let p = b .before .before .before .before .before .before .before .before .before .before in
-    let s = p .before .before .before .before .before .before .before .before .before .before .before in
-    let d = p .read-places in
-    let l = again _ (s .args .labels .now) _ (s .pre .fits .labelsFit) (d .kept .1 .1 .1 .1 .1 .0) in
-    λ T g. pair-refused g (d .ensures) (t .given .1) l (b .read-frame .ensures) (c .before .broken .given .1)
+    λ T g. pair-refused g (p .read-places .ensures) (t .given .1) (lent-again p) (b .read-frame .ensures) (c .before .broken .given .1)
 
 enum-told : tie.Need-enum-told
 enum-told c = search needs
@@ -99,11 +103,8 @@ copy-requires c κs =
     let b = c .before .before .before .before .before .before .before .before in
     let t = b .before .before .before .before .before .before .t2 in
     let p = b .before .before .before .before .before .before .before .before .before .before in
-    let s = p .before .before .before .before .before .before .before .before .before .before .before in
-    let d = p .read-places in
-    let l = again _ (s .args .labels .now) _ (s .pre .fits .labelsFit) (d .kept .1 .1 .1 .1 .1 .0) in
     let f = b .read-frame in
-    frame-fits (s .pre .planned) (d .ensures) (t .given .1) l (f .ensures) (f .kept .1 .1 .1 .1 .1 .0)
+    frame-fits (p .before .before .before .before .before .before .before .before .before .before .before .pre .planned) (p .read-places .ensures) (t .given .1) (lent-again p) (f .ensures) (f .kept .1 .1 .1 .1 .1 .0)
 
 same-length-4 : tie.Need-same-length-4
 same-length-4 c = search needs
@@ -119,13 +120,11 @@ returns-3 c =
     let b = c .before .before .before .before .before .before .before .before .before .before .before in
     let t = b .before .before .before .before .before .before .t2 in
     let p = b .before .before .before .before .before .before .before .before .before .before in
-    let s = p .before .before .before .before .before .before .before .before .before .before .before in
-    let d = p .read-places in
-    let l = again _ (s .args .labels .now) _ (s .pre .fits .labelsFit) (d .kept .1 .1 .1 .1 .1 .0) in
     let f = b .read-frame in
     let whole = c .before .before .before .before .before .enum-told .given .1 in
     let bytes = c .before .before .before .before .before .before .before .slice-known6 .given in
-    λ T g. frame-read g (d .ensures) (t .given .1) l (f .ensures) (f .kept .1 .1 .1 .1 .1 .0) whole (λ k i. omega (arith, bytes k)) (c .before .before .copy .ensures)
+    let out = c .before .before .copy .ensures in
+    λ T g. frame-read g (p .read-places .ensures) (t .given .1) (lent-again p) (f .ensures) (f .kept .1 .1 .1 .1 .1 .0) whole (λ k i. omega (arith, bytes k)) out
 
 pub read-symbol-spec : {M : Type 1} → statement M
 read-symbol-spec =
