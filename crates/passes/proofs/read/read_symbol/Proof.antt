@@ -77,7 +77,9 @@ slice-aggregate-read-frame-3 c =
 read-frame-requires : tie.Need-read-frame-requires
 read-frame-requires c κs =
     let p = c .before .before .before .before .before .before .before .before .before in
-    (_, _, _, _, frame-of (p .before .before .before .before .before .before .before .before .before .before .before .pre .planned) (p .read-places .ensures) (c .before .before .before .before .before .t2 .given .1) (lent-again p))
+    let s = p .before .before .before .before .before .before .before .before .before .before .before in
+    let t = c .before .before .before .before .before .t2 in
+    (_, _, _, _, frame-of (s .pre .planned) (p .read-places .ensures) (t .given .1) (lent-again p))
 
 enum-known-broken : tie.Need-enum-known-broken
 enum-known-broken c = search needs
@@ -104,7 +106,8 @@ copy-requires c κs =
     let t = b .before .before .before .before .before .before .t2 in
     let p = b .before .before .before .before .before .before .before .before .before .before in
     let f = b .read-frame in
-    frame-fits (p .before .before .before .before .before .before .before .before .before .before .before .pre .planned) (p .read-places .ensures) (t .given .1) (lent-again p) (f .ensures) (f .kept .1 .1 .1 .1 .1 .0)
+    let s = p .before .before .before .before .before .before .before .before .before .before .before in
+    frame-fits (s .pre .planned) (p .read-places .ensures) (t .given .1) (lent-again p) (f .ensures) (f .kept .1 .1 .1 .1 .1 .0)
 
 same-length-4 : tie.Need-same-length-4
 same-length-4 c = search needs

@@ -61,7 +61,8 @@ slice-aggregate-write-points-3 c =
 write-points-requires : tie.Need-write-points-requires
 write-points-requires c κs =
     let l = c .before .before .before .before .before .before .before in
-    (_, _, _, _, points-of (l .before .before .before .before .before .before .before .before .before .before .pre .planned) (l .label-frame .kept .1 .1 .1 .1 .1 .0) (lent-again l) (l .label-frame .ensures))
+    let s = l .before .before .before .before .before .before .before .before .before .before in
+    (_, _, _, _, points-of (s .pre .planned) (l .label-frame .kept .1 .1 .1 .1 .1 .0) (lent-again l) (l .label-frame .ensures))
 
 same-length : tie.Need-same-length
 same-length c = search needs
