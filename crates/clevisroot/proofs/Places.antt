@@ -14,7 +14,7 @@ use Rattle.g9932.specs.Refusals.{Verdict, refuseIf, refuseAt, verdictBy, andThe
 use Rattle.g9932.specs.Order.{Pair, filter, isOne, bitsOf, ones, entries, reorderedTones, codedPairs}
 use Rattle.g9932.specs.Trellis.{Reading, frame, breaks, after, zeroState, readPairs, readingOf, obeysCode, lastTwo, decodedAt, nextOf, takenBits, width}
 use Rattle.g9932.specs.Symbol.{classesOf, pairsIn, sizeOf, gatherBits, readingIn}
-use Rattle.g9932.specs.Answers.{breakIn, orderVerdict, encodeInputs, encodeVerdict, pointsVerdict, readInputs, readVerdict}
+use Rattle.g9932.specs.Answers.{breakIn, orderVerdict, encodeInputs, encodeVerdict, placesVerdict, pointsVerdict, readInputs, readVerdict}
 use Rattle.g9932.specs.declared.Found.{Found}
 use Rattle.g9932.specs.declared.Found.the-variants.{At, Nothing}
 use Rattle.g9932.specs.declared.Mode.{Mode}
@@ -25,6 +25,7 @@ use Rattle.g9932.proofs.Accepted.{accepted-tables, size-facts}
 use Rattle.g9932.proofs.Counts.{count-filter, count-most}
 use Rattle.g9932.proofs.Formed.{length-pairsOf}
 use Rattle.g9932.proofs.Reordering.{length-order}
+use Rattle.g9932.proofs.Sent.{length-classes}
 use Rattle.clevisroot.specs.CAnswers.{Small}
 
 -- ---- a place is found inside what is searched
@@ -192,11 +193,16 @@ small-read T xs ys r a =
     (λ e.
     let k = accepted-tables T e in
     let n : length (T .tones) ≤ mostTones = omega (arith, k .tonesMost, k .tableMost) in
-    let i = break-inside T (points xs ys) in
+    let l = length-classes T in
+    let i = break-inside T q in
     let c = pairs-most (T .mode) (T .bits) (T .tones) n in
     place-and mostTones inputs (pointsVerdict T q r)
     (place-if mostTones 10 _ _ (place-if mostTones 12 _ _ (omega arith)))
-    (λ _. place-first mostTones 13 _ (length (T .tones)) _ (omega arith)
-    (place-first mostTones 14 _ (length (T .tones)) _ (omega arith)
-    (place-at mostTones 15 _ _ (omega arith) (omega arith)))))
-    (size-then inputs (pointsVerdict T q r) (sizeOf T) (size-at 12 _ _ (sizeOf T) (size-at 13 _ _ (sizeOf T) (size-at 14 _ _ (sizeOf T) (λ _. refl)))))
+    (λ _. place-and mostTones (placesVerdict (classesOf T) q r) _
+    (place-first mostTones 13 _ (length (classesOf T)) _ (omega arith)
+    (place-first mostTones 14 _ (length (classesOf T)) _ (omega arith)
+    (omega arith)))
+    (λ _. place-at mostTones 15 _ _ (omega arith) (omega arith))))
+    (size-then inputs (pointsVerdict T q r) (sizeOf T)
+    (size-then (placesVerdict (classesOf T) q r) _ (sizeOf T)
+    (size-at 14 _ _ (sizeOf T) (λ _. refl))))

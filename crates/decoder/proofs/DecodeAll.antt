@@ -15,11 +15,12 @@ use Rattle.g9932.proofs.Words.{length-bits}
 use Rattle.g9932.specs.Answers.{breakIn, frameIn}
 use Rattle.g9932.specs.Bits.{bits}
 use Rattle.g9932.specs.Order.{pair, inTwos, pairsOf}
-use Rattle.g9932.specs.Trellis.{Reading, frame, breaks, after as after', lastTwo, taken, width, decodedWord, decodedAt, obeysCode, takenBits, zeroState}
+use Rattle.g9932.specs.Trellis.{Reading, frame, breaks, after as after', lastTwo, taken, width, decodedWord, decodedAt, obeysCode, takenBits, zeroState, readingOf}
 use Rattle.g9932.specs.declared.Found.{Found}
 use Rattle.g9932.specs.declared.Found.the-variants.{At, Nothing}
+use Rattle.g9932.specs.declared.Mode.the-variants.{Coded}
 use Rattle.frame.specs.declared.BitWriter.{BitWriter}
-use Rattle.decoder.specs.Reading.{firstReader, decodedIn, ReadPairNeeds, ReadsPair, ReadPairsNeeds, onward, readingFrom, ReadsFrom, readingOfAll, ReadsLabels, ReadLabelNeeds}
+use Rattle.decoder.specs.Reading.{firstReader, decodedIn, ReadPairNeeds, ReadsPair, ReadPairsNeeds, onward, readingFrom, ReadsFrom, ReadsLabels, ReadLabelNeeds}
 use Rattle.decoder.specs.declared.PairRead.{PairRead}
 use Rattle.decoder.specs.declared.PairsRead.{PairsRead}
 use Rattle.trellis.proofs.Entries.{whole-pairs, padded-pairs, not-forced, padded-taken}
@@ -38,21 +39,22 @@ frame-after : (b : List Bool) (r : Reading) → onward 1 (breakIn r) ≡ Nothing
 frame-after b (frame f) z = refl
 frame-after b (breaks k) z = absurd (found-not z)
 
-module _ (w : BitWriter) (es labels out : List ℕ) (needs : ReadLabelNeeds w es labels out) (same : length labels ≡ length es) where
+module _ {w : BitWriter} {es labels out : List ℕ} (needs : ReadLabelNeeds w es labels out) (same : length labels ≡ length es) where
   -- an even count
   module _ (even : length es % 2 ≡ 1 → ⊥) where
     pub even-needs : ReadPairsNeeds (firstReader w) es 0 labels out
     even-needs =
         record {
           inside = omega arith;
-          places = omega (arith, same);
+          labelsFit = omega (arith, same);
           within = needs .within;
           bytes = rw (← (whole-pairs es even)) (omega (arith, needs .bytes));
           waits = needs .waits;
         }
 
-    pub even-read : (r : PairsRead) (after : List ℕ) → ReadsFrom (firstReader w) es 0 labels out r after → ReadsLabels w es labels out r after
-    even-read r after g =
+    pub even-read : {r : PairsRead} {after : List ℕ} → ReadsFrom (firstReader w) es 0 labels out r after → ReadsLabels w es labels out r after
+    unfolding readingOf
+    even-read g =
         record {
           broken = g .broken ∙ rw (onward-zero (breakIn (readingFrom (firstReader w) es 0 labels)), whole-pairs es even);
           whole = λ z. g .whole z ∙ rw (whole-pairs es even);
@@ -61,21 +63,21 @@ module _ (w : BitWriter) (es labels out : List ℕ) (needs : ReadLabelNeeds w es
         }
 
   -- an odd count: the first pair has x = 0
-  module _ (y : ℕ) (odd : length es % 2 ≡ 1) (hy : y ≡ getD es 0 0) where
+  module _ {y : ℕ} (odd : length es % 2 ≡ 1) (hy : y ≡ getD es 0 0) where
     padded : pairsOf es ≡ pair 0 y ∷ inTwos (drop 1 es)
-    padded = padded-pairs es y (needs .few) odd hy
+    padded = padded-pairs es y (needs .enough) odd hy
 
     forced-not : false ≡ lastTwo (inTwos (drop 1 es))
-    forced-not = not-forced es (needs .few) odd
+    forced-not = not-forced es (needs .enough) odd
 
-    module _ (l : ℕ) (hl : l ≡ getD labels 0 0) where
+    module _ {l : ℕ} (hl : l ≡ getD labels 0 0) where
       pub first-needs : (2 ≤ y) × (y ≤ 15) × ReadPairNeeds (firstReader w) (pair 0 y) 0 l out
       first-needs =
-          let a = needs .wide 0 (omega (arith, needs .few)) in
+          let a = needs .wide 0 (omega (arith, needs .enough)) in
           let p : ReadPairNeeds (firstReader w) (pair 0 y) 0 l out =
           record {
             vSmall = omega arith;
-            wSmall = rw (hl, hy) (needs .within 0 (omega (arith, needs .few)));
+            wSmall = rw (hl, hy) (needs .within 0 (omega (arith, needs .enough)));
             bytes = omega (arith, needs .bytes);
             waits = needs .waits;
           } in
@@ -83,7 +85,7 @@ module _ (w : BitWriter) (es labels out : List ℕ) (needs : ReadLabelNeeds w es
 
       -- the first label, and those after it
       cut-first : bitsOfLabels es labels ≡ bits y l ++ bitsOfLabels (drop 1 es) (drop 1 labels)
-      cut-first = labels-drop es labels 0 (omega (arith, needs .few)) (omega (arith, needs .few, same)) ∙ rw (← hl, ← hy)
+      cut-first = labels-drop es labels 0 (omega (arith, needs .enough)) (omega (arith, needs .enough, same)) ∙ rw (← hl, ← hy)
 
       decoded-is : decodedAt (pair 0 y) (bitsOfLabels es labels) ≡ decodedIn (pair 0 y) 0 l
       unfolding bits
@@ -92,14 +94,15 @@ module _ (w : BitWriter) (es labels out : List ℕ) (needs : ReadLabelNeeds w es
       after-is : drop (width (pair 0 y)) (bitsOfLabels es labels) ≡ bitsOfLabels (drop 1 es) (drop 1 labels)
       after-is = ap (drop (0 + y)) cut-first ∙ drop-at (bits y l) (bitsOfLabels (drop 1 es) (drop 1 labels)) (0 + y) (length-bits y l ∙ omega arith)
 
-      module _ (p : PairRead) (mid : List ℕ) (first : ReadsPair (firstReader w) false (pair 0 y) 0 l out p mid) where
+      module _ {p : PairRead} {mid : List ℕ} (first : ReadsPair (firstReader w) false (pair 0 y) 0 l out p mid) where
         obeys-is : p .obeys ≡ obeysCode (lastTwo (inTwos (drop 1 es))) zeroState (decodedIn (pair 0 y) 0 l)
         obeys-is = first .obeys ∙ ap (λ (b : Bool). obeysCode b zeroState (decodedIn (pair 0 y) 0 l)) forced-not
 
         -- it breaks the code
         pub first-broken : p .obeys ≡ false → ReadsLabels w es labels out (record { broken = At 0; writer = p .reader .writer }) mid
+        unfolding readingOf
         first-broken e =
-            let r : readingOfAll es labels ≡ breaks 0 =
+            let r : readingOf Coded (pairsOf es) (bitsOfLabels es labels) ≡ breaks 0 =
             rw padded (read-stop (pair 0 y) (inTwos (drop 1 es)) zeroState (bitsOfLabels es labels) (rw decoded-is (sym obeys-is ∙ e))) in
             record {
               broken = rw r;
@@ -115,25 +118,26 @@ module _ (w : BitWriter) (es labels out : List ℕ) (needs : ReadLabelNeeds w es
 
         pub odd-needs : length mid ≡ length out → ReadPairsNeeds (p .reader) es 1 labels mid
         odd-needs kept =
-            let t = padded-taken es y (needs .few) odd hy in
+            let t = padded-taken es y (needs .enough) odd hy in
             record {
-              inside = omega (arith, needs .few);
-              places = omega (arith, same);
+              inside = omega (arith, needs .enough);
+              labelsFit = omega (arith, same);
               within = needs .within;
               bytes = rw (kept, first-count) (omega (arith, needs .bytes));
               waits = first .puts .waits;
             }
 
         -- it obeys it
-        pub odd-read : p .obeys ≡ true → (r : PairsRead) (after : List ℕ) → ReadsFrom (p .reader) es 1 labels mid r after → ReadsLabels w es labels out r after
-        odd-read e r after g =
+        pub odd-read : p .obeys ≡ true → {r : PairsRead} {after : List ℕ} → ReadsFrom (p .reader) es 1 labels mid r after → ReadsLabels w es labels out r after
+        unfolding readingOf
+        odd-read e g =
             let b : List Bool = takenBits false 0 (decodedIn (pair 0 y) 0 l) in
             let f : Reading = readingFrom (p .reader) es 1 labels in
-            let o : readingOfAll es labels ≡ after' b f =
+            let o : readingOf Coded (pairsOf es) (bitsOfLabels es labels) ≡ after' b f =
             rw padded
             (read-on (pair 0 y) (inTwos (drop 1 es)) zeroState (bitsOfLabels es labels) (decodedIn (pair 0 y) 0 l) (bitsOfLabels (drop 1 es) (drop 1 labels)) decoded-is after-is (sym obeys-is ∙ e)
             ∙ rw (← forced-not, first .state)) in
-            let t = padded-taken es y (needs .few) odd hy in
+            let t = padded-taken es y (needs .enough) odd hy in
             record {
               broken = g .broken ∙ sym (ap breakIn o ∙ break-after b f);
               whole =

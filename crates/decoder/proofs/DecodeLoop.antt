@@ -21,7 +21,7 @@ use Rattle.trellis.specs.Coding.{Wide}
 use Rattle.decoder.specs.Reading.{decodedIn, ReadPairNeeds, ReadsPair, ReadPairsNeeds, readingFrom, ReadsFrom}
 use Rattle.decoder.specs.declared.Reader.{Reader}
 use Rattle.decoder.specs.declared.PairRead.{PairRead}
-use Rattle.trellis.proofs.Entries.{cut-pair, pair-wide, inTwos-short, forced-is}
+use Rattle.trellis.proofs.Entries.{cut-pair, pair-wide, inTwos-short, is-forced}
 use Rattle.decoder.proofs.DecodePair.{length-takes}
 use Rattle.g9932.proofs.Search.{found-not}
 
@@ -74,95 +74,113 @@ decoding-end {c = c} {k = k} {es = es} {labels = labels} {from = from} {i = i} g
       counted = λ _. omega (arith, rw e at (g .counted));
     }
 
--- one pair more
-module _ (c k : Reader) (es labels out₀ out : List ℕ) (from i x y : ℕ) (forced : Bool) (wide : Wide es)
-    (g : Decoding c k es labels out₀ out from i) (more : i + 1 < length es) (hx : x ≡ getD es i 0) (hy : y ≡ getD es (i + 1) 0)
-    (hl : forced ≡ ltb (length es - i) 6) where
-  is-forced : forced ≡ lastTwo (inTwos (drop (i + 2) es))
-  is-forced = hl ∙ forced-is es i (omega arith)
+-- the pair at hand: x and y are the entries at i, v and w their labels
+pub record AtPair (c k : Reader) (es labels out₀ out : List ℕ) (from i x y v w : ℕ) (forced : Bool) : Type 0 where
+  pub wide : Wide es
+  pub upTo : Decoding c k es labels out₀ out from i
+  pub more : i + 1 < length es
+  pub isX : x ≡ getD es i 0
+  pub isY : y ≡ getD es (i + 1) 0
+  pub isV : v ≡ getD labels i 0
+  pub isW : w ≡ getD labels (i + 1) 0
+  pub isForced : forced ≡ ltb (length es - i) 6
 
-  module _ (v w : ℕ) (hv : v ≡ getD labels i 0) (hw : w ≡ getD labels (i + 1) 0) where
-    pub pair-needs : ReadPairNeeds k (pair x y) v w out
-    pair-needs =
-        let r = g .needs in
-        let s = rw (cut-pair es i x y more hx hy) at (r .bytes) in
+module _ {c k : Reader} {es labels out₀ out : List ℕ} {from i x y v w : ℕ} {forced : Bool} (h : AtPair c k es labels out₀ out from i x y v w forced) where
+  cut : inTwos (drop i es) ≡ pair x y ∷ inTwos (drop (i + 2) es)
+  cut = cut-pair es i x y (h .more) (h .isX) (h .isY)
+
+  pub at-wide : (2 ≤ x) × (x ≤ 15) × (2 ≤ y) × (y ≤ 15)
+  at-wide = pair-wide es i x y (h .wide) (h .more) (h .isX) (h .isY)
+
+  last-two : forced ≡ lastTwo (inTwos (drop (i + 2) es))
+  last-two = is-forced es i (h .more) (h .isForced)
+
+  pub pair-needs : ReadPairNeeds k (pair x y) v w out
+  pair-needs =
+      let r = h .upTo .needs in
+      let m = h .more in
+      let s = rw cut at (r .bytes) in
+      record {
+        vSmall = rw (h .isV, h .isX) (r .within i (omega arith));
+        wSmall = rw (h .isW, h .isY) (r .within (i + 1) m);
+        bytes = omega (arith, s, at-wide);
+        waits = r .waits;
+      }
+
+  -- the labels of the pair, and those after it
+  abbrev later : List Bool
+  later = bitsOfLabels (drop (i + 2) es) (drop (i + 2) labels)
+
+  cut-labels : bitsOfLabels (drop i es) (drop i labels) ≡ (bits x v ++ bits y w) ++ later
+  cut-labels =
+      let p = h .upTo .needs .labelsFit in
+      let m = h .more in
+      let z : i + 1 + 1 ≡ i + 2 = omega arith in
+      labels-drop es labels i (omega arith) (omega arith)
+      ∙ ap (λ (l : List Bool). bits (getD es i 0) (getD labels i 0) ++ l) (labels-drop es labels (i + 1) m (omega arith))
+      ∙ sym (append-assoc (bits (getD es i 0) (getD labels i 0)) (bits (getD es (i + 1) 0) (getD labels (i + 1) 0)) (bitsOfLabels (drop (i + 1 + 1) es) (drop (i + 1 + 1) labels)))
+      ∙ rw (← (h .isX), ← (h .isY), ← (h .isV), ← (h .isW), z)
+
+  sized : length (bits x v ++ bits y w) ≡ width (pair x y)
+  sized = length-append (bits x v) (bits y w) ∙ rw (length-bits x v, length-bits y w)
+
+  decoded-is : decodedAt (pair x y) (bitsOfLabels (drop i es) (drop i labels)) ≡ decodedIn (pair x y) v w
+  decoded-is = ap (decodedWord x) (ap (take (width (pair x y))) cut-labels ∙ take-at (bits x v ++ bits y w) later (width (pair x y)) sized)
+
+  after-is : drop (width (pair x y)) (bitsOfLabels (drop i es) (drop i labels)) ≡ later
+  after-is = ap (drop (width (pair x y))) cut-labels ∙ drop-at (bits x v ++ bits y w) later (width (pair x y)) sized
+
+  module _ {p : PairRead} {after : List ℕ} (reads : ReadsPair k forced (pair x y) v w out p after) where
+    obeys-is : p .obeys ≡ obeysCode (lastTwo (inTwos (drop (i + 2) es))) (k .state) (decodedIn (pair x y) v w)
+    obeys-is = reads .obeys ∙ ap (λ (b : Bool). obeysCode b (k .state) (decodedIn (pair x y) v w)) last-two
+
+    -- a pair that breaks the code
+    pub decoding-broken : p .obeys ≡ false → ReadsFrom c es from labels out₀ (record { broken = At ((i + 1) / 2); writer = k .writer }) after
+    decoding-broken e =
+        let g = h .upTo in
+        let s : readPairs (k .state) (pair x y ∷ inTwos (drop (i + 2) es)) (bitsOfLabels (drop i es) (drop i labels)) ≡ breaks 0 =
+        read-stop (pair x y) (inTwos (drop (i + 2) es)) (k .state) (bitsOfLabels (drop i es) (drop i labels)) (rw decoded-is (sym obeys-is ∙ e)) in
+        let r : readingFrom c es from labels ≡ breaks (g .pairs + 0) = g .rest ∙ rw (cut, s) in
         record {
-          vSmall = rw (hv, hx) (r .within i (omega arith));
-          wSmall = rw (hw, hy) (r .within (i + 1) more);
-          bytes = omega (arith, s, pair-wide es i x y wide more hx hy);
-          waits = r .waits;
+          broken = rw r (ap At (let n = g .numbered in let m : (i + 1) / 2 ≡ (from + 1) / 2 + (g .pairs + 0) = omega arith in m));
+          whole = λ z. absurd (found-not z);
+          waits = g .needs .waits;
+          counted = λ z. absurd (found-not z);
         }
 
-    -- the labels of the pair, and those after it
-    abbrev later : List Bool
-    later = bitsOfLabels (drop (i + 2) es) (drop (i + 2) labels)
-
-    cut-labels : bitsOfLabels (drop i es) (drop i labels) ≡ (bits x v ++ bits y w) ++ later
-    cut-labels =
-        let p = g .needs .places in
-        let z : i + 1 + 1 ≡ i + 2 = omega arith in
-        labels-drop es labels i (omega arith) (omega arith)
-        ∙ ap (λ (l : List Bool). bits (getD es i 0) (getD labels i 0) ++ l) (labels-drop es labels (i + 1) more (omega arith))
-        ∙ sym (append-assoc (bits (getD es i 0) (getD labels i 0)) (bits (getD es (i + 1) 0) (getD labels (i + 1) 0)) (bitsOfLabels (drop (i + 1 + 1) es) (drop (i + 1 + 1) labels)))
-        ∙ rw (← hx, ← hy, ← hv, ← hw, z)
-
-    sized : length (bits x v ++ bits y w) ≡ width (pair x y)
-    sized = length-append (bits x v) (bits y w) ∙ rw (length-bits x v, length-bits y w)
-
-    decoded-is : decodedAt (pair x y) (bitsOfLabels (drop i es) (drop i labels)) ≡ decodedIn (pair x y) v w
-    decoded-is = ap (decodedWord x) (ap (take (width (pair x y))) cut-labels ∙ take-at (bits x v ++ bits y w) later (width (pair x y)) sized)
-
-    after-is : drop (width (pair x y)) (bitsOfLabels (drop i es) (drop i labels)) ≡ later
-    after-is = ap (drop (width (pair x y))) cut-labels ∙ drop-at (bits x v ++ bits y w) later (width (pair x y)) sized
-
-    module _ (p : PairRead) (after : List ℕ) (reads : ReadsPair k forced (pair x y) v w out p after) where
-      obeys-is : p .obeys ≡ obeysCode (lastTwo (inTwos (drop (i + 2) es))) (k .state) (decodedIn (pair x y) v w)
-      obeys-is = reads .obeys ∙ ap (λ (b : Bool). obeysCode b (k .state) (decodedIn (pair x y) v w)) is-forced
-
-      -- a pair that breaks the code
-      pub decoding-broken : p .obeys ≡ false → ReadsFrom c es from labels out₀ (record { broken = At ((i + 1) / 2); writer = k .writer }) after
-      decoding-broken e =
-          let s : readPairs (k .state) (pair x y ∷ inTwos (drop (i + 2) es)) (bitsOfLabels (drop i es) (drop i labels)) ≡ breaks 0 =
-          read-stop (pair x y) (inTwos (drop (i + 2) es)) (k .state) (bitsOfLabels (drop i es) (drop i labels)) (rw decoded-is (sym obeys-is ∙ e)) in
-          let r : readingFrom c es from labels ≡ breaks (g .pairs + 0) = g .rest ∙ rw (cut-pair es i x y more hx hy, s) in
-          record {
-            broken = rw r (ap At (let n = g .numbered in let m : (i + 1) / 2 ≡ (from + 1) / 2 + (g .pairs + 0) = omega arith in m));
-            whole = λ z. absurd (found-not z);
-            waits = g .needs .waits;
-            counted = λ z. absurd (found-not z);
-          }
-
-      -- a pair that obeys it
-      pub decoding-step : p .obeys ≡ true → length after ≡ length out → Decoding c (p .reader) es labels out₀ after from (i + 2)
-      decoding-step e same =
-          let u : Word = decodedIn (pair x y) v w in
-          let ps : List Pair = inTwos (drop (i + 2) es) in
-          let f : List Bool = bitsOfLabels (drop i es) (drop i labels) in
-          let j : taken forced (pair x y) ≡ taken (lastTwo ps) (pair x y) = ap (λ (b : Bool). taken b (pair x y)) is-forced in
-          let q = pair-wide es i x y wide more hx hy in
-          let s = rw (cut-pair es i x y more hx hy) at (g .needs .bytes) in
-          let t = rw (cut-pair es i x y more hx hy) at (g .counted) in
-          let m = reads .puts .counted in
-          let n = length-takes x y v w (q .0) (q .2) (pair-needs .vSmall) (pair-needs .wSmall) forced in
-          let o : readPairs (k .state) (pair x y ∷ ps) f ≡ after' (takenBits (lastTwo ps) x u) (readPairs (nextOf (k .state) u) ps later) =
-          read-on (pair x y) ps (k .state) f u later decoded-is after-is (sym obeys-is ∙ e) in
-          record {
-            kept = same ∙ g .kept;
-            needs =
-                record {
-                  inside = omega arith;
-                  places = g .needs .places;
-                  within = g .needs .within;
-                  bytes = rw same (omega arith);
-                  waits = reads .puts .waits;
-                };
-            pairs = g .pairs + 1;
-            numbered = omega (arith, g .numbered);
-            done = g .done ++ takenBits forced x u;
-            soFar = reads .puts .holds ∙ rw (g .soFar, append-assoc);
-            rest =
-                g .rest
-                ∙ rw (cut-pair es i x y more hx hy, o, ← is-forced, reads .state)
-                (after-one (g .pairs) (g .done) (takenBits forced x u) (readPairs (nextOf (k .state) u) ps later));
-            counted = omega arith;
-          }
+    -- a pair that obeys it
+    pub decoding-step : p .obeys ≡ true → length after ≡ length out → Decoding c (p .reader) es labels out₀ after from (i + 2)
+    decoding-step e same =
+        let u : Word = decodedIn (pair x y) v w in
+        let ps : List Pair = inTwos (drop (i + 2) es) in
+        let f : List Bool = bitsOfLabels (drop i es) (drop i labels) in
+        let j : taken forced (pair x y) ≡ taken (lastTwo ps) (pair x y) = ap (λ (b : Bool). taken b (pair x y)) last-two in
+        let g = h .upTo in
+        let m = h .more in
+        let q = at-wide in
+        let s = rw cut at (g .needs .bytes) in
+        let t = rw cut at (g .counted) in
+        let l = reads .puts .counted in
+        let n = length-takes x y v w (q .0) (q .2) (pair-needs .vSmall) (pair-needs .wSmall) forced in
+        let o : readPairs (k .state) (pair x y ∷ ps) f ≡ after' (takenBits (lastTwo ps) x u) (readPairs (nextOf (k .state) u) ps later) =
+        read-on (pair x y) ps (k .state) f u later decoded-is after-is (sym obeys-is ∙ e) in
+        record {
+          kept = same ∙ g .kept;
+          needs =
+              record {
+                inside = omega arith;
+                labelsFit = g .needs .labelsFit;
+                within = g .needs .within;
+                bytes = rw same (omega arith);
+                waits = reads .puts .waits;
+              };
+          pairs = g .pairs + 1;
+          numbered = omega (arith, g .numbered);
+          done = g .done ++ takenBits forced x u;
+          soFar = reads .puts .holds ∙ rw (g .soFar, append-assoc);
+          rest =
+              g .rest
+              ∙ rw (cut, o, ← last-two, reads .state)
+              (after-one (g .pairs) (g .done) (takenBits forced x u) (readPairs (nextOf (k .state) u) ps later));
+          counted = omega arith;
+        }

@@ -15,11 +15,11 @@ use Rattle.g9932.specs.declared.TrellisState.{TrellisState}
 use Rattle.g9932.proofs.Identities.{bits-agree}
 use Rattle.g9932.proofs.Words.{num-append, num-bits, num-lt, num-drop, length-bits, bits-num}
 use Rattle.decoder.specs.Reading.{decodedOf, wordBy, takenNumber, decodedIn}
-use Rattle.decoder.specs.declared.DecodedWord.{DecodedWord}
+use Rattle.decoder.specs.declared.PairWord.{PairWord}
 use Rattle.trellis.proofs.Numbers.{lowest, bit-num}
 
 -- what the code has of a word
-pub record IsDecoded (u : Word) (r : DecodedWord) : Type 0 where
+pub record IsDecoded (u : Word) (r : PairWord) : Type 0 where
   pub u0 : r .u0 ≡ u .u0
   pub u1 : r .u1 ≡ u .u1
   pub u2 : r .u2 ≡ u .u2
@@ -70,7 +70,7 @@ join3 : (a b c h : ℕ) → a + 2 * (b + 2 * (c + 2 * h)) ≡ a + 2 * b + 4 * (c
 join3 a b c h = omega arith
 
 -- the frame bits as a number
-taken-number : (forced : Bool) (u : Word) (x : ℕ) (r : DecodedWord) → 2 ≤ x → IsDecoded u r → takenNumber forced r ≡ num (takenBits forced x u)
+taken-number : (forced : Bool) (u : Word) (x : ℕ) (r : PairWord) → 2 ≤ x → IsDecoded u r → takenNumber forced r ≡ num (takenBits forced x u)
 unfolding takenBits takenNumber num
 taken-number forced u zero r h i = absurd (omega arith)
 taken-number true u (suc x) r h i = rw (i .u3, i .high)
@@ -82,14 +82,14 @@ taken-length forced u zero y h k e = absurd (omega arith)
 taken-length true u (suc x) y h k e = omega arith
 taken-length false u (suc x) y h k e = omega arith
 
-keeps-by : (forced : Bool) (s : TrellisState) (u : Word) (r : DecodedWord) → IsDecoded u r → obeysCode forced s (wordBy r) ≡ obeysCode forced s u
-keeps-by true s u r i = rw (i .u0, i .u1, i .u2)
-keeps-by false s u r i = rw (i .u0)
+obeys-by : (forced : Bool) (s : TrellisState) (u : Word) (r : PairWord) → IsDecoded u r → obeysCode forced s (wordBy r) ≡ obeysCode forced s u
+obeys-by true s u r i = rw (i .u0, i .u1, i .u2)
+obeys-by false s u r i = rw (i .u0)
 
 -- ---- as the code has it
 
-pub record PairDecoded (forced : Bool) (s : TrellisState) (x y v w : ℕ) (r : DecodedWord) : Type 0 where
-  pub kept : obeysCode forced s (wordBy r) ≡ obeysCode forced s (decodedIn (pair x y) v w)
+pub record PairDecoded (forced : Bool) (s : TrellisState) (x y v w : ℕ) (r : PairWord) : Type 0 where
+  pub obeys : obeysCode forced s (wordBy r) ≡ obeysCode forced s (decodedIn (pair x y) v w)
   pub next : nextState s (r .u1) (r .u2) ≡ nextOf s (decodedIn (pair x y) v w)
   pub takes : bits (taken forced (pair x y)) (takenNumber forced r) ≡ takenBits forced x (decodedIn (pair x y) v w)
   pub small : takenNumber forced r < 2 ^ taken forced (pair x y)
@@ -105,7 +105,7 @@ module _ (x y v w : ℕ) (hx : 2 ≤ x) (hy : 2 ≤ y) (hv : v < 2 ^ x) (hw : w 
   pub length-takes : (forced : Bool) → length (takenBits forced x (decodedIn (pair x y) v w)) ≡ taken forced (pair x y)
   length-takes forced = taken-length forced (decodedIn (pair x y) v w) x y hx hy high-is
 
-  module _ (r : DecodedWord) (hr : r ≡ decodedOf v w x) where
+  module _ (r : PairWord) (hr : r ≡ decodedOf v w x) where
     is-decoded : IsDecoded (decodedIn (pair x y) v w) r
     is-decoded = rw (hr, decoded-implied x y v w hx hv hw) (implied-number x y v w hv hw)
 
@@ -118,7 +118,7 @@ module _ (x y v w : ℕ) (hx : 2 ≤ x) (hy : 2 ≤ y) (hv : v < 2 ^ x) (hw : w 
         let n : takenNumber forced r ≡ num (takenBits forced x u) = taken-number forced u x r hx is-decoded in
         let m : length (takenBits forced x u) ≡ taken forced (pair x y) = length-takes forced in
         record {
-          kept = keeps-by forced s u r is-decoded;
+          obeys = obeys-by forced s u r is-decoded;
           next = rw (is-decoded .u1, is-decoded .u2);
           takes = rw (n, ← m) (bits-num (takenBits forced x u));
           small = rw (n, ← m) (num-lt (takenBits forced x u));
@@ -139,7 +139,7 @@ same-false : (a b : Bool) → same (false ⊕ false ⊕ a ⊕ b) false ≡ not (
 same-false = bits-agree 2 (λ a b. same (false ⊕ false ⊕ a ⊕ b) false) (λ a b. not (a ⊕ b)) refl
 
 pub record FirstDecoded (y w : ℕ) : Type 0 where
-  pub kept : not (odd w ⊕ odd (w / 2)) ≡ obeysCode false zeroState (decodedIn (pair 0 y) 0 w)
+  pub obeys : not (odd w ⊕ odd (w / 2)) ≡ obeysCode false zeroState (decodedIn (pair 0 y) 0 w)
   pub next : nextState zeroState false (odd w) ≡ nextOf zeroState (decodedIn (pair 0 y) 0 w)
   pub takes : bits (y - 1) (weight (odd w) + 2 * (w / 4)) ≡ takenBits false 0 (decodedIn (pair 0 y) 0 w)
   pub small : weight (odd w) + 2 * (w / 4) < 2 ^ (y - 1)
@@ -162,7 +162,7 @@ module _ (y w : ℕ) (h : 2 ≤ y) (hw : w < 2 ^ y) where
   unfolding bits
   decoded-first =
       let p = rw (w-is 0 y 0 w (omega arith) hw) at (first-decoded y (bits y w) h (length-bits y w)) in
-      record { kept = p .0; next = p .1; takes = p .2; small = p .3 }
+      record { obeys = p .0; next = p .1; takes = p .2; small = p .3 }
 
   pub first-takes : length (takenBits false 0 (decodedIn (pair 0 y) 0 w)) ≡ taken false (pair 0 y)
   unfolding decodedWord takenBits bits

@@ -11,17 +11,18 @@ use Rattle.g9932.specs.Sizes.{mostTones}
 use Rattle.g9932.specs.Answers.{breakIn, frameIn}
 use Rattle.g9932.specs.Bits.{_⊕_, weight, odd, bits}
 use Rattle.g9932.specs.Order.{inTwos, pairsOf, Pair}
-use Rattle.g9932.specs.Trellis.{Word, Reading, decodedWord, obeysCode, takenBits, nextOf, zeroState, readPairs, takenTotal}
+use Rattle.g9932.specs.Trellis.{Word, Reading, decodedWord, obeysCode, takenBits, nextOf, zeroState, readPairs, readingOf, takenTotal}
 use Rattle.g9932.specs.declared.Found.{Found}
 use Rattle.g9932.specs.declared.Found.the-variants.{At, Nothing}
+use Rattle.g9932.specs.declared.Mode.the-variants.{Coded}
 use Rattle.trellis.specs.Coding.{labelNumber, Wide}
 use Rattle.decoder.specs.declared.Reader.{Reader}
-use Rattle.decoder.specs.declared.DecodedWord.{DecodedWord}
+use Rattle.decoder.specs.declared.PairWord.{PairWord}
 use Rattle.decoder.specs.declared.PairRead.{PairRead}
 use Rattle.decoder.specs.declared.PairsRead.{PairsRead}
 
 -- u0 to u3, and u4 upward as a number, from the labels of a pair, v having x bits
-unfoldable pub decodedOf : ℕ → ℕ → ℕ → DecodedWord
+unfoldable pub decodedOf : ℕ → ℕ → ℕ → PairWord
 decodedOf v w x =
     record {
       u0 = odd v ⊕ odd (v / 2) ⊕ odd w ⊕ odd (w / 2);
@@ -32,11 +33,11 @@ decodedOf v w x =
     }
 
 -- its lowest bits, as a word
-abbrev pub wordBy : DecodedWord → Word
+abbrev pub wordBy : PairWord → Word
 wordBy u = record { u0 = u .u0; u1 = u .u1; u2 = u .u2; u3 = u .u3; high = [] }
 
 -- the frame bits of a word, as a number
-unfoldable pub takenNumber : Bool → DecodedWord → ℕ
+unfoldable pub takenNumber : Bool → PairWord → ℕ
 takenNumber true u = weight (u .u3) + 2 * u .high
 takenNumber false u = labelNumber (u .u1) (u .u2) (weight (u .u3) + 2 * u .high)
 
@@ -64,7 +65,7 @@ firstReader w = record { state = zeroState; writer = w }
 
 pub record ReadPairsNeeds (c : Reader) (es : List ℕ) (i : ℕ) (labels frame : List ℕ) : Type 0 where
   pub inside : i ≤ length es
-  pub places : length es ≤ length labels
+  pub labelsFit : length es ≤ length labels
   pub within : Within es labels (length es)
   pub bytes : count (c .writer) + takenTotal (inTwos (drop i es)) + 64 ≤ 8 * length frame
   pub waits : Waits (c .writer)
@@ -85,18 +86,15 @@ pub record ReadsFrom (c : Reader) (es : List ℕ) (i : ℕ) (labels frame : List
 
 -- ---- all pairs
 
-abbrev pub readingOfAll : List ℕ → List ℕ → Reading
-readingOfAll es labels = readPairs zeroState (pairsOf es) (bitsOfLabels es labels)
-
 pub record ReadsLabels (w : BitWriter) (es labels before : List ℕ) (r : PairsRead) (after : List ℕ) : Type 0 where
-  pub broken : r .broken ≡ breakIn (readingOfAll es labels)
-  pub whole : r .broken ≡ Nothing → written (r .writer) after ≡ written w before ++ frameIn (readingOfAll es labels)
+  pub broken : r .broken ≡ breakIn (readingOf Coded (pairsOf es) (bitsOfLabels es labels))
+  pub whole : r .broken ≡ Nothing → written (r .writer) after ≡ written w before ++ frameIn (readingOf Coded (pairsOf es) (bitsOfLabels es labels))
   pub waits : Waits (r .writer)
   pub counted : r .broken ≡ Nothing → count (r .writer) ≡ count w + takenTotal (pairsOf es)
 
 pub record ReadLabelNeeds (w : BitWriter) (es labels frame : List ℕ) : Type 0 where
   pub wide : Wide es
-  pub few : 4 ≤ length es
+  pub enough : 4 ≤ length es
   pub many : length es ≤ mostTones
   pub within : Within es labels (length es)
   pub bytes : count w + takenTotal (pairsOf es) + 64 ≤ 8 * length frame

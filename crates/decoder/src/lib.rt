@@ -1,4 +1,4 @@
-// The trellis code undone: labels back to a frame's bits. Each pair is held against the code, and its frame
+// The trellis code decoded: labels back to a frame's bits. Each pair is checked against the code, and its frame
 // bits are put together. Proved code alone calls what has a `requires`.
 ghost use mathlib.Core.Path.{_≡_};
 ghost use mathlib.Core.Bool.{false};
@@ -22,7 +22,7 @@ use trellis::weight;
 use trellis::zero_state;
 
 // The word that a pair's labels imply: u0 to u3 and, as a number, u4 upward.
-pub struct DecodedWord {
+pub struct PairWord {
     pub u0: bool,
     pub u1: bool,
     pub u2: bool,
@@ -31,7 +31,7 @@ pub struct DecodedWord {
 }
 
 // The word of the labels of a pair, v having x bits.
-fn decode_word(v: u32, w: u32, x: usize) -> DecodedWord
+fn decode_word(v: u32, w: u32, x: usize) -> PairWord
     requires { ⌜ (2 ≤ x) × (x ≤ 15) × (v < 2 ^ 15) × (w < 2 ^ 15) ⌝ }
     ensures { λ r. ⌜ r ≡ decodedOf v w x ⌝ }
 {
@@ -39,7 +39,7 @@ fn decode_word(v: u32, w: u32, x: usize) -> DecodedWord
     let v1 = v / 2 % 2 == 1;
     let w0 = w % 2 == 1;
     let w1 = w / 2 % 2 == 1;
-    DecodedWord {
+    PairWord {
         u0: ((v0 ^ v1) ^ w0) ^ w1,
         u1: v0 ^ v1,
         u2: v0 ^ w0,
@@ -49,7 +49,7 @@ fn decode_word(v: u32, w: u32, x: usize) -> DecodedWord
 }
 
 // Whether a pair obeys the code.
-fn obeys_code(s: TrellisState, forced: bool, u: DecodedWord) -> bool
+fn obeys_code(s: TrellisState, forced: bool, u: PairWord) -> bool
     ensures { λ r. ⌜ r ≡ obeysCode forced s (wordBy u) ⌝ }
 {
     if forced {
@@ -59,7 +59,7 @@ fn obeys_code(s: TrellisState, forced: bool, u: DecodedWord) -> bool
 }
 
 // How many bits a pair takes from the frame.
-fn taken_bits(forced: bool, x: usize, y: usize) -> usize
+fn taken_count(forced: bool, x: usize, y: usize) -> usize
     requires { ⌜ (2 ≤ x) × (x ≤ 15) × (2 ≤ y) × (y ≤ 15) ⌝ }
     ensures { λ r. ⌜ (r ≡ taken forced (pair x y)) × (r ≤ 29) ⌝ }
 {
@@ -70,7 +70,7 @@ fn taken_bits(forced: bool, x: usize, y: usize) -> usize
 }
 
 // The frame bits of a word with x at least 2, as a number.
-fn taken_of(forced: bool, u: DecodedWord) -> u32
+fn taken_number(forced: bool, u: PairWord) -> u32
     requires { ⌜ u .high < 2 ^ 26 ⌝ }
     ensures { λ r. ⌜ r ≡ takenNumber forced u ⌝ }
 {
@@ -120,7 +120,7 @@ fn read_pair(
     let next = next_state(s, u.u1, u.u2);
     let reader = Reader {
         state: next,
-        writer: writer.put(frame, taken_bits(forced, x, y), taken_of(forced, u)),
+        writer: writer.put(frame, taken_count(forced, x, y), taken_number(forced, u)),
     };
     PairRead {
         obeys: obeys_code(s, forced, u),

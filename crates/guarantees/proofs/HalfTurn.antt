@@ -24,6 +24,7 @@ use Rattle.g9932.specs.declared.Found.{Found}
 use Rattle.g9932.specs.declared.Found.the-variants.{At, Nothing}
 use Rattle.g9932.specs.declared.Mode.{Mode}
 use Rattle.g9932.specs.declared.Mode.the-variants.{Coded}
+use Rattle.g9932.specs.declared.Refusal.the-variants.{Monitor}
 use Rattle.g9932.proofs.Accepted.{Accepted, AcceptedCoded, accepted-tables}
 use Rattle.g9932.proofs.Constellations.{point-opposite}
 use Rattle.g9932.proofs.Formed.{Formed}
@@ -34,7 +35,7 @@ use Rattle.g9932.proofs.Search.{first-no, first-all}
 use Rattle.g9932.proofs.Sent.{length-classes, loads-sum, length-taken, sentOf-read}
 use Rattle.g9932.proofs.Symbols.{length-gather}
 use Rattle.g9932.proofs.TurnedTones.{half-ones}
-use Rattle.g9932.proofs.Verdicts.{found-here, found-past}
+use Rattle.g9932.proofs.Verdicts.{found-here, found-past, and-refused, and-accepted}
 use Rattle.guarantees.specs.Words.{AcceptedFrame, RightLength, Ready, nonZero, turned}
 use Rattle.guarantees.proofs.Operations.{Passes, done, reading, reading-done}
 use Rattle.guarantees.proofs.RoundTrip.{length-written, packed-frame, packed-bits, X-of, Y-of, encoded-xs, encoded-ys, encoded-right}
@@ -83,8 +84,8 @@ module _ (T : Tables) (a : Accepted T) (m : T .mode ≡ Coded) (r : ℕ) (f : Li
   no-13 : (k : ℕ) → k < length (classesOf T) → offgridTest (classesOf T) q k ≡ false
   no-13 k h = off-13 halfPoint T a m r f ok k h ∙ none k h
 
-  is-14 : first (monitorTest r (classesOf T) q) (length (T .tones)) ≡ firstMonitored T
-  is-14 = at-14 halfPoint T a m r f ok
+  is-14 : first (monitorTest r (classesOf T) q) (length (classesOf T)) ≡ firstMonitored T
+  is-14 = ap (first (monitorTest r (classesOf T) q)) (length-classes T) ∙ at-14 halfPoint T a m r f ok
 
   half-reading : readingIn T q ≡ readPairs zeroState (pairsIn T) (halfTurned (pairsIn T) (encodePairs zeroState (pairsIn T) g))
   half-reading =
@@ -100,12 +101,12 @@ module _ (T : Tables) (a : Accepted T) (m : T .mode ≡ Coded) (r : ℕ) (f : Li
 
   -- ---- the verdict on them
 
-  past-13 : first (offgridTest (classesOf T) q) (length (T .tones)) ≡ Nothing
-  past-13 = first-all (offgridTest (classesOf T) q) (length (T .tones)) (λ k h. no-13 k (rw (length-classes T) h))
+  past-13 : first (offgridTest (classesOf T) q) (length (classesOf T)) ≡ Nothing
+  past-13 = first-all (offgridTest (classesOf T) q) (length (classesOf T)) no-13
 
   pub points-monitored : (k : ℕ) → firstMonitored T ≡ At k → refused 14 k ≡ pointsVerdict T q r
   unfolding pointsVerdict
-  points-monitored k e = found-past 13 past-13 (found-here 14 _ (is-14 ∙ e))
+  points-monitored k e = and-refused (Monitor (record { 0 = k })) _ (found-past 13 past-13 (found-here 14 _ (is-14 ∙ e)))
 
   formed-as : (o : Bool) → isOne (length (entries (T .bits) (T .tones)) % 2) ≡ o → Formed o (pairsIn T)
   formed-as o e = rw e at (c .formed)
@@ -114,7 +115,7 @@ module _ (T : Tables) (a : Accepted T) (m : T .mode ≡ Coded) (r : ℕ) (f : Li
   unfolding pointsVerdict
   points-odd e n =
       let o = formed-as true (eq-eqb (length (entries (T .bits) (T .tones)) % 2) 1 (rw (← parity) n)) in
-      found-past 13 past-13 (found-past 14 (is-14 ∙ e) (found-here 15 _ (ap breakIn (half-reading ∙ turned-odd (pairsIn T) g o taken-bits))))
+      and-accepted 0 (found-past 13 past-13 (found-past 14 (is-14 ∙ e) refl)) (found-here 15 _ (ap breakIn (half-reading ∙ turned-odd (pairsIn T) g o taken-bits)))
 
   pub points-even : firstMonitored T ≡ Nothing → nonZero T % 2 ≡ 0
       → Passes T q r × (h : List Bool) × (readingIn T q ≡ frame h) × (length h ≡ sizeOf T) × (h ≢ g)
@@ -127,7 +128,7 @@ module _ (T : Tables) (a : Accepted T) (m : T .mode ≡ Coded) (r : ℕ) (f : Li
       let lg = length-gather (classesOf T) q lq no-13 ∙ loads-sum T in (
         record {
           on = no-13;
-          filled = λ k h. first-no (monitorTest r (classesOf T) q) (length (T .tones)) (is-14 ∙ e) k (rw (← length-classes T) h);
+          filled = first-no (monitorTest r (classesOf T) q) (length (classesOf T)) (is-14 ∙ e);
         },
         t .0,
         is,

@@ -14,8 +14,7 @@ use Rattle.g9932.specs.declared.Refusal.{Refusal}
 use Rattle.g9932.specs.declared.Refusal.the-variants.{Room}
 use Rattle.g9932.specs.declared.Checked.the-variants.{Accepted, Refused}
 use Rattle.g9932.proofs.Accepted.{accepted-tables}
-use Rattle.g9932.proofs.Verdicts.{test-here, test-past, and-refused, and-accepted, done-refused, done-accepted}
-use Rattle.tables.proofs.Answers.{number-none}
+use Rattle.g9932.proofs.Verdicts.{test-here, test-past, number-none, and-refused, and-accepted, done-refused, done-accepted}
 use Rattle.ordering.specs.Ordered.{Written}
 
 module _ (T : Tables) (tones bits : List ℕ) where

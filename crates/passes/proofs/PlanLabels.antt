@@ -19,7 +19,8 @@ use Rattle.mapper.specs.Reading.{joinOnes}
 use Rattle.mapper.specs.Writing.{splitOnes}
 use Rattle.plan.specs.Classes.{PlanOf}
 use Rattle.plan.specs.Plan.{placesWhere, everySecond}
-use Rattle.passes.proofs.LabelPlaces.{bits-append, at-append, count-places, own-bits, shared-bits, split-joined, length-split, length-join, within-append, within-front, within-behind, own-within, within-own, shared-within, within-shared, join-four}
+use Rattle.passes.proofs.LabelPlaces.{bits-append, at-append, count-places, own-bits, shared-bits, split-joined, length-split, length-join, join-four}
+use Rattle.passes.proofs.LabelPlaces.{within-append, within-front, within-behind, own-within, within-own, shared-within, within-shared}
 
 -- ---- places rise
 

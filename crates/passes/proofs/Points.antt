@@ -8,17 +8,17 @@ use lib.ListN.{length, take}
 use lib.Seq.{take-take, length-take-le, getD-take}
 use Rattle.frame.specs.Written.{Framed}
 use Rattle.g9932.specs.Sizes.{Tables, frameBits, unpack, pack, bytesFor, Point}
-use Rattle.g9932.specs.Refusals.{Verdict, refused, accepted, refuseAt}
+use Rattle.g9932.specs.Refusals.{refused, accepted}
 use Rattle.g9932.specs.Filler.{registerAfter}
 use Rattle.g9932.specs.Symbol.{classesOf, sizeOf, readingIn}
-use Rattle.g9932.specs.Answers.{verdictOf, breakIn, frameIn, pointsVerdict}
+use Rattle.g9932.specs.Answers.{verdictOf, breakIn, frameIn, placesVerdict, pointsVerdict}
 use Rattle.g9932.specs.declared.Refusal.{Refusal}
 use Rattle.g9932.specs.declared.Checked.the-variants.{Refused}
 use Rattle.g9932.specs.declared.Answer.the-variants.{Done, Refused as NotDone}
 use Rattle.g9932.specs.declared.Found.the-variants.{At, Nothing}
 use Rattle.g9932.proofs.Packed.{Bytes, take-unpack, pack-frame}
-use Rattle.g9932.proofs.Verdicts.{found-here, found-past, done-refused, done-accepted, report-refused, report-done}
-use Rattle.passes.specs.ReadSymbol.{placesVerdict, PlacesDone, ReadsPoints}
+use Rattle.g9932.proofs.Verdicts.{found-here, found-past, and-refused, and-accepted, done-refused, done-accepted, report-refused, report-done}
+use Rattle.passes.specs.ReadSymbol.{PlacesDone, ReadsPoints}
 
 -- a buffer that begins with a frame has its bytes in front
 pub framed-bytes : (x : List Bool) (buffer : List ℕ) (n : ℕ) → n ≡ bytesFor (length x) → n ≤ length buffer → Framed x buffer → Bytes buffer → take n buffer ≡ pack x
@@ -34,23 +34,22 @@ framed-bytes x buffer n e h framed bytes =
 pub points-refused : (T : Tables) (q : List Point) (r : ℕ) (f : List ℕ) (x : Refusal) → verdictOf (Refused x) ≡ pointsVerdict T q r → ReadsPoints T q r f (NotDone x r) f
 points-refused T q r f x e = record { answer = report-refused x r _ e; frameHolds = done-refused x _ _ e }
 
-module _ (T : Tables) (q : List Point) (r : ℕ) (tones : length (classesOf T) ≡ length (T .tones)) where
-  -- the verdict on the points is that on the places, and then 15
-  pub points-by : placesVerdict (classesOf T) r q (refuseAt 15 (breakIn (readingIn T q)) (accepted (sizeOf T))) ≡ pointsVerdict T q r
+module _ (T : Tables) (q : List Point) (r : ℕ) where
+  -- what refuses a place refuses the points
+  pub place-found : (x : Refusal) → verdictOf (Refused x) ≡ placesVerdict (classesOf T) q r → verdictOf (Refused x) ≡ pointsVerdict T q r
   unfolding pointsVerdict
-  points-by = rw tones
+  place-found x e = and-refused x _ e
 
   module _ {s : ℕ} {labels : List ℕ} (p : PlacesDone (classesOf T) r q s labels) where
-    past : {x v : Verdict} → x ≡ v → x ≡ placesVerdict (classesOf T) r q v
-    past e = found-past 13 (p .onGrid) (found-past 14 (p .matched) e)
-
     pub break-found : (k : ℕ) → breakIn (readingIn T q) ≡ At k → refused 15 k ≡ pointsVerdict T q r
-    break-found k e = past (found-here 15 _ e) ∙ points-by
+    unfolding pointsVerdict
+    break-found k e = and-accepted 0 (p .passed) (found-here 15 _ e)
 
     pub points-done : (size : ℕ) → size ≡ sizeOf T → breakIn (readingIn T q) ≡ Nothing → (f out : List ℕ) → out ≡ pack (frameIn (readingIn T q))
         → ReadsPoints T q r f (Done size s) out
+    unfolding pointsVerdict
     points-done size n none f out o =
-        let v : accepted (sizeOf T) ≡ pointsVerdict T q r = past (found-past 15 none refl) ∙ points-by in
+        let v : accepted (sizeOf T) ≡ pointsVerdict T q r = and-accepted 0 (p .passed) (found-past 15 none refl) in
         record {
           answer = rw (n, p .registerIs) (report-done (sizeOf T) r (registerAfter r (classesOf T)) v);
           frameHolds = o ∙ done-accepted (sizeOf T) _ _ v;

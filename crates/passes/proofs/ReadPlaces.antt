@@ -1,28 +1,28 @@
 -- Reading points to labels by place, and these to a frame: what the steps ask, and what they find.
 use Prim.Native.Nat.{ℕ, _+_, _-_, _*_, _^_, _≤_, _<_}
 use mathlib.Core.Bool.{Bool}
-use mathlib.Core.List.{List, map}
+use mathlib.Core.List.{List, _++_, map}
 use mathlib.Core.Path.{_≡_, refl, sym, ap, _∙_}
 use native.Mathlib.Omega.{arith}
 use lib.Dec.{eqb}
 use lib.IntN.{ℤ}
-use lib.ListN.{length, getD, length-map, length-drop}
+use lib.ListN.{length, take, getD, length-map, length-drop}
 use lib.Seq.{getD-drop}
 use Rattle.constellation.specs.Layouts.{classLayout}
-use Rattle.frame.proofs.Stores.{written-empty, empty-waits}
+use Rattle.frame.proofs.Stores.{written-empty, empty-waits, finished}
 use Rattle.frame.specs.Labels.{bitsOfLabels, labelsAt, Placed}
-use Rattle.frame.specs.Written.{emptyWriter, written, Framed}
+use Rattle.frame.specs.Written.{emptyWriter, written}
 use Rattle.frame.specs.declared.BitWriter.{BitWriter}
 use Rattle.g9932.proofs.PointLists.{length-points}
 use Rattle.g9932.proofs.Search.{found-not}
 use Rattle.g9932.proofs.Verdicts.{found-here, found-past}
 use Rattle.g9932.specs.Answers.{breakIn}
-use Rattle.g9932.specs.Bits.{num, first}
+use Rattle.g9932.specs.Bits.{num, bits, first}
 use Rattle.g9932.specs.Filler.{drawn, afterDraws}
 use Rattle.g9932.specs.Order.{pairsOf}
-use Rattle.g9932.specs.Sizes.{entry, origin, points}
+use Rattle.g9932.specs.Sizes.{entry, origin, points, unpack}
 use Rattle.g9932.specs.Symbol.{load, isMonitored, isFiller, offgridTest, monitorTest}
-use Rattle.g9932.specs.Trellis.{zeroState, readPairs}
+use Rattle.g9932.specs.Trellis.{readingOf}
 use Rattle.g9932.specs.declared.Class.{Class}
 use Rattle.g9932.specs.declared.Class.the-variants.{Monitored, Silent}
 use Rattle.g9932.specs.declared.Found.{Found}
@@ -34,9 +34,9 @@ use Rattle.g9932.specs.declared.Refusal.the-variants.{Offgrid, Monitor}
 use Rattle.mapper.specs.Reading.{DemapAllNeeds, LabelIs, DemapsPoints, wrongFiller, ChecksFiller, JoinNeeds, CollectNeeds, CollectsLabels}
 use Rattle.mapper.specs.Writing.{FillerNeeds}
 use Rattle.mapper.specs.declared.read.FillerRead.{FillerRead}
-use Rattle.passes.specs.ReadSymbol.{PlacesOf, ReadsPlaces, HeldFits, FrameOf, ReadsFrame}
+use Rattle.passes.specs.ReadSymbol.{ReadPlacesSupposes, ReadsPlaces, HeldFits, ReadFrameSupposes, ReadsFrame}
 use Rattle.passes.specs.declared.read.PlacesRead.the-variants.{Refused, Done}
-use Rattle.decoder.specs.Reading.{ReadLabelNeeds as TrellisNeeds, readingOfAll, ReadsLabels}
+use Rattle.decoder.specs.Reading.{ReadLabelNeeds as TrellisNeeds, ReadsLabels}
 use Rattle.decoder.specs.declared.PairsRead.{PairsRead}
 use Rattle.passes.proofs.FillerPlaces.{register-places, wrong-first}
 use Rattle.passes.proofs.PlanLabels.{joined, joined-count, by-entry, joined-within, ones-small, plan-placed, where-inside, all-count}
@@ -44,7 +44,7 @@ use Rattle.passes.proofs.SymbolPoints.{class-at, load-at, tone-layout, 
 
 -- ---- the places
 
-module _ {cs : List Class} {from : ℕ} {es ps ms layouts labels : List ℕ} {xs ys : List ℤ} (w : PlacesOf cs from es ps ms layouts labels xs ys) where
+module _ {cs : List Class} {from : ℕ} {es ps ms layouts labels : List ℕ} {xs ys : List ℤ} (w : ReadPlacesSupposes cs from es ps ms layouts labels xs ys) where
   same : length ys ≡ length xs
   same = w .ysLength ∙ sym (w .xsLength)
 
@@ -77,7 +77,7 @@ module _ {cs : List Class} {from : ℕ} {es ps ms layouts labels : List ℕ} {xs
 
     -- 13
     pub off-found : {k : Place} → f ≡ At (k .0) → (r : ℕ) → ReadsPlaces cs r (points xs ys) (Refused (Offgrid k)) ls
-    off-found e r = record { answer = λ v. found-here 13 _ (sym offgrid-is ∙ e) }
+    off-found e r = record { answer = found-here 13 _ (sym offgrid-is ∙ e) }
 
     module _ (on : f ≡ Nothing) {r : ℕ} {c : FillerRead} (k : ChecksFiller ms r ls c) where
       label : (i : ℕ) → i < length cs → LabelIs (classLayout (getD cs i Silent)) (getD (points xs ys) i origin) (entry ls i)
@@ -91,7 +91,7 @@ module _ {cs : List Class} {from : ℕ} {es ps ms layouts labels : List ℕ} {xs
 
       -- 14
       pub filler-found : {j : Place} → c .monitor ≡ At (j .0) → ReadsPlaces cs r (points xs ys) (Refused (Monitor j)) ls
-      filler-found e = record { answer = λ v. found-past 13 (sym offgrid-is ∙ on) (found-here 14 _ (sym monitor-is ∙ e)) }
+      filler-found e = record { answer = found-past 13 (sym offgrid-is ∙ on) (found-here 14 _ (sym monitor-is ∙ e)) }
 
       pub none-found : c .monitor ≡ Nothing → ReadsPlaces cs r (points xs ys) (Done (c .register)) ls
       none-found e =
@@ -99,8 +99,7 @@ module _ {cs : List Class} {from : ℕ} {es ps ms layouts labels : List ℕ} {xs
           record {
             answer =
                 record {
-                  onGrid = sym offgrid-is ∙ on;
-                  matched = sym monitor-is ∙ e;
+                  passed = found-past 13 (sym offgrid-is ∙ on) (found-past 14 (sym monitor-is ∙ e) refl);
                   registerIs = k .registerIs ∙ ap (λ (l : List ℕ). afterDraws (2 * length l) r) (w .plan .monitoredAre) ∙ register-places cs 0 r;
                   labelsAre =
                       record {
@@ -114,7 +113,7 @@ module _ {cs : List Class} {from : ℕ} {es ps ms layouts labels : List ℕ} {xs
 
 -- ---- the frame
 
-module _ {m : Mode} {cs : List Class} {d : List Bool} {from : ℕ} {es ps ms layouts labels held : List ℕ} (w : FrameOf m cs d from es ps ms layouts labels held) where
+module _ {m : Mode} {cs : List Class} {d : List Bool} {from : ℕ} {es ps ms layouts labels held : List ℕ} (w : ReadFrameSupposes m cs d from es ps ms layouts labels held) where
   abbrev small : (k : ℕ) → k < length cs → 1 ≤ entry (map load cs) k → entry labels k < 2 ^ entry (map load cs) k
   small = w .labelled .small
 
@@ -141,7 +140,7 @@ module _ {m : Mode} {cs : List Class} {d : List Bool} {from : ℕ} {es ps ms lay
 
   pub collect-needs : m ≡ Uncoded → CollectNeeds emptyWriter es ps ls held
   collect-needs e =
-      let r : HeldFits Uncoded es (length held) = rw e at (w .room) in
+      let r : HeldFits Uncoded es (length held) = rw e at (w .heldFits) in
       record {
         same = placed .same;
         counts = r .0;
@@ -153,11 +152,11 @@ module _ {m : Mode} {cs : List Class} {d : List Bool} {from : ℕ} {es ps ms lay
 
   pub trellis-needs : m ≡ Coded → Placed es ps ls × TrellisNeeds emptyWriter es (labelsAt ps ls) held
   trellis-needs e =
-      let r : HeldFits Coded es (length held) = rw e at (w .room) in
+      let r : HeldFits Coded es (length held) = rw e at (w .heldFits) in
       let t : TrellisNeeds emptyWriter es (labelsAt ps ls) held =
       record {
         wide = r .0;
-        few = r .1;
+        enough = r .1;
         many = r .2;
         within = joined-within (w .plan) labels n small;
         bytes = omega (arith, r .3);
@@ -166,37 +165,44 @@ module _ {m : Mode} {cs : List Class} {d : List Bool} {from : ℕ} {es ps ms lay
       (placed, t)
 
   -- uncoded, the frame's bits are the labels'
-  pub collected : m ≡ Uncoded → (v : BitWriter) (mid after : List ℕ) → CollectsLabels emptyWriter es ps ls held v mid → Framed (written v mid) after → ReadsFrame m es d Nothing after
-  collected e v mid after c f =
-      rw e
-      (record {
-        brokenIs = refl;
-        framed = λ _. rw (c .whole, written-empty held, bits-are) at f;
-      })
+  module _ (e : m ≡ Uncoded) {v : BitWriter} {mid : List ℕ} (c : CollectsLabels emptyWriter es ps ls held v mid) (same : length mid ≡ length held) where
+    -- the last byte is there
+    pub collect-fits : v .next < length mid
+    collect-fits =
+        let r : HeldFits Uncoded es (length held) = rw e at (w .heldFits) in
+        omega (arith, c .counted, r .1)
+
+    pub collected : {after : List ℕ} → length after ≡ length mid → unpack (take (v .next + 1) after) ≡ written v mid ++ bits (8 - v .fill) 0 → ReadsFrame m es d Nothing after
+    unfolding readingOf
+    collected {after} k f =
+        let h = collect-fits in
+        rw e
+        (record {
+          brokenIs = refl;
+          framed = λ _. rw (c .whole, written-empty held, bits-are) at (finished v mid after (omega arith) (omega arith) (c .waits) f);
+        })
 
   -- coded, the code is read
   module _ (e : m ≡ Coded) {p : PairsRead} {mid : List ℕ} (c : ReadsLabels emptyWriter es (labelsAt ps ls) held p mid) where
-    reading-is : readingOfAll es (labelsAt ps ls) ≡ readPairs zeroState (pairsOf es) d
+    reading-is : readingOf Coded (pairsOf es) (bitsOfLabels es (labelsAt ps ls)) ≡ readingOf Coded (pairsOf es) d
     reading-is = rw bits-are
 
     pub broken-found : {k : ℕ} (after : List ℕ) → p .broken ≡ At k → ReadsFrame m es d (At k) after
     broken-found after b = rw e (record { brokenIs = sym b ∙ c .broken ∙ ap breakIn reading-is; framed = λ z. absurd (found-not z) })
 
-    pub none-broken : (after : List ℕ) → p .broken ≡ Nothing → Framed (written (p .writer) mid) after → ReadsFrame m es d Nothing after
-    none-broken after b f =
-        rw e
-        (record {
-          brokenIs = sym b ∙ c .broken ∙ ap breakIn reading-is;
-          framed = λ _. rw (c .whole b, written-empty held, reading-is) at f;
-        })
+    module _ (b : p .broken ≡ Nothing) (same : length mid ≡ length held) where
+      -- the last byte is there
+      pub read-fits : p .writer .next < length mid
+      read-fits =
+          let r : HeldFits Coded es (length held) = rw e at (w .heldFits) in
+          omega (arith, c .counted b, r .3)
 
-    -- the last byte is there
-    pub broken-room : p .broken ≡ Nothing → length mid ≡ length held → p .writer .next < length mid
-    broken-room b same =
-        let r : HeldFits Coded es (length held) = rw e at (w .room) in
-        omega (arith, c .counted b, r .3)
-
-  pub collect-room : m ≡ Uncoded → {v : BitWriter} {mid : List ℕ} → CollectsLabels emptyWriter es ps ls held v mid → length mid ≡ length held → v .next < length mid
-  collect-room e c same =
-      let r : HeldFits Uncoded es (length held) = rw e at (w .room) in
-      omega (arith, c .counted, r .1)
+      pub none-broken : {after : List ℕ} → length after ≡ length mid → unpack (take (p .writer .next + 1) after) ≡ written (p .writer) mid ++ bits (8 - p .writer .fill) 0
+          → ReadsFrame m es d Nothing after
+      none-broken {after} k f =
+          let h = read-fits in
+          rw e
+          (record {
+            brokenIs = sym b ∙ c .broken ∙ ap breakIn reading-is;
+            framed = λ _. rw (c .whole b, written-empty held, reading-is) at (finished (p .writer) mid after (omega arith) (omega arith) (c .waits) f);
+          })

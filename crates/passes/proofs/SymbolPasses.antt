@@ -9,9 +9,8 @@ use lib.Seq.{length-take-le, take-at}
 use Rattle.frame.specs.Written.{Framed}
 use Rattle.g9932.proofs.Packed.{Bytes}
 use Rattle.g9932.specs.Answers.{breakIn, frameIn}
-use Rattle.g9932.specs.Bits.{first}
 use Rattle.g9932.specs.Sizes.{Tables, Point, points, bytesFor}
-use Rattle.g9932.specs.Symbol.{classesOf, offgridTest, gatherBits, readingIn, sentIn}
+use Rattle.g9932.specs.Symbol.{classesOf, gatherBits, readingIn, sentIn}
 use Rattle.g9932.specs.declared.Answer.the-variants.{Done, Refused as NotDone}
 use Rattle.g9932.specs.declared.Found.{Found}
 use Rattle.g9932.specs.declared.Found.the-variants.{At, Nothing}
@@ -19,11 +18,12 @@ use Rattle.g9932.specs.declared.Mode.{Mode}
 use Rattle.g9932.specs.declared.Refusal.{Refusal}
 use Rattle.g9932.specs.declared.Refusal.the-variants.{Trellis}
 use Rattle.g9932.proofs.PointLists.{length-points}
-use Rattle.passes.specs.ReadSymbol.{ReadOf, PlacesOf, PlacesDone, PlacesBy, ReadsPlaces, FrameOf, ReadsFrame, ReadsPoints}
-use Rattle.passes.specs.WriteSymbol.{Labels, PointsOf, SymbolOf, sentFor}
+use Rattle.g9932.proofs.Verdicts.{number-none}
+use Rattle.passes.specs.ReadSymbol.{ReadSymbolSupposes, ReadPlacesSupposes, PlacesDone, PlacesBy, ReadsAnyPlaces, ReadFrameSupposes, ReadsFrame, ReadsAnyFrame, ReadsPoints}
+use Rattle.passes.specs.WriteSymbol.{EntryLabels, WritePointsSupposes, WriteSymbolSupposes, sentFor}
 use Rattle.passes.specs.declared.read.PlacesRead.{PlacesRead}
 use Rattle.passes.specs.declared.read.PlacesRead.the-variants.{Refused as PlaceRefused, Done as PlacesPass}
-use Rattle.passes.proofs.Points.{framed-bytes, points-refused, points-by, break-found, points-done}
+use Rattle.passes.proofs.Points.{framed-bytes, points-refused, place-found, break-found, points-done}
 
 -- ---- the labels by place, written back over the front of their array
 
@@ -36,8 +36,8 @@ module _ (part l : List ℕ) (n : ℕ) (h : n ≤ length l) (e : length part ≡
 
 -- ---- writing
 
-pub points-of : {T : Tables} {m : Mode} {from : ℕ} {f es ps ms layouts labels after sliced : List ℕ} {xs ys : List ℤ} → SymbolOf T m from f es ps ms layouts labels xs ys
-    → length after ≡ length labels → sliced ≡ after → Labels (sentFor m f 0 es) es ps after → PointsOf (classesOf T) (sentIn T f) from es ps ms layouts sliced xs ys
+pub points-of : {T : Tables} {m : Mode} {from : ℕ} {f es ps ms layouts labels after sliced : List ℕ} {xs ys : List ℤ} → WriteSymbolSupposes T m from f es ps ms layouts labels xs ys
+    → length after ≡ length labels → sliced ≡ after → EntryLabels (sentFor m f 0 es) es ps after → WritePointsSupposes (classesOf T) (sentIn T f) from es ps ms layouts sliced xs ys
 points-of s n is l =
     rw is
     (record {
@@ -50,42 +50,47 @@ points-of s n is l =
 
 -- ---- reading
 
-module _ {T : Tables} {m : Mode} {from size : ℕ} {es ps ms layouts labels held f : List ℕ} {xs ys : List ℤ} (s : ReadOf T m from size es ps ms layouts xs ys labels held f) where
-  pub places-of : PlacesOf (classesOf T) from es ps ms layouts labels xs ys
+module _ {T : Tables} {m : Mode} {from size : ℕ} {es ps ms layouts labels held f : List ℕ} {xs ys : List ℤ} (s : ReadSymbolSupposes T m from size es ps ms layouts xs ys labels held f) where
+  pub places-of : ReadPlacesSupposes (classesOf T) from es ps ms layouts labels xs ys
   places-of = record { plan = s .plan; labelsLength = s .labelsLength; xsLength = s .xsLength; ysLength = s .ysLength }
 
-  module _ {r : ℕ} {t : PlacesRead} {after : List ℕ} (d : ReadsPlaces (classesOf T) r (points xs ys) t after) where
+  module _ {r : ℕ} {t : PlacesRead} {after : List ℕ} (places : ReadsAnyPlaces ms layouts labels xs ys r t after) where
+    found : PlacesBy (classesOf T) r (points xs ys) t after
+    found = places (classesOf T) from es ps places-of .answer
+
     -- 13 or 14
     pub place-refused : {x : Refusal} → t ≡ PlaceRefused x → ReadsPoints T (points xs ys) r f (NotDone x r) f
     place-refused {x} e =
-        let by : PlacesBy (classesOf T) r (points xs ys) (PlaceRefused x) after = rw e at (d .answer) in
-        points-refused T _ _ _ x (by _ ∙ points-by T (points xs ys) r (s .tonesAre))
+        let by : PlacesBy (classesOf T) r (points xs ys) (PlaceRefused x) after = rw e at found in
+        points-refused T _ _ _ x (place-found T (points xs ys) r x by)
 
-    module _ {k : ℕ} (e : t ≡ PlacesPass k) where
+    module _ {k : ℕ} (e : t ≡ PlacesPass k) {sliced : List ℕ} (is : sliced ≡ after) where
       done : PlacesDone (classesOf T) r (points xs ys) k after
-      done = rw e at (d .answer)
+      done = rw e at found
 
-      pub frame-of : {sliced : List ℕ} → sliced ≡ after → FrameOf m (classesOf T) (gatherBits (classesOf T) (points xs ys)) from es ps ms layouts sliced held
-      frame-of is = rw is (record { plan = s .plan; labelled = done .labelsAre; room = s .room })
+      pub frame-of : ReadFrameSupposes m (classesOf T) (gatherBits (classesOf T) (points xs ys)) from es ps ms layouts sliced held
+      frame-of = rw is (record { plan = s .plan; labelled = done .labelsAre; heldFits = s .heldFits })
 
-      module _ {b : Found} {stored : List ℕ} (reads : ReadsFrame m es (gatherBits (classesOf T) (points xs ys)) b stored) where
+      module _ {b : Found} {stored : List ℕ} (frames : ReadsAnyFrame m from es ps sliced held b stored) where
+        reads : ReadsFrame m es (gatherBits (classesOf T) (points xs ys)) b stored
+        reads = frames (classesOf T) _ ms layouts frame-of
+
         breaks-at : b ≡ breakIn (readingIn T (points xs ys))
         breaks-at = reads .brokenIs ∙ ap breakIn (s .readings (points xs ys))
 
         -- 15
         pub pair-refused : {j : ℕ} → b ≡ At j → ReadsPoints T (points xs ys) r f (NotDone (Trellis j) r) f
-        pair-refused {j} e = points-refused T _ _ _ _ (break-found T _ _ (s .tonesAre) done j (sym breaks-at ∙ e))
+        pair-refused {j} e = points-refused T _ _ _ _ (break-found T _ _ done j (sym breaks-at ∙ e))
 
         module _ (same : length stored ≡ length held) where
           pub frame-fits : length f ≤ length stored
           frame-fits = omega (arith, s .frameLength, s .heldLength, s .sizeMost)
 
-          pub frame-read : b ≡ Nothing → Bytes stored → (out : List ℕ) → out ≡ take (length f) stored → ReadsPoints T (points xs ys) r f (Done size k) out
-          frame-read whole bytes out o =
+          pub frame-read : b ≡ Nothing → Bytes stored → {out : List ℕ} → out ≡ take (length f) stored → ReadsPoints T (points xs ys) r f (Done size k) out
+          frame-read whole bytes {out} o =
               let q : List Point = points xs ys in
               let framed : Framed (frameIn (readingIn T q)) stored = rw (s .readings q) at (reads .framed whole) in
               let nq : length q ≡ length (classesOf T) = length-points xs ys (s .xsLength ∙ sym (s .ysLength)) ∙ s .xsLength in
               let broken : breakIn (readingIn T q) ≡ Nothing = sym breaks-at ∙ whole in
-              let on : first (offgridTest (classesOf T) q) (length (T .tones)) ≡ Nothing = rw (s .tonesAre) at (done .onGrid) in
-              let n : length f ≡ bytesFor (length (frameIn (readingIn T q))) = s .frameLength ∙ ap bytesFor (sym (s .whole q on nq broken)) in
-              points-done T _ _ (s .tonesAre) done size (s .sizeIs) broken f out (o ∙ framed-bytes (frameIn (readingIn T q)) stored (length f) n frame-fits framed bytes)
+              let n : length f ≡ bytesFor (length (frameIn (readingIn T q))) = s .frameLength ∙ ap bytesFor (sym (s .whole q r (number-none (done .passed)) nq broken)) in
+              points-done T _ _ done size (s .sizeIs) broken f out (o ∙ framed-bytes (frameIn (readingIn T q)) stored (length f) n frame-fits framed bytes)

@@ -17,7 +17,7 @@ use Rattle.g9932.specs.declared.Class.{Class}
 use Rattle.g9932.specs.declared.Class.the-variants.{Silent}
 use Rattle.mapper.specs.Reading.{pointAt}
 use Rattle.mapper.specs.Writing.{FillerNeeds, withFiller, PutNeeds, PutsPoints}
-use Rattle.passes.specs.WriteSymbol.{PointsOf, WritesPoints}
+use Rattle.passes.specs.WriteSymbol.{WritePointsSupposes, WritesPoints}
 use Rattle.passes.proofs.FillerPlaces.{filled, filler-placed, register-places}
 use Rattle.passes.proofs.PlanLabels.{split, split-count, by-place, split-within, where-inside, all-count}
 use Rattle.passes.proofs.SymbolPoints.{class-at, load-at, write-at, mappable, mapped, lists-are}
@@ -26,7 +26,7 @@ length-filler : (r : ℕ) (ms ls : List ℕ) → length (withFiller r ms ls) ≡
 length-filler r [] ls = refl
 length-filler r (p ∷ ms) ls = length-filler (afterDraws 2 r) ms (set ls p (num (drawn 2 r))) ∙ length-set ls p (num (drawn 2 r))
 
-module _ {cs : List Class} {d : List Bool} {from : ℕ} {es ps ms layouts labels : List ℕ} {xs ys : List ℤ} (w : PointsOf cs d from es ps ms layouts labels xs ys) where
+module _ {cs : List Class} {d : List Bool} {from : ℕ} {es ps ms layouts labels : List ℕ} {xs ys : List ℤ} (w : WritePointsSupposes cs d from es ps ms layouts labels xs ys) where
   abbrev ls : List ℕ
   ls = split (w .plan) labels (w .labelsLength)
 
@@ -64,9 +64,9 @@ module _ {cs : List Class} {d : List Bool} {from : ℕ} {es ps ms layouts labels
               rw (layout k i, held k i) (mappable (getD cs k Silent) (registerAfter r (take k cs)) (entry ls k) (w .plan .carries k i) (small k i));
         }
 
-    pub written : (after : ℕ) (xsAfter ysAfter : List ℤ) → after ≡ afterDraws (2 * length ms) r → length xsAfter ≡ length xs → length ysAfter ≡ length ys
+    pub written : {after : ℕ} {xsAfter ysAfter : List ℤ} → after ≡ afterDraws (2 * length ms) r → length xsAfter ≡ length xs → length ysAfter ≡ length ys
         → PutsPoints layouts (withFiller r ms ls) xsAfter ysAfter → WritesPoints cs r d after xsAfter ysAfter
-    written after xsAfter ysAfter e nx ny put =
+    written {xsAfter = xsAfter} {ysAfter = ysAfter} e nx ny put =
         let q : List Point = writePoints r cs d in
         let n : length q ≡ length cs = length-write r cs d in
         let bits : d ≡ bitsOfLabels (map load cs) ls = sym (w .labelled .bitsAre) ∙ by-place (w .plan) labels (w .labelsLength) in

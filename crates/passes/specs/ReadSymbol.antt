@@ -7,14 +7,13 @@ use lib.IntN.{ℤ}
 use lib.ListN.{length, take}
 use Rattle.frame.specs.Labels.{bitsOfLabels}
 use Rattle.frame.specs.Written.{Framed}
-use Rattle.g9932.specs.Answers.{onDone, reportOf, reportBy, breakIn, frameIn, pointsVerdict}
-use Rattle.g9932.specs.Bits.{first}
+use Rattle.g9932.specs.Answers.{onDone, reportOf, reportBy, breakIn, frameIn, placesVerdict, pointsVerdict}
 use Rattle.g9932.specs.Filler.{registerAfter}
 use Rattle.g9932.specs.Order.{pairsOf, sum}
-use Rattle.g9932.specs.Refusals.{Verdict, refused, refuseAt, numberOf, placeOf}
+use Rattle.g9932.specs.Refusals.{refused, accepted, numberOf, placeOf}
 use Rattle.g9932.specs.Sizes.{Tables, entry, Point, points, bytesFor, pack, mostTones, mostBits, mostHeld}
-use Rattle.g9932.specs.Symbol.{load, classesOf, sizeOf, offgridTest, monitorTest, gatherBits, readingIn}
-use Rattle.g9932.specs.Trellis.{Reading, frame, zeroState, readPairs, takenTotal}
+use Rattle.g9932.specs.Symbol.{load, classesOf, sizeOf, gatherBits, readingIn}
+use Rattle.g9932.specs.Trellis.{readingOf, takenTotal}
 use Rattle.g9932.specs.declared.Answer.{Answer}
 use Rattle.g9932.specs.declared.Class.{Class}
 use Rattle.g9932.specs.declared.Found.{Found}
@@ -30,21 +29,16 @@ use Rattle.trellis.specs.Coding.{Wide}
 
 -- ---- the places
 
--- 13 at the first place off its constellation, or else 14 at the first whose filler bits it hasn't, or else v
-abbrev pub placesVerdict : List Class → ℕ → List Point → Verdict → Verdict
-placesVerdict cs r q v =
-    refuseAt 13 (first (offgridTest cs q) (length cs))
-    (refuseAt 14 (first (monitorTest r cs q) (length cs))
-    v)
-
-pub record PlacesOf (cs : List Class) (from : ℕ) (es ps ms layouts labels : List ℕ) (xs ys : List ℤ) : Type 0 where
+-- the points are to be read by the plan of some classes
+pub record ReadPlacesSupposes (cs : List Class) (from : ℕ) (es ps ms layouts labels : List ℕ) (xs ys : List ℤ) : Type 0 where
   pub plan : PlanOf cs from es ps ms layouts
   pub labelsLength : length labels ≡ length cs
   pub xsLength : length xs ≡ length cs
   pub ysLength : length ys ≡ length cs
 
 abbrev pub ReadPlacesNeeds : List ℕ → List ℕ → List ℕ → List ℤ → List ℤ → Type 0
-ReadPlacesNeeds ms layouts labels xs ys = (cs : List Class) × (from : ℕ) × (es : List ℕ) × (ps : List ℕ) × PlacesOf cs from es ps ms layouts labels xs ys
+ReadPlacesNeeds ms layouts labels xs ys =
+    (cs : List Class) × (from : ℕ) × (es : List ℕ) × (ps : List ℕ) × ReadPlacesSupposes cs from es ps ms layouts labels xs ys
 
 -- labels by place: those of the tones' bits, none larger than the bits of its tone allow where it has data
 pub record ToneLabels (cs : List Class) (d : List Bool) (labels : List ℕ) : Type 0 where
@@ -54,82 +48,80 @@ pub record ToneLabels (cs : List Class) (d : List Bool) (labels : List ℕ) : Ty
 
 -- nothing refused, the register after the draws is s
 pub record PlacesDone (cs : List Class) (r : ℕ) (q : List Point) (s : ℕ) (labels : List ℕ) : Type 0 where
-  pub onGrid : first (offgridTest cs q) (length cs) ≡ Nothing
-  pub matched : first (monitorTest r cs q) (length cs) ≡ Nothing
+  pub passed : accepted 0 ≡ placesVerdict cs q r
   pub registerIs : s ≡ registerAfter r cs
   pub labelsAre : ToneLabels cs (gatherBits cs q) labels
 
 abbrev pub PlacesBy : List Class → ℕ → List Point → PlacesRead → List ℕ → Type 0
-PlacesBy cs r q (Refused x) labels = (v : Verdict) → refused (numberOf x) (placeOf x) ≡ placesVerdict cs r q v
+PlacesBy cs r q (Refused x) labels = refused (numberOf x) (placeOf x) ≡ placesVerdict cs q r
 PlacesBy cs r q (Done s) labels = PlacesDone cs r q s labels
 
 pub record ReadsPlaces (cs : List Class) (r : ℕ) (q : List Point) (t : PlacesRead) (labels : List ℕ) : Type 0 where
   pub answer : PlacesBy cs r q t labels
 
-abbrev pub ReadsAll : List ℕ → List ℕ → List ℕ → List ℤ → List ℤ → ℕ → PlacesRead → List ℕ → Type 0
-ReadsAll ms layouts labels xs ys r t after =
-    (cs : List Class) (from : ℕ) (es ps : List ℕ) → PlacesOf cs from es ps ms layouts labels xs ys → ReadsPlaces cs r (points xs ys) t after
+-- whatever classes they are
+abbrev pub ReadsAnyPlaces : List ℕ → List ℕ → List ℕ → List ℤ → List ℤ → ℕ → PlacesRead → List ℕ → Type 0
+ReadsAnyPlaces ms layouts labels xs ys r t after =
+    (cs : List Class) (from : ℕ) (es ps : List ℕ) → ReadPlacesSupposes cs from es ps ms layouts labels xs ys → ReadsPlaces cs r (points xs ys) t after
 
 -- ---- the frame
-
--- the reading of the sent bits d, uncoded and coded
-abbrev pub readingBy : Mode → List ℕ → List Bool → Reading
-readingBy Uncoded es d = frame d
-readingBy Coded es d = readPairs zeroState (pairsOf es) d
 
 -- what each mode asks of the entries and of a buffer of n bytes
 abbrev pub HeldFits : Mode → List ℕ → ℕ → Type 0
 HeldFits Uncoded es n = ((k : ℕ) → entry es k ≤ 15) × (sum es + 64 ≤ 8 * n)
 HeldFits Coded es n = Wide es × (4 ≤ length es) × (length es ≤ mostTones) × (takenTotal (pairsOf es) + 64 ≤ 8 * n)
 
-pub record FrameOf (m : Mode) (cs : List Class) (d : List Bool) (from : ℕ) (es ps ms layouts labels held : List ℕ) : Type 0 where
+-- the labels are those of some classes and their bits
+pub record ReadFrameSupposes (m : Mode) (cs : List Class) (d : List Bool) (from : ℕ) (es ps ms layouts labels held : List ℕ) : Type 0 where
   pub plan : PlanOf cs from es ps ms layouts
   pub labelled : ToneLabels cs d labels
-  pub room : HeldFits m es (length held)
+  pub heldFits : HeldFits m es (length held)
 
 abbrev pub ReadFrameNeeds : Mode → ℕ → List ℕ → List ℕ → List ℕ → List ℕ → Type 0
-ReadFrameNeeds m from es ps labels held = (cs : List Class) × (d : List Bool) × (ms : List ℕ) × (layouts : List ℕ) × FrameOf m cs d from es ps ms layouts labels held
+ReadFrameNeeds m from es ps labels held =
+    (cs : List Class) × (d : List Bool) × (ms : List ℕ) × (layouts : List ℕ) × ReadFrameSupposes m cs d from es ps ms layouts labels held
 
 pub record ReadsFrame (m : Mode) (es : List ℕ) (d : List Bool) (broken : Found) (after : List ℕ) : Type 0 where
-  pub brokenIs : broken ≡ breakIn (readingBy m es d)
-  pub framed : broken ≡ Nothing → Framed (frameIn (readingBy m es d)) after
+  pub brokenIs : broken ≡ breakIn (readingOf m (pairsOf es) d)
+  pub framed : broken ≡ Nothing → Framed (frameIn (readingOf m (pairsOf es) d)) after
 
-abbrev pub ReadsFrames : Mode → ℕ → List ℕ → List ℕ → List ℕ → List ℕ → Found → List ℕ → Type 0
-ReadsFrames m from es ps labels held broken after =
-    (cs : List Class) (d : List Bool) (ms layouts : List ℕ) → FrameOf m cs d from es ps ms layouts labels held → ReadsFrame m es d broken after
+-- whatever classes and bits they are
+abbrev pub ReadsAnyFrame : Mode → ℕ → List ℕ → List ℕ → List ℕ → List ℕ → Found → List ℕ → Type 0
+ReadsAnyFrame m from es ps labels held broken after =
+    (cs : List Class) (d : List Bool) (ms layouts : List ℕ) → ReadFrameSupposes m cs d from es ps ms layouts labels held → ReadsFrame m es d broken after
 
 -- ---- a whole symbol
 
-pub record ReadOf (T : Tables) (m : Mode) (from size : ℕ) (es ps ms layouts : List ℕ) (xs ys : List ℤ) (labels held f : List ℕ) : Type 0 where
+-- the points are to be read by the plan of some tables
+pub record ReadSymbolSupposes (T : Tables) (m : Mode) (from size : ℕ) (es ps ms layouts : List ℕ) (xs ys : List ℤ) (labels held f : List ℕ) : Type 0 where
   pub plan : PlanOf (classesOf T) from es ps ms layouts
-  pub tonesAre : length (classesOf T) ≡ length (T .tones)
   pub labelsLength : length labels ≡ length (classesOf T)
   pub xsLength : length xs ≡ length (classesOf T)
   pub ysLength : length ys ≡ length (classesOf T)
-  pub room : HeldFits m es (length held)
+  pub heldFits : HeldFits m es (length held)
   pub heldLength : length held ≡ mostHeld
   pub sizeIs : size ≡ sizeOf T
   pub frameLength : length f ≡ bytesFor (sizeOf T)
   pub sizeMost : sizeOf T ≤ mostBits
-  pub readings : (q : List Point) → readingBy m es (gatherBits (classesOf T) q) ≡ readingIn T q
-  pub whole : (q : List Point) → first (offgridTest (classesOf T) q) (length (T .tones)) ≡ Nothing → length q ≡ length (classesOf T)
+  pub readings : (q : List Point) → readingOf m (pairsOf es) (gatherBits (classesOf T) q) ≡ readingIn T q
+  pub whole : (q : List Point) (r : ℕ) → placesVerdict (classesOf T) q r .number ≡ 0 → length q ≡ length (classesOf T)
       → breakIn (readingIn T q) ≡ Nothing → length (frameIn (readingIn T q)) ≡ sizeOf T
 
-abbrev pub ReadBy : Tables → Mode → PlanSizes → ℕ → List ℕ → List ℕ → List ℕ → List ℕ → List ℤ → List ℤ → List ℕ → List ℕ → List ℕ → Type 0
-ReadBy T m p n layouts entries places monitored xs ys labels held f =
-    ReadOf T m (p .shared) (p .size) (take (p .entries) entries) (take (p .entries) places) (take (p .monitored) monitored) (take n layouts) xs ys (take n labels) held f
+-- the same, of arrays that begin with the lists of the plan
+abbrev pub ReadSymbolBy : Tables → Mode → PlanSizes → ℕ → List ℕ → List ℕ → List ℕ → List ℕ → List ℤ → List ℤ → List ℕ → List ℕ → List ℕ → Type 0
+ReadSymbolBy T m p n layouts entries places monitored xs ys labels held f =
+    ReadSymbolSupposes T m (p .shared) (p .size) (take (p .entries) entries) (take (p .entries) places) (take (p .monitored) monitored) (take n layouts) xs ys (take n labels) held f
 
--- the arrays begin with the lists of some tables' plan
 pub record ReadSymbolNeeds (m : Mode) (p : PlanSizes) (n : ℕ) (layouts entries places monitored : List ℕ) (xs ys : List ℤ) (labels held f : List ℕ) : Type 0 where
   pub fits : PlanFits p n layouts entries places monitored labels
   pub tables : Tables
-  pub planned : ReadBy tables m p n layouts entries places monitored xs ys labels held f
+  pub planned : ReadSymbolBy tables m p n layouts entries places monitored xs ys labels held f
 
 pub record ReadsPoints (T : Tables) (q : List Point) (r : ℕ) (before : List ℕ) (a : Answer) (after : List ℕ) : Type 0 where
   pub answer : reportOf a ≡ reportBy (pointsVerdict T q r) r (registerAfter r (classesOf T))
   pub frameHolds : after ≡ onDone (pointsVerdict T q r) (pack (frameIn (readingIn T q))) before
 
 -- whatever tables they are
-abbrev pub ReadsSymbol : Mode → PlanSizes → ℕ → List ℕ → List ℕ → List ℕ → List ℕ → List ℤ → List ℤ → List ℕ → List ℕ → List ℕ → ℕ → Answer → List ℕ → Type 0
-ReadsSymbol m p n layouts entries places monitored xs ys labels held f r a after =
-    (T : Tables) → ReadBy T m p n layouts entries places monitored xs ys labels held f → ReadsPoints T (points xs ys) r f a after
+abbrev pub ReadsAnySymbol : Mode → PlanSizes → ℕ → List ℕ → List ℕ → List ℕ → List ℕ → List ℤ → List ℤ → List ℕ → List ℕ → List ℕ → ℕ → Answer → List ℕ → Type 0
+ReadsAnySymbol m p n layouts entries places monitored xs ys labels held f r a after =
+    (T : Tables) → ReadSymbolBy T m p n layouts entries places monitored xs ys labels held f → ReadsPoints T (points xs ys) r f a after

@@ -33,22 +33,23 @@ sentFor Uncoded f start es = take (sum es) (drop start (unpack f))
 sentFor Coded f start es = encodePairs zeroState (pairsOf es) (drop start (unpack f))
 
 -- the labels at the entries' places have the bits d
-pub record Labels (d : List Bool) (es ps labels : List ℕ) : Type 0 where
+pub record EntryLabels (d : List Bool) (es ps labels : List ℕ) : Type 0 where
   pub bitsAre : bitsOfLabels es (labelsAt ps labels) ≡ d
   pub within : Within es (labelsAt ps labels) (length es)
 
 -- ---- the points of labels
 
-pub record PointsOf (cs : List Class) (d : List Bool) (from : ℕ) (es ps ms layouts labels : List ℕ) (xs ys : List ℤ) : Type 0 where
+-- the labels are those of some classes and their bits
+pub record WritePointsSupposes (cs : List Class) (d : List Bool) (from : ℕ) (es ps ms layouts labels : List ℕ) (xs ys : List ℤ) : Type 0 where
   pub plan : PlanOf cs from es ps ms layouts
-  pub labelled : Labels d es ps labels
+  pub labelled : EntryLabels d es ps labels
   pub labelsLength : length labels ≡ length cs
   pub xsLength : length xs ≡ length cs
   pub ysLength : length ys ≡ length cs
 
--- they are the labels of some classes' bits
-abbrev pub PointNeeds : ℕ → List ℕ → List ℕ → List ℕ → List ℤ → List ℤ → Type 0
-PointNeeds from ms layouts labels xs ys = (cs : List Class) × (d : List Bool) × (es : List ℕ) × (ps : List ℕ) × PointsOf cs d from es ps ms layouts labels xs ys
+abbrev pub WritePointsNeeds : ℕ → List ℕ → List ℕ → List ℕ → List ℤ → List ℤ → Type 0
+WritePointsNeeds from ms layouts labels xs ys =
+    (cs : List Class) × (d : List Bool) × (es : List ℕ) × (ps : List ℕ) × WritePointsSupposes cs d from es ps ms layouts labels xs ys
 
 pub record WritesPoints (cs : List Class) (r : ℕ) (d : List Bool) (after : ℕ) (xsAfter ysAfter : List ℤ) : Type 0 where
   pub xsHold : xsAfter ≡ map (λ p. p .px) (writePoints r cs d)
@@ -56,13 +57,14 @@ pub record WritesPoints (cs : List Class) (r : ℕ) (d : List Bool) (after : ℕ
   pub registerIs : after ≡ registerAfter r cs
 
 -- whatever classes and bits they are
-abbrev pub WritesAll : ℕ → List ℕ → List ℕ → List ℕ → List ℤ → List ℤ → ℕ → ℕ → List ℤ → List ℤ → Type 0
-WritesAll from ms layouts labels xs ys r after xsAfter ysAfter =
-    (cs : List Class) (d : List Bool) (es ps : List ℕ) → PointsOf cs d from es ps ms layouts labels xs ys → WritesPoints cs r d after xsAfter ysAfter
+abbrev pub WritesAnyPoints : ℕ → List ℕ → List ℕ → List ℕ → List ℤ → List ℤ → ℕ → ℕ → List ℤ → List ℤ → Type 0
+WritesAnyPoints from ms layouts labels xs ys r after xsAfter ysAfter =
+    (cs : List Class) (d : List Bool) (es ps : List ℕ) → WritePointsSupposes cs d from es ps ms layouts labels xs ys → WritesPoints cs r d after xsAfter ysAfter
 
 -- ---- a whole symbol
 
-pub record SymbolOf (T : Tables) (m : Mode) (from : ℕ) (f es ps ms layouts labels : List ℕ) (xs ys : List ℤ) : Type 0 where
+-- the frame is to be written by the plan of some tables
+pub record WriteSymbolSupposes (T : Tables) (m : Mode) (from : ℕ) (f es ps ms layouts labels : List ℕ) (xs ys : List ℤ) : Type 0 where
   pub plan : PlanOf (classesOf T) from es ps ms layouts
   pub labelNeeds : LabelFrameNeeds m f 0 es ps labels
   pub sent : sentFor m f 0 es ≡ sentIn T f
@@ -70,17 +72,17 @@ pub record SymbolOf (T : Tables) (m : Mode) (from : ℕ) (f es ps ms layouts lab
   pub xsLength : length xs ≡ length (classesOf T)
   pub ysLength : length ys ≡ length (classesOf T)
 
-abbrev pub SymbolBy : Tables → Mode → PlanSizes → ℕ → List ℕ → List ℕ → List ℕ → List ℕ → List ℕ → List ℕ → List ℤ → List ℤ → Type 0
-SymbolBy T m p n f layouts entries places monitored labels xs ys =
-    SymbolOf T m (p .shared) f (take (p .entries) entries) (take (p .entries) places) (take (p .monitored) monitored) (take n layouts) (take n labels) xs ys
+-- the same, of arrays that begin with the lists of the plan
+abbrev pub WriteSymbolBy : Tables → Mode → PlanSizes → ℕ → List ℕ → List ℕ → List ℕ → List ℕ → List ℕ → List ℕ → List ℤ → List ℤ → Type 0
+WriteSymbolBy T m p n f layouts entries places monitored labels xs ys =
+    WriteSymbolSupposes T m (p .shared) f (take (p .entries) entries) (take (p .entries) places) (take (p .monitored) monitored) (take n layouts) (take n labels) xs ys
 
--- the arrays begin with the lists of some tables' plan
-pub record SymbolNeeds (m : Mode) (p : PlanSizes) (n : ℕ) (f layouts entries places monitored labels : List ℕ) (xs ys : List ℤ) : Type 0 where
+pub record WriteSymbolNeeds (m : Mode) (p : PlanSizes) (n : ℕ) (f layouts entries places monitored labels : List ℕ) (xs ys : List ℤ) : Type 0 where
   pub fits : PlanFits p n layouts entries places monitored labels
   pub tables : Tables
-  pub planned : SymbolBy tables m p n f layouts entries places monitored labels xs ys
+  pub planned : WriteSymbolBy tables m p n f layouts entries places monitored labels xs ys
 
 -- whatever tables they are
-abbrev pub WritesSymbol : Mode → PlanSizes → ℕ → List ℕ → List ℕ → List ℕ → List ℕ → List ℕ → List ℕ → List ℤ → List ℤ → ℕ → ℕ → List ℤ → List ℤ → Type 0
-WritesSymbol m p n f layouts entries places monitored labels xs ys r after xsAfter ysAfter =
-    (T : Tables) → SymbolBy T m p n f layouts entries places monitored labels xs ys → WritesPoints (classesOf T) r (sentIn T f) after xsAfter ysAfter
+abbrev pub WritesAnySymbol : Mode → PlanSizes → ℕ → List ℕ → List ℕ → List ℕ → List ℕ → List ℕ → List ℕ → List ℤ → List ℤ → ℕ → ℕ → List ℤ → List ℤ → Type 0
+WritesAnySymbol m p n f layouts entries places monitored labels xs ys r after xsAfter ysAfter =
+    (T : Tables) → WriteSymbolBy T m p n f layouts entries places monitored labels xs ys → WritesPoints (classesOf T) r (sentIn T f) after xsAfter ysAfter

@@ -1,5 +1,5 @@
 // Reading a symbol.
-ghost use Rattle.passes.specs.ReadSymbol.{ReadPlacesNeeds, ReadsAll, ReadFrameNeeds, ReadsFrames, ReadSymbolNeeds, ReadsSymbol};
+ghost use Rattle.passes.specs.ReadSymbol.{ReadPlacesNeeds, ReadsAnyPlaces, ReadFrameNeeds, ReadsAnyFrame, ReadSymbolNeeds, ReadsAnySymbol};
 use frame::BitWriter;
 use g9932::Answer;
 use g9932::Found;
@@ -25,7 +25,7 @@ fn read_places(
     labels: &mut [u16],
 ) -> PlacesRead
     requires { ⌜ ReadPlacesNeeds (now monitored) (now layouts) (now labels) (now xs) (now ys) ⌝ }
-    ensures { λ r. ⌜ ReadsAll (now (monitored .entry)) (now (layouts .entry)) (now (labels .entry)) (now (xs .entry)) (now (ys .entry)) register r (now (labels .exit)) ⌝ }
+    ensures { λ r. ⌜ ReadsAnyPlaces (now (monitored .entry)) (now (layouts .entry)) (now (labels .entry)) (now (xs .entry)) (now (ys .entry)) register r (now (labels .exit)) ⌝ }
 {
     let offgrid = mapper::read::demap_points(layouts, xs, ys, labels);
     if let Found::At(k) = offgrid {
@@ -50,7 +50,7 @@ fn read_frame(
     held: &mut [u8],
 ) -> Found
     requires { ⌜ ReadFrameNeeds mode shared (now entries) (now places) (now labels) (now held) ⌝ }
-    ensures { λ r. ⌜ ReadsFrames mode shared (now (entries .entry)) (now (places .entry)) (now (labels .entry)) (now (held .entry)) r (now (held .exit)) ⌝ }
+    ensures { λ r. ⌜ ReadsAnyFrame mode shared (now (entries .entry)) (now (places .entry)) (now (labels .entry)) (now (held .entry)) r (now (held .exit)) ⌝ }
 {
     mapper::read::join_shared(labels, shared);
     match mode {
@@ -90,7 +90,8 @@ pub fn read_symbol(
     frame: &mut [u8],
 ) -> Answer
     requires { ⌜ ReadSymbolNeeds mode p n (now layouts) (now entries) (now places) (now monitored) (now xs) (now ys) (now labels) (now held) (now frame) ⌝ }
-    ensures { λ r. ⌜ ReadsSymbol mode p n (now (layouts .entry)) (now (entries .entry)) (now (places .entry)) (now (monitored .entry)) (now (xs .entry)) (now (ys .entry)) (now (labels .entry)) (now (held .entry)) (now (frame .entry)) register r (now (frame .exit)) ⌝ }
+    ensures { λ r. ⌜ ReadsAnySymbol mode p n (now (layouts .entry)) (now (entries .entry)) (now (places .entry)) (now (monitored .entry))
+        (now (xs .entry)) (now (ys .entry)) (now (labels .entry)) (now (held .entry)) (now (frame .entry)) register r (now (frame .exit)) ⌝ }
 {
     let e = p.entries;
     let m = p.monitored;

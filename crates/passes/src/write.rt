@@ -1,5 +1,5 @@
 // Writing a symbol.
-ghost use Rattle.passes.specs.WriteSymbol.{LabelFrameNeeds, sentFor, Labels, PointNeeds, WritesAll, SymbolNeeds, WritesSymbol};
+ghost use Rattle.passes.specs.WriteSymbol.{LabelFrameNeeds, sentFor, EntryLabels, WritePointsNeeds, WritesAnyPoints, WriteSymbolNeeds, WritesAnySymbol};
 use g9932::Mode;
 use plan::PlanSizes;
 
@@ -13,7 +13,7 @@ fn label_frame(
     labels: &mut [u16],
 )
     requires { ⌜ LabelFrameNeeds mode (now frame) start (now entries) (now places) (now labels) ⌝ }
-    ensures { λ _. ⌜ Labels (sentFor mode (now (frame .entry)) start (now (entries .entry))) (now (entries .entry)) (now (places .entry)) (now (labels .exit)) ⌝ }
+    ensures { λ _. ⌜ EntryLabels (sentFor mode (now (frame .entry)) start (now (entries .entry))) (now (entries .entry)) (now (places .entry)) (now (labels .exit)) ⌝ }
 {
     match mode {
         Mode::Uncoded => mapper::write::cut_labels(frame, start, entries, places, labels),
@@ -31,8 +31,8 @@ fn write_points(
     xs: &mut [i16],
     ys: &mut [i16],
 ) -> u32
-    requires { ⌜ PointNeeds shared (now monitored) (now layouts) (now labels) (now xs) (now ys) ⌝ }
-    ensures { λ r. ⌜ WritesAll shared (now (monitored .entry)) (now (layouts .entry)) (now (labels .entry)) (now (xs .entry)) (now (ys .entry)) register r (now (xs .exit)) (now (ys .exit)) ⌝ }
+    requires { ⌜ WritePointsNeeds shared (now monitored) (now layouts) (now labels) (now xs) (now ys) ⌝ }
+    ensures { λ r. ⌜ WritesAnyPoints shared (now (monitored .entry)) (now (layouts .entry)) (now (labels .entry)) (now (xs .entry)) (now (ys .entry)) register r (now (xs .exit)) (now (ys .exit)) ⌝ }
 {
     mapper::write::split_shared(labels, shared);
     let after = mapper::write::set_filler(monitored, register, labels);
@@ -56,8 +56,9 @@ pub fn write_symbol(
     xs: &mut [i16],
     ys: &mut [i16],
 ) -> u32
-    requires { ⌜ SymbolNeeds mode p n (now frame) (now layouts) (now entries) (now places) (now monitored) (now labels) (now xs) (now ys) ⌝ }
-    ensures { λ r. ⌜ WritesSymbol mode p n (now (frame .entry)) (now (layouts .entry)) (now (entries .entry)) (now (places .entry)) (now (monitored .entry)) (now (labels .entry)) (now (xs .entry)) (now (ys .entry)) register r (now (xs .exit)) (now (ys .exit)) ⌝ }
+    requires { ⌜ WriteSymbolNeeds mode p n (now frame) (now layouts) (now entries) (now places) (now monitored) (now labels) (now xs) (now ys) ⌝ }
+    ensures { λ r. ⌜ WritesAnySymbol mode p n (now (frame .entry)) (now (layouts .entry)) (now (entries .entry)) (now (places .entry)) (now (monitored .entry))
+        (now (labels .entry)) (now (xs .entry)) (now (ys .entry)) register r (now (xs .exit)) (now (ys .exit)) ⌝ }
 {
     let e = p.entries;
     let m = p.monitored;

@@ -18,7 +18,7 @@ use Rattle.g9932.specs.declared.Answer.{Answer}
 use Rattle.g9932.specs.declared.Answer.the-variants.{Done, Refused as NotDone}
 use Rattle.g9932.proofs.Accepted.{accepted-tables}
 use Rattle.passes.specs.ReadSymbol.{ReadsPoints}
-use Rattle.g9932.proofs.Verdicts.{test-past, test-none, and-refused, and-accepted, done-refused, done-accepted, report-refused, report-done}
+use Rattle.g9932.proofs.Verdicts.{test-past, test-none, number-none, and-refused, and-accepted, done-refused, done-accepted, report-refused, report-done}
 
 -- ---- ROOM of two lists
 
@@ -43,26 +43,22 @@ rooms-none a b n c m e f g = rw (room-none a b n e f, eq-eqb c m g)
 
 -- L as it was answered
 pub size-is : (T : Tables) {l : ℕ} → accepted l ≡ tableVerdict T → l ≡ sizeOf T
-size-is T e = ap (λ (v : Verdict). v .size) (e ∙ accepted-tables T (ap (λ (v : Verdict). v .number) (sym e)) .verdict)
-
--- an accepted verdict has the size that the chain ends with
-number-zero : {l : ℕ} {v : Verdict} → accepted l ≡ v → v .number ≡ 0
-number-zero e = ap (λ (v : Verdict). v .number) (sym e)
+size-is T e = ap (λ (v : Verdict). v .size) (e ∙ accepted-tables T (number-none e) .verdict)
 
 -- ---- encoding
 
 module _ (T : Tables) (f : List ℕ) (r : ℕ) (xs ys : List ℤ) where
-  encode-kept : (x : Refusal) → verdictOf (Refused x) ≡ encodeVerdict T f r (length xs) (length ys) → Encodes T f r xs ys (NotDone x r) xs ys
-  encode-kept x e = record { answer = report-refused x r _ e; xsHold = done-refused x _ _ e; ysHold = done-refused x _ _ e }
+  encode-unchanged : (x : Refusal) → verdictOf (Refused x) ≡ encodeVerdict T f r (length xs) (length ys) → Encodes T f r xs ys (NotDone x r) xs ys
+  encode-unchanged x e = record { answer = report-refused x r _ e; xsHold = done-refused x _ _ e; ysHold = done-refused x _ _ e }
 
   pub encode-tables : (x : Refusal) → verdictOf (Refused x) ≡ tableVerdict T → Encodes T f r xs ys (NotDone x r) xs ys
   unfolding encodeVerdict
-  encode-tables x e = encode-kept x (and-refused x _ e)
+  encode-tables x e = encode-unchanged x (and-refused x _ e)
 
   module _ {l : ℕ} (ok : accepted l ≡ tableVerdict T) where
     pub encode-inputs : (x : Refusal) → verdictOf (Refused x) ≡ encodeInputs l (length (T .tones)) (length xs) (length ys) f r → Encodes T f r xs ys (NotDone x r) xs ys
     unfolding encodeVerdict
-    encode-inputs x e = encode-kept x (and-accepted l ok (rw (size-is T ok) at e))
+    encode-inputs x e = encode-unchanged x (and-accepted l ok (rw (size-is T ok) at e))
 
     pub encode-done : (k after : ℕ) (xsAfter ysAfter : List ℤ) → accepted k ≡ encodeInputs l (length (T .tones)) (length xs) (length ys) f r
         → after ≡ registerAfter r (classesOf T) → xsAfter ≡ map (λ p. p .px) (writtenPoints T r f) → ysAfter ≡ map (λ p. p .py) (writtenPoints T r f)
@@ -88,24 +84,24 @@ no-room a b n e = go (eqb a n) (eqb b n) refl refl e
 pub inputs-encoded : (size nsc a b : ℕ) (f : List ℕ) (r k : ℕ) → accepted k ≡ encodeInputs size nsc a b f r → ((a ≡ nsc) × (b ≡ nsc)) × (frameTest size f ≡ false)
 unfolding encodeInputs
 inputs-encoded size nsc a b f r k e =
-    let t = test-none 9 _ _ (number-zero e) in
+    let t = test-none 9 _ _ (number-none e) in
     let u = test-none 10 _ _ (t .1) in
     (no-room a b nsc (t .0), u .0)
 
 -- ---- reading
 
 module _ (T : Tables) (xs ys : List ℤ) (r : ℕ) (f : List ℕ) where
-  read-kept : (x : Refusal) → verdictOf (Refused x) ≡ readVerdict T xs ys r (length f) → Reads T xs ys r f (NotDone x r) f
-  read-kept x e = record { answer = report-refused x r _ e; frameHolds = done-refused x _ _ e }
+  read-unchanged : (x : Refusal) → verdictOf (Refused x) ≡ readVerdict T xs ys r (length f) → Reads T xs ys r f (NotDone x r) f
+  read-unchanged x e = record { answer = report-refused x r _ e; frameHolds = done-refused x _ _ e }
 
   pub read-tables : (x : Refusal) → verdictOf (Refused x) ≡ tableVerdict T → Reads T xs ys r f (NotDone x r) f
   unfolding readVerdict
-  read-tables x e = read-kept x (and-refused x _ e)
+  read-tables x e = read-unchanged x (and-refused x _ e)
 
   module _ {l : ℕ} (ok : accepted l ≡ tableVerdict T) where
     pub read-inputs : (x : Refusal) → verdictOf (Refused x) ≡ readInputs l (length (T .tones)) (length xs) (length ys) (length f) r → Reads T xs ys r f (NotDone x r) f
     unfolding readVerdict
-    read-inputs x e = read-kept x (and-accepted l ok (and-refused x (pointsVerdict T (points xs ys) r) (rw (size-is T ok) at e)))
+    read-inputs x e = read-unchanged x (and-accepted l ok (and-refused x (pointsVerdict T (points xs ys) r) (rw (size-is T ok) at e)))
 
     module _ {k : ℕ} (e : accepted k ≡ readInputs l (length (T .tones)) (length xs) (length ys) (length f) r) where
       -- nothing is refused but by the points
@@ -132,6 +128,6 @@ no-rooms a b n c m e = go (eqb a n) (eqb b n) (eqb c m) refl refl refl e
 pub inputs-read : (size nsc a b c r k : ℕ) → accepted k ≡ readInputs size nsc a b c r → (((a ≡ nsc) × (b ≡ nsc)) × (c ≡ bytesFor size)) × (k ≡ size)
 unfolding readInputs
 inputs-read size nsc a b c r k e =
-    let t = test-none 9 _ _ (number-zero e) in
+    let t = test-none 9 _ _ (number-none e) in
     let u = test-none 11 _ _ (t .1) in
     (no-rooms a b nsc c (bytesFor size) (t .0), ap (λ (v : Verdict). v .size) (e ∙ sym (test-past 10 (t .0) (test-past 12 (u .0) refl))))

@@ -6,7 +6,7 @@ use mathlib.Core.Path.{_≡_, sym, ap, _∙_}
 use native.Mathlib.Omega.{arith}
 use lib.Dec.{eqb}
 use lib.ListN.{length}
-use Rattle.g9932.proofs.Verdicts.{number-some}
+use Rattle.g9932.proofs.Verdicts.{number-none, number-some}
 use Rattle.g9932.specs.Answers.{verdictOf}
 use Rattle.g9932.specs.Refusals.{Verdict, accepted, tableVerdict}
 use Rattle.g9932.specs.Sizes.{Tables, mostTones}
@@ -63,7 +63,7 @@ passed {T} {v} w c {p} e =
 
 module _ {T : Tables} {v : ℕ → Verdict} {p : PlanSizes} {layouts entries places monitored : List ℕ} (h : Passed T v p layouts entries places monitored) where
   pub accepts : tableVerdict T .number ≡ 0
-  accepts = ap (λ (v : Verdict). v .number) (sym (h .tablesPass))
+  accepts = number-none (h .tablesPass)
 
   -- the arrays hold the lists
   pub lists-fit : Arrays layouts entries places monitored → {labels : List ℕ} → length labels ≡ mostTones → PlanFits p (length (T .tones)) layouts entries places monitored labels

@@ -101,25 +101,25 @@ module _ (T : Tables) (f : List ℕ) (r : ℕ) (xs ys : List ℤ) (l s : ℕ) (X
   own : Ready T r xs ys f
   own = sized f (frame-length (sizeOf T) f (ok .passes))
 
-  told : Done l s ≡ Done (sizeOf T) (registerAfter r (classesOf T))
-  told = encode-done T r xs ys f own X Y f (Done l s) ok e
+  answer-is : Done l s ≡ Done (sizeOf T) (registerAfter r (classesOf T))
+  answer-is = encode-done T r xs ys f own X Y f (Done l s) ok e
 
   lists : (X ≡ map (λ p. p .px) (writtenPoints T r f)) × (Y ≡ map (λ p. p .py) (writtenPoints T r f))
   lists =
       let is = Guarantees.encoded T r xs ys f own f ok in
       (e .xsHold ∙ ap (λ (x : Encoded). x .xs) is, e .ysHold ∙ ap (λ (x : Encoded). x .ys) is)
 
-  undone : (f₀ : List ℕ) → length f₀ ≡ bytesFor (sizeOf T) → readOf T X Y r f₀ .frame ≡ f
-  undone f₀ n = ap (λ (x : Read). x .frame) (as-answered T r xs ys f₀ (sized f₀ n) X Y f ok (sym (e .xsHold)) (sym (e .ysHold)))
+  frame-back : (f₀ : List ℕ) → length f₀ ≡ bytesFor (sizeOf T) → readOf T X Y r f₀ .frame ≡ f
+  frame-back f₀ n = ap (λ (x : Read). x .frame) (as-answered T r xs ys f₀ (sized f₀ n) X Y f ok (sym (e .xsHold)) (sym (e .ysHold)))
 
   -- Some operation reads with the same register and a buffer f₀ of as many bytes as L bits take; it answers a and leaves g there.
-  module _ (f₀ : List ℕ) (room : length f₀ ≡ bytesFor l) (a : Answer) (g : List ℕ) where
+  module _ (f₀ : List ℕ) (fits : length f₀ ≡ bytesFor l) (a : Answer) (g : List ℕ) where
     ready : Ready T r xs ys f₀
-    ready = sized f₀ (room ∙ ap (λ (x : Answer). bytesFor (reportOf x .verdict .size)) told)
+    ready = sized f₀ (fits ∙ ap (λ (x : Answer). bytesFor (reportOf x .verdict .size)) answer-is)
 
     -- Of the lists as they were left it answers the same L and register, and the buffer holds f.
     pub read-back : Reads T X Y r f₀ a g → (a ≡ Done l s) × (g ≡ f)
-    read-back h = let w = if T r xs ys f₀ ready X Y a g h f (Done l s) ok e in (w .0 ∙ sym told, w .1)
+    read-back h = let w = if T r xs ys f₀ ready X Y a g h f (Done l s) ok e in (w .0 ∙ sym answer-is, w .1)
 
     -- Coded, of the lists turned by half a turn:
     module _ (coded : T .mode ≡ Coded) (h : Reads T (turned X) (turned Y) r f₀ a g) where
@@ -144,11 +144,11 @@ module _ (T : Tables) (f : List ℕ) (r : ℕ) (xs ys : List ℤ) (l s : ℕ) (X
       another n =
           let w = Guarantees.half-turn T r xs ys f₀ ready coded f ok .1 n in
           let q = only T r xs ys f₀ ready _ _ a g here (HalfTurn.right T r xs ys f₀ ready coded f ok) (number-is ∙ w .0) in
-          (if T r xs ys f₀ ready _ _ a g here g a (q .0) (q .1) .0 ∙ sym told, q .0, λ same. w .2 (sym (here .frameHolds) ∙ same))
+          (if T r xs ys f₀ ready _ _ a g here g a (q .0) (q .1) .0 ∙ sym answer-is, q .0, λ same. w .2 (sym (here .frameHolds) ∙ same))
 
-      kept : (b : Answer) → reportOf b ≡ read .report → read .report .verdict .number ≢ 0 → (x : Refusal) × (b ≡ NotDone x r) × (g ≡ f₀)
-      kept (Done k n) is some = absurd (some (ap (λ (p : Report). p .verdict .number) (sym is)))
-      kept (NotDone x n) is some =
+      unchanged : (b : Answer) → reportOf b ≡ read .report → read .report .verdict .number ≢ 0 → (x : Refusal) × (b ≡ NotDone x r) × (g ≡ f₀)
+      unchanged (Done k n) is some = absurd (some (ap (λ (p : Report). p .verdict .number) (sym is)))
+      unchanged (NotDone x n) is some =
           let k = Guarantees.refused-reading T _ _ r f₀ some in
           (x, ap (NotDone x) (ap (λ (p : Report). p .register) is ∙ k .0), here .frameHolds ∙ k .1)
 
@@ -156,7 +156,7 @@ module _ (T : Tables) (f : List ℕ) (r : ℕ) (xs ys : List ℤ) (l s : ℕ) (X
       -- otherwise it is refused, with the register and the buffer as they came:
       pub turned-read : (((a ≡ Done l s) × AcceptedFrame T g × (g ≢ f)) ↔ ((firstMonitored T ≡ Nothing) × (nonZero T % 2 ≡ 0)))
           × (((firstMonitored T ≡ Nothing) × (nonZero T % 2 ≡ 0) → ⊥) → (x : Refusal) × (a ≡ NotDone x r) × (g ≡ f₀))
-      turned-read = ((even, another), λ other. kept a (here .answer) (Guarantees.half-turn-refused T r xs ys f₀ ready coded f ok other))
+      turned-read = ((even, another), λ other. unchanged a (here .answer) (Guarantees.half-turn-refused T r xs ys f₀ ready coded f ok other))
 
       as-refused : (n k : ℕ) → eqb n 0 ≡ false → read .report .verdict ≡ refused n k
           → (reportOf a ≡ record { verdict = refused n k; register = r }) × (g ≡ f₀)
@@ -183,8 +183,8 @@ same-lists T r f f′ xs ys xs′ ys′ l s l′ s′ X Y X′ Y′ o e o′ e�
     let n = frame-length (sizeOf T) f (o .passes) in
     let p = lists T f r xs ys l s X Y (o .bytes) e in
     let q = lists T f′ r xs′ ys′ l′ s′ X′ Y′ (o′ .bytes) e′ in (
-      λ h. sym (undone T f r xs ys l s X Y (o .bytes) e f n) ∙ ap₂ (λ (A B : List ℤ). readOf T A B r f .frame) (h .0) (h .1)
-          ∙ undone T f′ r xs′ ys′ l′ s′ X′ Y′ (o′ .bytes) e′ f n,
+      λ h. sym (frame-back T f r xs ys l s X Y (o .bytes) e f n) ∙ ap₂ (λ (A B : List ℤ). readOf T A B r f .frame) (h .0) (h .1)
+          ∙ frame-back T f′ r xs′ ys′ l′ s′ X′ Y′ (o′ .bytes) e′ f n,
       λ h. (
         p .0 ∙ ap (λ (z : List ℕ). map (λ p. p .px) (writtenPoints T r z)) h ∙ sym (q .0),
         p .1 ∙ ap (λ (z : List ℕ). map (λ p. p .py) (writtenPoints T r z)) h ∙ sym (q .1),

@@ -23,7 +23,7 @@ use Rattle.plan.proofs.Classes.{plan-of}
 use Rattle.plan.specs.Classes.{PlanOf}
 use Rattle.plan.specs.Plan.{leastOwn, sharing, PlanIs}
 use Rattle.plan.specs.declared.PlanSizes.{PlanSizes}
-use Rattle.passes.specs.ReadSymbol.{HeldFits, readingBy}
+use Rattle.passes.specs.ReadSymbol.{HeldFits}
 use Rattle.passes.specs.WriteSymbol.{LabelFrameNeeds, sentFor}
 use Rattle.trellis.specs.Coding.{FrameNeeds}
 use Rattle.passes.proofs.PlanLabels.{plan-placed}
@@ -101,6 +101,12 @@ module _ (T : Tables) (ok : tableVerdict T .number ≡ 0) where
     coded-is : T .mode ≡ Coded → es ≡ codedEntries (T .bits) (T .tones)
     coded-is e = entries-by Coded e
 
+    coded-pairs : T .mode ≡ Coded → pairsOf es ≡ pairsIn T
+    coded-pairs e = ap pairsOf (coded-is e) ∙ sym (known .coded e .pairs)
+
+    coded-taken : T .mode ≡ Coded → takenTotal (pairsOf es) ≡ sizeOf T
+    coded-taken e = ap takenTotal (coded-pairs e) ∙ known .coded e .taken
+
     coded-many : T .mode ≡ Coded → length es ≤ mostTones
     coded-many e = omega (arith, is .entriesMost, tones-most, length-take-most (p .entries) entries)
 
@@ -126,7 +132,7 @@ module _ (T : Tables) (ok : tableVerdict T .number ≡ 0) where
               let c = known .coded e in
               let b = bytes in
               let m = known .sizeMost in
-              let t : takenTotal (pairsOf es) ≡ sizeOf T = ap (λ (l : List ℕ). takenTotal (pairsOf l)) (coded-is e) ∙ sym (ap takenTotal (c .pairs)) ∙ c .taken in
+              let t = coded-taken e in
               let needs : FrameNeeds f 0 es =
               record {
                 wide = rw (coded-is e) (c .entriesRange);
@@ -145,14 +151,12 @@ module _ (T : Tables) (ok : tableVerdict T .number ≡ 0) where
           go : (m : Mode) → T .mode ≡ m → sentFor m f 0 es ≡ sentOf m (pairsIn T) (frameBits (sizeOf T) f)
           go Uncoded e = ap (λ (n : ℕ). take n (unpack f)) (plain-sum e)
           go Coded e =
-              let c = known .coded e in
-              ap (λ (l : List ℕ). encodePairs zeroState (pairsOf l) (unpack f)) (coded-is e)
-              ∙ ap (λ (q : List Pair). encodePairs zeroState q (unpack f)) (sym (c .pairs))
-              ∙ sym (encode-take (pairsIn T) zeroState (sizeOf T) (unpack f) (omega (arith, c .taken)))
+              ap (λ (q : List Pair). encodePairs zeroState q (unpack f)) (coded-pairs e)
+              ∙ sym (encode-take (pairsIn T) zeroState (sizeOf T) (unpack f) (omega (arith, known .coded e .taken)))
 
     -- ---- reading
 
-    -- the buffer before the frame is known to be whole has room for it
+    -- the frame fits the buffer that holds it until it is known to be whole
     pub held-fits : (held : List ℕ) → length held ≡ mostHeld → HeldFits (T .mode) es (length held)
     held-fits held n = go (T .mode) refl
       where
@@ -160,17 +164,13 @@ module _ (T : Tables) (ok : tableVerdict T .number ≡ 0) where
         go Uncoded e = (plain-most e, omega (arith, plain-sum e, known .sizeMost))
         go Coded e =
             let c = known .coded e in
-            let t : takenTotal (pairsOf es) ≡ sizeOf T = ap (λ (l : List ℕ). takenTotal (pairsOf l)) (coded-is e) ∙ sym (ap takenTotal (c .pairs)) ∙ c .taken in
-            (rw (coded-is e) (c .entriesRange), rw (coded-is e) (c .fewEntries), coded-many e, omega (arith, t, known .sizeMost))
+            (rw (coded-is e) (c .entriesRange), rw (coded-is e) (c .fewEntries), coded-many e, omega (arith, coded-taken e, known .sizeMost))
 
     -- the reading of the gathered bits is document 01's
-    pub reading-is : (q : List Point) → readingBy (T .mode) es (gatherBits (classesOf T) q) ≡ readingIn T q
+    pub reading-is : (q : List Point) → readingOf (T .mode) (pairsOf es) (gatherBits (classesOf T) q) ≡ readingIn T q
     unfolding readingIn readingOf
     reading-is q = go (T .mode) refl
       where
-        go : (m : Mode) → T .mode ≡ m → readingBy m es (gatherBits (classesOf T) q) ≡ readingOf m (pairsIn T) (gatherBits (classesOf T) q)
+        go : (m : Mode) → T .mode ≡ m → readingOf m (pairsOf es) (gatherBits (classesOf T) q) ≡ readingOf m (pairsIn T) (gatherBits (classesOf T) q)
         go Uncoded e = refl
-        go Coded e =
-            let c = known .coded e in
-            ap (λ (l : List ℕ). readPairs zeroState (pairsOf l) (gatherBits (classesOf T) q)) (coded-is e)
-            ∙ ap (λ (l : List Pair). readPairs zeroState l (gatherBits (classesOf T) q)) (sym (c .pairs))
+        go Coded e = ap (λ (ps : List Pair). readPairs zeroState ps (gatherBits (classesOf T) q)) (coded-pairs e)

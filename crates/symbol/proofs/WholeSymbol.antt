@@ -11,7 +11,7 @@ use Rattle.g9932.proofs.Formed.{formed-ok}
 use Rattle.g9932.proofs.Pairs.{length-read}
 use Rattle.g9932.proofs.Search.{first-no, found-not}
 use Rattle.g9932.proofs.Symbols.{length-gather}
-use Rattle.g9932.specs.Answers.{breakIn, frameIn, encodeInputs, readInputs, Encodes, Reads}
+use Rattle.g9932.specs.Answers.{breakIn, frameIn, placesVerdict, encodeInputs, readInputs, Encodes, Reads}
 use Rattle.g9932.specs.Bits.{first}
 use Rattle.g9932.specs.Order.{sum, bitsOf}
 use Rattle.g9932.specs.Refusals.{tableVerdict, frameTest}
@@ -24,15 +24,15 @@ use Rattle.g9932.specs.declared.Found.the-variants.{Nothing}
 use Rattle.g9932.specs.declared.Mode.{Mode}
 use Rattle.g9932.specs.declared.Mode.the-variants.{Uncoded, Coded}
 use Rattle.g9932.specs.declared.Refusal.{Refusal}
-use Rattle.g9932.proofs.Sent.{length-classes}
-use Rattle.g9932.proofs.Sent.{loads-sum, size-uncoded}
+use Rattle.g9932.proofs.Sent.{length-classes, loads-sum, size-uncoded}
+use Rattle.g9932.proofs.Verdicts.{found-none}
 use Rattle.plan.specs.Plan.{plannedVerdict, PlanIs, Arrays}
 use Rattle.plan.specs.declared.Planned.{Planned}
 use Rattle.plan.specs.declared.Planned.the-variants.{Refused}
 use Rattle.plan.specs.declared.PlanSizes.{PlanSizes}
 use Rattle.symbol.specs.Inputs.{ChecksInputs}
-use Rattle.passes.specs.ReadSymbol.{ReadOf, ReadBy, ReadSymbolNeeds, ReadsSymbol}
-use Rattle.passes.specs.WriteSymbol.{SymbolOf, SymbolBy, SymbolNeeds, WritesSymbol}
+use Rattle.passes.specs.ReadSymbol.{ReadSymbolSupposes, ReadSymbolBy, ReadSymbolNeeds, ReadsAnySymbol}
+use Rattle.passes.specs.WriteSymbol.{WriteSymbolSupposes, WriteSymbolBy, WriteSymbolNeeds, WritesAnySymbol}
 use Rattle.symbol.proofs.Answers.{size-is, inputs-encoded, inputs-read, encode-tables, encode-inputs, encode-done, read-tables, read-inputs, read-points}
 use Rattle.symbol.proofs.PlannedInputs.{refused-answer, Passed, accepts, lists-fit}
 use Rattle.symbol.proofs.TablePlan.{the-plan, label-needs, sent-is, held-fits, reading-is}
@@ -41,7 +41,7 @@ use Rattle.symbol.proofs.TablePlan.{the-plan, label-needs, sent-is, hel
 
 module _ (T : Tables) (ok : tableVerdict T .number ≡ 0) (p : PlanSizes) {layouts entries places monitored : List ℕ} (is : PlanIs T p layouts entries places monitored) where
   pub symbol-of : (f labels : List ℕ) (xs ys : List ℤ) → frameTest (sizeOf T) f ≡ false → length labels ≡ length (T .tones) → length xs ≡ length (T .tones) → length ys ≡ length (T .tones)
-      → SymbolOf T (T .mode) (p .shared) f (take (p .entries) entries) (take (p .entries) places) (take (p .monitored) monitored) (take (length (T .tones)) layouts) labels xs ys
+      → WriteSymbolSupposes T (T .mode) (p .shared) f (take (p .entries) entries) (take (p .entries) places) (take (p .monitored) monitored) (take (length (T .tones)) layouts) labels xs ys
   symbol-of f labels xs ys fits n nx ny =
       let c = length-classes T in
       record {
@@ -53,40 +53,40 @@ module _ (T : Tables) (ok : tableVerdict T .number ≡ 0) (p : PlanSizes) {layou
         ysLength = ny ∙ sym c;
       }
 
-  gathered-length : (q : List Point) → first (offgridTest (classesOf T) q) (length (T .tones)) ≡ Nothing → length q ≡ length (classesOf T)
+  gathered-length : (q : List Point) (r : ℕ) → placesVerdict (classesOf T) q r .number ≡ 0 → length q ≡ length (classesOf T)
       → length (gatherBits (classesOf T) q) ≡ sum (bitsOf (T .bits) (T .tones))
-  gathered-length q on n =
-      length-gather (classesOf T) q n (first-no (offgridTest (classesOf T) q) (length (classesOf T)) (rw (length-classes T) on)) ∙ loads-sum T
+  gathered-length q r pass n =
+      let on = found-none 12 (first (offgridTest (classesOf T) q) (length (classesOf T))) _ pass .0 in
+      length-gather (classesOf T) q n (first-no (offgridTest (classesOf T) q) (length (classesOf T)) on) ∙ loads-sum T
 
   -- a frame that is read has L bits
-  frame-whole : (q : List Point) → first (offgridTest (classesOf T) q) (length (T .tones)) ≡ Nothing → length q ≡ length (classesOf T)
+  frame-whole : (q : List Point) (r : ℕ) → placesVerdict (classesOf T) q r .number ≡ 0 → length q ≡ length (classesOf T)
       → breakIn (readingIn T q) ≡ Nothing → length (frameIn (readingIn T q)) ≡ sizeOf T
   unfolding readingIn readingOf
-  frame-whole q on n = go (T .mode) refl
+  frame-whole q r pass n = go (T .mode) refl
     where
       read : T .mode ≡ Coded → (R : Reading) → readPairs zeroState (pairsIn T) (gatherBits (classesOf T) q) ≡ R → breakIn R ≡ Nothing → length (frameIn R) ≡ sizeOf T
       read e (frame g) d z =
           let c = accepted-tables T ok .coded e in
-          length-read (pairsIn T) zeroState (gatherBits (classesOf T) q) g (formed-ok (pairsIn T) (c .formed)) (gathered-length q on n ∙ sym (c .widths)) d ∙ c .taken
+          length-read (pairsIn T) zeroState (gatherBits (classesOf T) q) g (formed-ok (pairsIn T) (c .formed)) (gathered-length q r pass n ∙ sym (c .widths)) d ∙ c .taken
       read e (breaks k) d z = absurd (found-not z)
 
       go : (m : Mode) → T .mode ≡ m → breakIn (readingOf m (pairsIn T) (gatherBits (classesOf T) q)) ≡ Nothing
           → length (frameIn (readingOf m (pairsIn T) (gatherBits (classesOf T) q))) ≡ sizeOf T
-      go Uncoded e z = gathered-length q on n ∙ sym (size-uncoded T e)
+      go Uncoded e z = gathered-length q r pass n ∙ sym (size-uncoded T e)
       go Coded e z = read e _ refl z
 
   pub read-of : (size : ℕ) (xs ys : List ℤ) (labels held f : List ℕ) → length labels ≡ length (T .tones) → length xs ≡ length (T .tones) → length ys ≡ length (T .tones)
       → length held ≡ mostHeld → size ≡ sizeOf T → length f ≡ bytesFor (sizeOf T)
-      → ReadOf T (T .mode) (p .shared) size (take (p .entries) entries) (take (p .entries) places) (take (p .monitored) monitored) (take (length (T .tones)) layouts) xs ys labels held f
+      → ReadSymbolSupposes T (T .mode) (p .shared) size (take (p .entries) entries) (take (p .entries) places) (take (p .monitored) monitored) (take (length (T .tones)) layouts) xs ys labels held f
   read-of size xs ys labels held f n nx ny nh s nf =
       let c = length-classes T in
       record {
         plan = the-plan T ok p is;
-        tonesAre = c;
         labelsLength = n ∙ sym c;
         xsLength = nx ∙ sym c;
         ysLength = ny ∙ sym c;
-        room = held-fits T ok p is held nh;
+        heldFits = held-fits T ok p is held nh;
         heldLength = nh;
         sizeIs = s;
         frameLength = nf;
@@ -99,32 +99,33 @@ module _ (T : Tables) (ok : tableVerdict T .number ≡ 0) (p : PlanSizes) {layou
 
 module _ {T : Tables} {p : PlanSizes} {layouts entries places monitored : List ℕ} (a : Arrays layouts entries places monitored) (labels : List ℕ) (n : length labels ≡ mostTones) where
   module _ {f : List ℕ} (r : ℕ) {xs ys : List ℤ} (h : Passed T (λ size. encodeInputs size (length (T .tones)) (length xs) (length ys) f r) p layouts entries places monitored) where
-    symbol-by : SymbolBy T (T .mode) p (length (T .tones)) f layouts entries places monitored labels xs ys
+    symbol-by : WriteSymbolBy T (T .mode) p (length (T .tones)) f layouts entries places monitored labels xs ys
     symbol-by =
         let z = inputs-encoded (p .size) (length (T .tones)) (length xs) (length ys) f r (p .size) (h .inputsPass) in
-        symbol-of T (accepts h) p (h .plan) f (take (length (T .tones)) labels) xs ys (rw (size-is T (h .tablesPass)) at (z .1)) (length-take-le _ labels (lists-fit h a {labels = labels} n .labelsFit)) (z .0 .0) (z .0 .1)
+        let l = length-take-le _ labels (lists-fit h a {labels = labels} n .labelsFit) in
+        symbol-of T (accepts h) p (h .plan) f (take (length (T .tones)) labels) xs ys (rw (size-is T (h .tablesPass)) at (z .1)) l (z .0 .0) (z .0 .1)
 
-    pub symbol-needs : SymbolNeeds (T .mode) p (length (T .tones)) f layouts entries places monitored labels xs ys
+    pub symbol-needs : WriteSymbolNeeds (T .mode) p (length (T .tones)) f layouts entries places monitored labels xs ys
     symbol-needs = record { fits = lists-fit h a n; tables = T; planned = symbol-by }
 
-    pub encode-written : {after : ℕ} {xsAfter ysAfter : List ℤ} → WritesSymbol (T .mode) p (length (T .tones)) f layouts entries places monitored labels xs ys r after xsAfter ysAfter
+    pub encode-written : {after : ℕ} {xsAfter ysAfter : List ℤ} → WritesAnySymbol (T .mode) p (length (T .tones)) f layouts entries places monitored labels xs ys r after xsAfter ysAfter
         → Encodes T f r xs ys (Done (p .size) after) xsAfter ysAfter
     unfolding writtenPoints
     encode-written writes = let w = writes T symbol-by in encode-done T f r xs ys (h .tablesPass) _ _ _ _ (h .inputsPass) (w .registerIs) (w .xsHold) (w .ysHold)
 
   module _ (r : ℕ) {xs ys : List ℤ} {held f : List ℕ} (nh : length held ≡ mostHeld)
       (h : Passed T (λ size. readInputs size (length (T .tones)) (length xs) (length ys) (length f) r) p layouts entries places monitored) where
-    read-by : ReadBy T (T .mode) p (length (T .tones)) layouts entries places monitored xs ys labels held f
+    read-by : ReadSymbolBy T (T .mode) p (length (T .tones)) layouts entries places monitored xs ys labels held f
     read-by =
         let z = inputs-read (p .size) (length (T .tones)) (length xs) (length ys) (length f) r (p .size) (h .inputsPass) in
         let s : p .size ≡ sizeOf T = size-is T (h .tablesPass) in
-        read-of T (accepts h) p (h .plan) (p .size) xs ys (take (length (T .tones)) labels) held f (length-take-le _ labels (lists-fit h a {labels = labels} n .labelsFit)) (z .0 .0 .0) (z .0 .0 .1) nh s
-        (z .0 .1 ∙ ap bytesFor s)
+        let l = length-take-le _ labels (lists-fit h a {labels = labels} n .labelsFit) in
+        read-of T (accepts h) p (h .plan) (p .size) xs ys (take (length (T .tones)) labels) held f l (z .0 .0 .0) (z .0 .0 .1) nh s (z .0 .1 ∙ ap bytesFor s)
 
     pub read-needs : ReadSymbolNeeds (T .mode) p (length (T .tones)) layouts entries places monitored xs ys labels held f
     read-needs = record { fits = lists-fit h a n; tables = T; planned = read-by }
 
-    pub read-done : {answer : Answer} {after : List ℕ} → ReadsSymbol (T .mode) p (length (T .tones)) layouts entries places monitored xs ys labels held f r answer after
+    pub read-done : {answer : Answer} {after : List ℕ} → ReadsAnySymbol (T .mode) p (length (T .tones)) layouts entries places monitored xs ys labels held f r answer after
         → Reads T xs ys r f answer after
     read-done reads = read-points T xs ys r f (h .tablesPass) (h .inputsPass) _ _ (reads T read-by)
 

@@ -1,15 +1,15 @@
 -- Laws of refusals 1 to 6 answered: what is left of the tables where none applies, and the whole answer where one does.
 use mathlib.Core.Bool.{false}
 use mathlib.Core.List.{List}
-use mathlib.Core.Path.{_≡_, refl, sym, ap, _∙_}
+use mathlib.Core.Path.{_≡_, refl, _∙_}
 use Prim.Native.Nat.{ℕ, _<_}
 use lib.ListN.{length}
 use Rattle.g9932.proofs.Accepted.{accepted-tables}
 use Rattle.g9932.proofs.Search.{first-no}
-use Rattle.g9932.proofs.Verdicts.{test-none, found-none, and-refused, and-accepted}
+use Rattle.g9932.proofs.Verdicts.{test-none, found-none, number-none, and-refused, and-accepted}
 use Rattle.g9932.specs.Answers.{verdictOf}
 use Rattle.g9932.specs.Bits.{first}
-use Rattle.g9932.specs.Refusals.{Verdict, accepted, sizeTest, toneTest, twiceTest, tableVerdict, listVerdict}
+use Rattle.g9932.specs.Refusals.{accepted, sizeTest, toneTest, twiceTest, tableVerdict, listVerdict}
 use Rattle.g9932.specs.Sizes.{tables}
 use Rattle.g9932.specs.declared.Checked.the-variants.{Refused}
 use Rattle.g9932.specs.declared.Mode.the-variants.{Uncoded}
@@ -17,9 +17,6 @@ use Rattle.g9932.specs.declared.Mode.{Mode}
 use Rattle.g9932.specs.declared.Refusal.{Refusal}
 use Rattle.tables.proofs.Modes.{uncoded-verdict}
 use Rattle.tables.specs.Counted.{Medley}
-
-pub number-none : {l : ℕ} {v : Verdict} → accepted l ≡ v → v .number ≡ 0
-number-none e = sym (ap (λ (v : Verdict). v .number) e)
 
 -- t without a repeat
 lists-once : (b g t : List ℕ) {l : ℕ} → accepted l ≡ listVerdict b g t → (k : ℕ) → k < length t → twiceTest t k ≡ false

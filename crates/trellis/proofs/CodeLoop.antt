@@ -19,7 +19,7 @@ use Rattle.g9932.specs.declared.TrellisState.{TrellisState}
 use Rattle.trellis.specs.Coding.{codedWord, CodePairNeeds, CodesPair, Wide, CodeNeeds, CodesFrom}
 use Rattle.trellis.specs.declared.Coder.{Coder}
 use Rattle.trellis.specs.declared.PairCode.{PairCode}
-use Rattle.trellis.proofs.Entries.{cut-pair, pair-wide, inTwos-short, forced-is}
+use Rattle.trellis.proofs.Entries.{cut-pair, pair-wide, inTwos-short, is-forced}
 
 -- one pair of a list of pairs
 pub encode-step : (forced : Bool) (s : TrellisState) (p : Pair) (ps : List Pair) (f : List Bool) → forced ≡ lastTwo ps
@@ -74,9 +74,6 @@ module _ {c k : Coder} {es frame labels₀ labels : List ℕ} {from i x y : ℕ}
   cut : inTwos (drop i es) ≡ pair x y ∷ inTwos (drop (i + 2) es)
   cut = cut-pair es i x y (h .more) (h .isX) (h .isY)
 
-  is-forced : forced ≡ lastTwo (inTwos (drop (i + 2) es))
-  is-forced = h .isForced ∙ forced-is es i (omega arith)
-
   pub at-wide : (2 ≤ x) × (x ≤ 15) × (2 ≤ y) × (y ≤ 15)
   at-wide = pair-wide es i x y (h .wide) (h .more) (h .isX) (h .isY)
 
@@ -84,7 +81,7 @@ module _ {c k : Coder} {es frame labels₀ labels : List ℕ} {from i x y : ℕ}
   pair-needs =
       let r = h .upTo .needs in
       let b = rw cut at (r .bits) in
-      record { bits = rw is-forced (omega (arith, b)); small = r .small }
+      record { bits = rw (is-forced es i (h .more) (h .isForced)) (omega (arith, b)); small = r .small }
 
   -- the labels fit their places
   pub labels-fit : {p : PairCode} → CodesPair k forced (pair x y) frame p → (p .v < 65536) × (p .w < 65536)
@@ -95,8 +92,9 @@ module _ {c k : Coder} {es frame labels₀ labels : List ℕ} {from i x y : ℕ}
   going-step {p} q =
       let r = h .upTo .needs in
       let f : List Bool = drop (k .at) (unpack frame) in
-      let e = rw (cut, encode-step forced (k .state) (pair x y) (inTwos (drop (i + 2) es)) f is-forced) at (h .upTo .whole) in
-      let j : taken forced (pair x y) ≡ taken (lastTwo (inTwos (drop (i + 2) es))) (pair x y) = ap (λ (b : Bool). taken b (pair x y)) is-forced in
+      let last : forced ≡ lastTwo (inTwos (drop (i + 2) es)) = is-forced es i (h .more) (h .isForced) in
+      let e = rw (cut, encode-step forced (k .state) (pair x y) (inTwos (drop (i + 2) es)) f last) at (h .upTo .whole) in
+      let j : taken forced (pair x y) ≡ taken (lastTwo (inTwos (drop (i + 2) es))) (pair x y) = ap (λ (b : Bool). taken b (pair x y)) last in
       let b = rw cut at (r .bits) in
       let l : length (set labels i (p .v)) ≡ length labels = length-set labels i (p .v) in
       let m : length (set (set labels i (p .v)) (i + 1) (p .w)) ≡ length labels = length-set (set labels i (p .v)) (i + 1) (p .w) ∙ l in

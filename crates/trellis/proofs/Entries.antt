@@ -41,8 +41,8 @@ ltb-shift n i h = go (ltb (n - (i + 2)) 4) refl
     go false e = le-ltb (n - i) 6 (let k = ltb-false (n - (i + 2)) 4 e in omega arith)
 
 -- a pair is one of the last two where fewer than six entries are left, its own among them
-pub forced-is : (es : List ℕ) (i : ℕ) → i + 2 ≤ length es → ltb (length es - i) 6 ≡ lastTwo (inTwos (drop (i + 2) es))
-forced-is es i h = ltb-shift (length es) i h ∙ sym (lastTwo-length (drop (i + 2) es) ∙ rw length-drop)
+pub is-forced : (es : List ℕ) (i : ℕ) {forced : Bool} → i + 1 < length es → forced ≡ ltb (length es - i) 6 → forced ≡ lastTwo (inTwos (drop (i + 2) es))
+is-forced es i more e = e ∙ ltb-shift (length es) i (omega arith) ∙ sym (lastTwo-length (drop (i + 2) es) ∙ rw length-drop)
 
 -- the pair at an entry: it is cut off, and its counts are 2 to 15
 module _ (es : List ℕ) (i x y : ℕ) where

@@ -54,7 +54,7 @@ returns c =
     let t = zero .before .before in
     let p = decoded-first (t .args .y) (t .args .w) (t .pre .0) (t .pre .2 .wSmall) in
     record {
-      obeys = p .kept;
+      obeys = p .obeys;
       state = step .next-state .ensures ∙ ap (λ (s : TrellisState). nextState s false (odd (t .args .w))) (zero .zero-state .ensures) ∙ p .next;
       puts = rw (weight .weight .ensures .0, p .takes) at (put .put .ensures);
     }

@@ -2,11 +2,12 @@
 -- before the reading of the pairs left, make the whole reading. The measure is the entries left.
 use mathlib.Core.Path.{refl, _∙_}
 use Prim.Native.Nat.{_-_}
+use lib.Dec.{ltb}
 use lib.ListN.{length}
 use borrow.Author.Tests.{not-true, not-false}
 use native.Mathlib.Omega.{arith}
-use Rattle.decoder.proofs.DecodeLoop.{Decoding, decoding-start, decoding-end, pair-needs, decoding-broken, decoding-step}
-use Rattle.trellis.proofs.Entries.{pair-wide, pair-inside}
+use Rattle.decoder.proofs.DecodeLoop.{Decoding, decoding-start, decoding-end, AtPair, at-wide, pair-needs, decoding-broken, decoding-step}
+use Rattle.trellis.proofs.Entries.{pair-inside}
 use Rattle.frame.specs.Labels.{labelsAt}
 use Rattle.decoder.proofs.read_from.Statement.{statement}
 use Rattle.decoder.proofs.read_from.Tie as tie
@@ -16,6 +17,23 @@ Inv-loop labels entries places from frame₀ k₀ i₀ frame k i = Decoding k₀
 
 abbrev μ-loop : tie.MeasureT-loop
 μ-loop labels entries places from frame₀ k₀ i₀ frame k i = length entries - i
+
+-- the pair at hand, and its labels
+at-pair : (c : tie.After-entry-label2 Inv-loop μ-loop) → let a = c .before .before .before .before .before .before .before .before .before .before .args in
+    let l = c .before .before .before .before .before .loop in
+    AtPair (a .c) (l .k) (a .entries .now) (labelsAt (a .places .now) (a .labels .now)) (a .frame .now) (l .frame) (a .from) (l .i)
+    (c .before .before .before .entry .result) (c .before .before .entry2 .result) (c .before .entry-label .result) (c .entry-label2 .result) (ltb (length (a .entries .now) - l .i) 6)
+at-pair c =
+    record {
+      wide = c .before .before .before .before .before .before .before .before .before .before .pre .0;
+      upTo = c .before .before .before .before .before .loop .inv;
+      more = c .before .before .before .before .loop-test .taken;
+      isX = c .before .before .before .entry .ensures;
+      isY = c .before .before .entry2 .ensures;
+      isV = c .before .entry-label .ensures;
+      isW = c .entry-label2 .ensures;
+      isForced = refl;
+    }
 
 loop-holds : tie.Need-loop-holds Inv-loop μ-loop
 loop-holds c = decoding-start (c .before .before .before .before .pre .3)
@@ -50,17 +68,9 @@ entry-label-requires-2 c κs =
 
 read-pair-requires : tie.Need-read-pair-requires Inv-loop μ-loop
 read-pair-requires c κs =
-    let loop-test = c .before .before .before .before .before .loop-test in
-    let s = c .before .before .before .before .before .before .before .before .before .before .before in
-    let a = s .args in
-    let l = c .before .before .before .before .before .before .loop in
-    let x = c .before .before .before .before .entry in
-    let y = c .before .before .before .entry2 in
-    let v = c .before .before .entry-label in
-    let w = c .before .entry-label2 in
-    let q = pair-wide (a .entries .now) (l .i) (x .result) (y .result) (s .pre .0) (loop-test .taken) (x .ensures) (y .ensures) in
-    let r = pair-needs (a .c) (l .k) (a .entries .now) (labelsAt (a .places .now) (a .labels .now)) (a .frame .now) (l .frame) (a .from) (l .i) (x .result) (y .result) _ (s .pre .0) (l .inv) (loop-test .taken) (x .ensures) (y .ensures) refl (v .result) (w .result) (v .ensures) (w .ensures) in
-    (q .0, q .1, q .2, q .3, r)
+    let h = at-pair (c .before) in
+    let q = at-wide h in
+    (q .0, q .1, q .2, q .3, pair-needs h)
 
 add-t23 : tie.Need-add-t23 Inv-loop μ-loop
 add-t23 c =
@@ -72,18 +82,7 @@ same-length : tie.Need-same-length Inv-loop μ-loop
 same-length c = c .before .before .before .before .read-pair .kept .1 .1 .1 .1 .1 .1 .0 ∙ c .before .before .before .before .before .before .before .before .before .before .before .loop .inv .kept
 
 returns : tie.Need-returns Inv-loop μ-loop
-returns c =
-    let loop-test = c .before .before .before .before .before .before .before .before .before .before .loop-test in
-    let s = c .before .before .before .before .before .before .before .before .before .before .before .before .before .before .before .before in
-    let a = s .args in
-    let l = c .before .before .before .before .before .before .before .before .before .before .before .loop in
-    let x = c .before .before .before .before .before .before .before .before .before .entry in
-    let y = c .before .before .before .before .before .before .before .before .entry2 in
-    let v = c .before .before .before .before .before .before .before .entry-label in
-    let w = c .before .before .before .before .before .before .entry-label2 in
-    let p = c .before .before .before .before .read-pair in
-    decoding-broken (a .c) (l .k) (a .entries .now) (labelsAt (a .places .now) (a .labels .now)) (a .frame .now) (l .frame) (a .from) (l .i) (x .result) (y .result) _ (s .pre .0) (l .inv) (loop-test .taken) (x .ensures) (y .ensures) refl (v .result) (w .result) (v .ensures) (w .ensures)
-    (p .result) (p .last .1 .1 .1 .1 .1 .1 .0) (p .ensures) (not-true _ (c .if1 .taken))
+returns c = decoding-broken (at-pair (c .before .before .before .before .before .before)) (c .before .before .before .before .read-pair .ensures) (not-true _ (c .if1 .taken))
 
 add-i : tie.Need-add-i Inv-loop μ-loop
 add-i c =
@@ -99,17 +98,8 @@ loop-less c =
 
 loop-again : tie.Need-loop-again Inv-loop μ-loop
 loop-again c =
-    let loop-test = c .before .before .before .before .before .before .before .before .before .before .before .loop-test in
-    let s = c .before .before .before .before .before .before .before .before .before .before .before .before .before .before .before .before .before in
-    let a = s .args in
-    let l = c .before .before .before .before .before .before .before .before .before .before .before .before .loop in
-    let x = c .before .before .before .before .before .before .before .before .before .before .entry in
-    let y = c .before .before .before .before .before .before .before .before .before .entry2 in
-    let v = c .before .before .before .before .before .before .before .before .entry-label in
-    let w = c .before .before .before .before .before .before .before .entry-label2 in
     let p = c .before .before .before .before .before .read-pair in
-    decoding-step (a .c) (l .k) (a .entries .now) (labelsAt (a .places .now) (a .labels .now)) (a .frame .now) (l .frame) (a .from) (l .i) (x .result) (y .result) _ (s .pre .0) (l .inv) (loop-test .taken) (x .ensures) (y .ensures) refl (v .result) (w .result) (v .ensures) (w .ensures)
-    (p .result) (p .last .1 .1 .1 .1 .1 .1 .0) (p .ensures) (not-false _ (c .before .if1 .left)) (p .kept .1 .1 .1 .1 .1 .1 .0)
+    decoding-step (at-pair (c .before .before .before .before .before .before .before)) (p .ensures) (not-false _ (c .before .if1 .left)) (p .kept .1 .1 .1 .1 .1 .1 .0)
 
 same-length-2 : tie.Need-same-length-2 Inv-loop μ-loop
 same-length-2 c = c .before .before .loop .inv .kept

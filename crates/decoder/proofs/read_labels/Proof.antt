@@ -4,28 +4,26 @@ use mathlib.Core.Path.{_∙_}
 use borrow.Author.Tests.{not-true, not-false}
 use native.Mathlib.Omega.{arith}
 use Rattle.decoder.proofs.DecodeAll.{even-needs, even-read, first-needs, first-broken, odd-needs, odd-read}
-use Rattle.frame.specs.Labels.{labelsAt}
 use Rattle.frame.proofs.Labels.{placed-length}
 use borrow.Author.Needs.{needs}
 use Rattle.decoder.proofs.read_labels.Statement.{statement}
 use Rattle.decoder.proofs.read_labels.Tie as tie
 
 entry-requires : tie.Need-entry-requires
-entry-requires c κs = omega (arith, c .before .before .before .before .before .pre .1 .few)
+entry-requires c κs = omega (arith, c .before .before .before .before .before .pre .1 .enough)
 
 entry-label-requires : tie.Need-entry-label-requires
 entry-label-requires c κs =
     let start = c .before .before .before .before .before .before in
-    (omega (arith, start .pre .1 .few, start .pre .0 .same), start .pre .0 .rising)
+    (omega (arith, start .pre .1 .enough, start .pre .0 .same), start .pre .0 .rising)
 
 read-first-requires : tie.Need-read-first-requires
 read-first-requires c κs =
     let if1 = c .before .before .before .if1 in
     let s = c .before .before .before .before .before .before .before .before in
-    let a = s .args in
     let y = c .before .before .entry in
     let l = c .before .entry-label in
-    first-needs (a .writer) (a .entries .now) (labelsAt (a .places .now) (a .labels .now)) (a .frame .now) (s .pre .1) (placed-length (s .pre .0)) (y .result) (if1 .taken) (y .ensures) (l .result) (l .ensures)
+    first-needs (s .pre .1) (placed-length (s .pre .0)) (if1 .taken) (y .ensures) (l .ensures)
 
 same-length : tie.Need-same-length
 same-length c = c .before .before .before .before .before .read-first .kept .1 .1 .1 .0
@@ -34,22 +32,19 @@ returns : tie.Need-returns
 returns c =
     let if1 = c .before .before .before .before .before .before .before .before .before .if1 in
     let s = c .before .before .before .before .before .before .before .before .before .before .before .before .before .before in
-    let a = s .args in
     let y = c .before .before .before .before .before .before .before .before .entry in
     let l = c .before .before .before .before .before .before .before .entry-label in
     let p = c .before .before .before .before .before .read-first in
-    first-broken (a .writer) (a .entries .now) (labelsAt (a .places .now) (a .labels .now)) (a .frame .now) (s .pre .1) (placed-length (s .pre .0)) (y .result) (if1 .taken) (y .ensures) (l .result) (l .ensures)
-    (p .result) (p .last .1 .1 .1 .0) (p .ensures) (not-true _ (c .before .if2 .taken))
+    first-broken (s .pre .1) (placed-length (s .pre .0)) (if1 .taken) (y .ensures) (l .ensures) (p .ensures) (not-true _ (c .before .if2 .taken))
 
 read-from-requires : tie.Need-read-from-requires
 read-from-requires c κs =
     let if1 = c .before .before .before .before .before .before .before .before .before .if1 in
     let s = c .before .before .before .before .before .before .before .before .before .before .before .before .before .before in
-    let a = s .args in
     let y = c .before .before .before .before .before .before .before .before .entry in
     let l = c .before .before .before .before .before .before .before .entry-label in
     let p = c .before .before .before .before .before .read-first in
-    let n = odd-needs (a .writer) (a .entries .now) (labelsAt (a .places .now) (a .labels .now)) (a .frame .now) (s .pre .1) (placed-length (s .pre .0)) (y .result) (if1 .taken) (y .ensures) (l .result) (l .ensures) (p .result) (p .last .1 .1 .1 .0) (p .ensures) (p .kept .1 .1 .1 .0) in
+    let n = odd-needs (s .pre .1) (placed-length (s .pre .0)) (if1 .taken) (y .ensures) (l .ensures) (p .ensures) (p .kept .1 .1 .1 .0) in
     (s .pre .1 .wide, s .pre .1 .many, s .pre .0, n)
 
 same-length-2 : tie.Need-same-length-2
@@ -60,13 +55,11 @@ returns-2 c =
     let if1 = c .before .before .before .before .before .before .before .before .before .before .before .before .if1 in
     let if2 = c .before .before .before .before .if2 in
     let s = c .before .before .before .before .before .before .before .before .before .before .before .before .before .before .before .before .before in
-    let a = s .args in
     let y = c .before .before .before .before .before .before .before .before .before .before .before .entry in
     let l = c .before .before .before .before .before .before .before .before .before .before .entry-label in
     let p = c .before .before .before .before .before .before .before .before .read-first in
     let f = c .before .before .read-from in
-    odd-read (a .writer) (a .entries .now) (labelsAt (a .places .now) (a .labels .now)) (a .frame .now) (s .pre .1) (placed-length (s .pre .0)) (y .result) (if1 .taken) (y .ensures) (l .result) (l .ensures)
-    (p .result) (p .last .1 .1 .1 .0) (p .ensures) (not-false _ (if2 .left)) (f .result) (f .last .1 .1 .1 .1 .1 .0) (f .ensures)
+    odd-read (s .pre .1) (placed-length (s .pre .0)) (if1 .taken) (y .ensures) (l .ensures) (p .ensures) (not-false _ (if2 .left)) (f .ensures)
 
 zero-state-requires : tie.Need-zero-state-requires
 zero-state-requires c κs = search needs
@@ -75,8 +68,7 @@ read-from-requires-2 : tie.Need-read-from-requires-2
 read-from-requires-2 c κs =
     let if1 = c .before .before .if1 in
     let s = c .before .before .before .before .before .before .before in
-    let a = s .args in
-    (s .pre .1 .wide, s .pre .1 .many, s .pre .0, rw (c .before .zero-state .ensures) (even-needs (a .writer) (a .entries .now) (labelsAt (a .places .now) (a .labels .now)) (a .frame .now) (s .pre .1) (placed-length (s .pre .0)) (if1 .left)))
+    (s .pre .1 .wide, s .pre .1 .many, s .pre .0, rw (c .before .zero-state .ensures) (even-needs (s .pre .1) (placed-length (s .pre .0)) (if1 .left)))
 
 same-length-3 : tie.Need-same-length-3
 same-length-3 c = c .before .before .read-from2 .kept .1 .1 .1 .1 .1 .0
@@ -84,10 +76,8 @@ same-length-3 c = c .before .before .read-from2 .kept .1 .1 .1 .1 .1 .0
 returns-3 : tie.Need-returns-3
 returns-3 c =
     let s = c .before .before .before .before .before .before .before .before .before .before in
-    let a = s .args in
     let f = c .before .before .read-from2 in
-    even-read (a .writer) (a .entries .now) (labelsAt (a .places .now) (a .labels .now)) (a .frame .now) (s .pre .1) (placed-length (s .pre .0)) (c .before .before .before .before .before .if1 .left)
-    (f .result) (f .last .1 .1 .1 .1 .1 .0) (rw (c .before .before .before .before .zero-state .ensures) at (f .ensures))
+    even-read (s .pre .1) (placed-length (s .pre .0)) (c .before .before .before .before .before .if1 .left) (rw (c .before .before .before .before .zero-state .ensures) at (f .ensures))
 
 pub read-labels-spec : {M : Type 1} → statement M
 read-labels-spec =

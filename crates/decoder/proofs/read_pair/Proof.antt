@@ -1,4 +1,4 @@
--- `decoder::read_pair` meets its contract: the word of the labels is held against the state, and its frame bits are put.
+-- `decoder::read_pair` meets its contract: the word of the labels is checked against the state, and its frame bits are put.
 use mathlib.Core.Path.{_∙_}
 use lib.Pow.{pow-mono}
 use native.Mathlib.Omega.{arith}
@@ -16,11 +16,11 @@ decode-word-requires c κs =
 next-state-requires : tie.Need-next-state-requires
 next-state-requires c κs = search needs
 
-taken-bits-requires : tie.Need-taken-bits-requires
-taken-bits-requires c κs = search needs
+taken-count-requires : tie.Need-taken-count-requires
+taken-count-requires c κs = search needs
 
-taken-of-requires : tie.Need-taken-of-requires
-taken-of-requires c κs =
+taken-number-requires : tie.Need-taken-number-requires
+taken-number-requires c κs =
     let decode-word = c .before .before .before .decode-word in
     let t = c .before .before .before .before .before .before .before in
     let a = t .args in
@@ -32,8 +32,8 @@ put-requires c κs =
     let t = c .before .before .before .before .before .before .before .before in
     let a = t .args in
     let p = decoded-pair (a .x) (a .y) (a .v) (a .w) (t .pre .0) (t .pre .2) (t .pre .4 .vSmall) (t .pre .4 .wSmall) (decode-word .result) (decode-word .ensures) (a .forced) (a .c .state) in
-    let n = c .before .taken-bits .ensures in
-    (omega (arith, n .1), rw (n .0, c .taken-of .ensures) (p .small), t .pre .4 .bytes, t .pre .4 .waits)
+    let n = c .before .taken-count .ensures in
+    (omega (arith, n .1), rw (n .0, c .taken-number .ensures) (p .small), t .pre .4 .bytes, t .pre .4 .waits)
 
 obeys-code-requires : tie.Need-obeys-code-requires
 obeys-code-requires c κs = search needs
@@ -52,9 +52,9 @@ returns c =
     let a = t .args in
     let p = decoded-pair (a .x) (a .y) (a .v) (a .w) (t .pre .0) (t .pre .2) (t .pre .4 .vSmall) (t .pre .4 .wSmall) (word .decode-word .result) (word .decode-word .ensures) (a .forced) (a .c .state) in
     record {
-      obeys = c .obeys-code .ensures ∙ p .kept;
+      obeys = c .obeys-code .ensures ∙ p .obeys;
       state = next .next-state .ensures ∙ p .next;
-      puts = rw (counts .taken-bits .ensures .0, takes .taken-of .ensures, p .takes) at (put .put .ensures);
+      puts = rw (counts .taken-count .ensures .0, takes .taken-number .ensures, p .takes) at (put .put .ensures);
     }
 
 pub read-pair-spec : {M : Type 1} → statement M
@@ -63,8 +63,8 @@ read-pair-spec =
     (tie.spec
     decode-word-requires
     next-state-requires
-    taken-bits-requires
-    taken-of-requires
+    taken-count-requires
+    taken-number-requires
     put-requires
     obeys-code-requires
     same-length

@@ -6,7 +6,7 @@ use native.Mathlib.Omega.{arith}
 use Rattle.g9932.proofs.Accepted.{accepted-tables}
 use Rattle.g9932.specs.Sizes.{tables}
 use Rattle.ordering.proofs.Answers.{reorder-refused, room-refused, reordered}
-use Rattle.tables.proofs.Answers.{number-none}
+use Rattle.g9932.proofs.Verdicts.{number-none}
 use Rattle.tables.specs.Modes.{sizedVerdict}
 use borrow.Author.Needs.{needs}
 use Rattle.ordering.proofs.reorder.Statement.{statement}

@@ -4,7 +4,7 @@ use native.Mathlib.Omega.{arith}
 use Rattle.g9932.proofs.Accepted.{accepted-tables}
 use Rattle.g9932.specs.Refusals.{accepted}
 use Rattle.g9932.specs.Sizes.{tables}
-use Rattle.tables.proofs.Answers.{number-none}
+use Rattle.g9932.proofs.Verdicts.{number-none}
 use Rattle.tables.specs.Modes.{sizedVerdict}
 use borrow.Author.Needs.{needs}
 use Rattle.plan.proofs.plan_tables.Statement.{statement}

@@ -48,10 +48,11 @@ slice-aggregate-write-symbol-5 c = search needs
 
 write-symbol-requires : tie.Need-write-symbol-requires
 write-symbol-requires c κs =
-    let start = c .before .before .before .before .before .before .before .before .before .before .before .before .before .before .before .before .before .before .before .before .before .before .before .before in
-    let plan-tables = c .before .before .before .before .before .before .before .before .before .before .before .before .before .before .before .plan-tables in
-    let check-inputs = c .before .before .before .before .before .before .before .before .before .before .check-inputs in
-    let checked2 = c .before .before .before .before .before .before .before .before .checked2 in
+    let checked = c .before .before .before .before .before .before .before .before in
+    let inputs = checked .before .before in
+    let planned = inputs .before .before .before .before .before in
+    let start = planned .before .before .before .before .before .before .before .before .before in
+    let plan-tables = planned .plan-tables in
     symbol-needs
     (record {
       layoutsLength = plan-tables .kept .1 .1 .1 .1 .0;
@@ -64,8 +65,8 @@ write-symbol-requires c κs =
     (start .args .register)
     (passed
     (plan-tables .ensures)
-    (check-inputs .ensures)
-    (checked2 .given .1))
+    (inputs .check-inputs .ensures)
+    (checked .checked2 .given .1))
 
 returns : tie.Need-returns
 returns c =
@@ -82,10 +83,11 @@ same-length-2 c = search needs
 
 returns-2 : tie.Need-returns-2
 returns-2 c =
-    let start = c .before .before .before .before .before .before .before .before .before .before .before .before .before .before .before .before .before .before .before .before .before .before .before .before .before .before .before .before in
-    let plan-tables = c .before .before .before .before .before .before .before .before .before .before .before .before .before .before .before .before .before .before .before .plan-tables in
-    let check-inputs = c .before .before .before .before .before .before .before .before .before .before .before .before .before .before .check-inputs in
-    let checked2 = c .before .before .before .before .before .before .before .before .before .before .before .before .checked2 in
+    let checked = c .before .before .before .before .before .before .before .before .before .before .before .before in
+    let inputs = checked .before .before in
+    let planned = inputs .before .before .before .before .before in
+    let start = planned .before .before .before .before .before .before .before .before .before in
+    let plan-tables = planned .plan-tables in
     let write-symbol = c .before .before .before .write-symbol in
     encode-written
     (record {
@@ -99,8 +101,8 @@ returns-2 c =
     (start .args .register)
     (passed
     (plan-tables .ensures)
-    (check-inputs .ensures)
-    (checked2 .given .1))
+    (inputs .check-inputs .ensures)
+    (checked .checked2 .given .1))
     (write-symbol .ensures)
 
 pub encode-spec : {M : Type 1} → statement M

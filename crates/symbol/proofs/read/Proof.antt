@@ -51,10 +51,11 @@ slice-aggregate-read-symbol-6 c = search needs
 
 read-symbol-requires : tie.Need-read-symbol-requires
 read-symbol-requires c κs =
-    let start = c .before .before .before .before .before .before .before .before .before .before .before .before .before .before .before .before .before .before .before .before .before .before .before .before in
-    let plan-tables = c .before .before .before .before .before .before .before .before .before .before .before .before .before .before .before .plan-tables in
-    let check-inputs = c .before .before .before .before .before .before .before .before .before .before .check-inputs in
-    let checked2 = c .before .before .before .before .before .before .before .before .checked2 in
+    let checked = c .before .before .before .before .before .before .before .before in
+    let inputs = checked .before .before in
+    let planned = inputs .before .before .before .before .before in
+    let start = planned .before .before .before .before .before .before .before .before .before in
+    let plan-tables = planned .plan-tables in
     read-needs
     (record {
       layoutsLength = plan-tables .kept .1 .1 .1 .1 .0;
@@ -68,8 +69,8 @@ read-symbol-requires c κs =
     refl
     (passed
     (plan-tables .ensures)
-    (check-inputs .ensures)
-    (checked2 .given .1))
+    (inputs .check-inputs .ensures)
+    (checked .checked2 .given .1))
 
 returns : tie.Need-returns
 returns c =
@@ -83,10 +84,11 @@ same-length c = search needs
 
 returns-2 : tie.Need-returns-2
 returns-2 c =
-    let start = c .before .before .before .before .before .before .before .before .before .before .before .before .before .before .before .before .before .before .before .before .before .before .before .before .before .before .before .before .before in
-    let plan-tables = c .before .before .before .before .before .before .before .before .before .before .before .before .before .before .before .before .before .before .before .before .plan-tables in
-    let check-inputs = c .before .before .before .before .before .before .before .before .before .before .before .before .before .before .before .check-inputs in
-    let checked2 = c .before .before .before .before .before .before .before .before .before .before .before .before .before .checked2 in
+    let checked = c .before .before .before .before .before .before .before .before .before .before .before .before .before in
+    let inputs = checked .before .before in
+    let planned = inputs .before .before .before .before .before in
+    let start = planned .before .before .before .before .before .before .before .before .before in
+    let plan-tables = planned .plan-tables in
     let read-symbol = c .before .before .before .before .read-symbol in
     read-done
     (record {
@@ -101,8 +103,8 @@ returns-2 c =
     refl
     (passed
     (plan-tables .ensures)
-    (check-inputs .ensures)
-    (checked2 .given .1))
+    (inputs .check-inputs .ensures)
+    (checked .checked2 .given .1))
     (read-symbol .ensures)
 
 pub read-spec : {M : Type 1} → statement M

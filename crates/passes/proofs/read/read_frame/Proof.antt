@@ -1,7 +1,5 @@
 -- `passes::read::read_frame` meets its contract: shared labels joined, then collected, or read by the trellis code.
-use native.Mathlib.Omega.{arith}
-use Rattle.passes.proofs.ReadPlaces.{join-needs, collect-needs, trellis-needs, collected, broken-found, none-broken, broken-room, collect-room}
-use Rattle.frame.proofs.Stores.{finished}
+use Rattle.passes.proofs.ReadPlaces.{join-needs, collect-needs, trellis-needs, collected, broken-found, none-broken, read-fits, collect-fits}
 use borrow.Author.Needs.{needs}
 use Rattle.passes.proofs.read.read_frame.Statement.{statement}
 use Rattle.passes.proofs.read.read_frame.Tie as tie
@@ -31,7 +29,7 @@ finish-requires c κs =
     let s = c .before .before .before .before .before .before .before .before .before .before .before .before .before .before .before .before .before in
     let w = c .before .before .before .collect-labels in
     let e = rw (new .ensures, join-shared .ensures) at (w .ensures) in
-    (collect-room (s .pre .4) (enum-told .given .1) e (w .kept .1 .1 .1 .1 .0), e .waits)
+    (collect-fits (s .pre .4) (enum-told .given .1) e (w .kept .1 .1 .1 .1 .0), e .waits)
 
 enum-told-2 : tie.Need-enum-told-2
 enum-told-2 c = search needs
@@ -76,7 +74,7 @@ finish-requires-2 c κs =
     let s = c .before .before .before .before .before .before .before .before .before .before .before .before .before .before .before .before .before .before .before .before in
     let p = c .before .before .before .before .before .before .read-labels in
     let e = rw (new2 .ensures, join-shared .ensures) at (p .ensures) in
-    (broken-room (s .pre .4) (enum-told2 .given .1) e (c .before .enum-told3 .given .1) (p .kept .1 .1 .1 .1 .0), e .waits)
+    (read-fits (s .pre .4) (enum-told2 .given .1) e (c .before .enum-told3 .given .1) (p .kept .1 .1 .1 .1 .0), e .waits)
 
 same-length-3 : tie.Need-same-length-3
 same-length-3 c = search needs
@@ -92,9 +90,7 @@ returns-2 c =
     let w = c .before .before .before .before .before .before .collect-labels in
     let e = rw (new .ensures, join-shared .ensures) at (w .ensures) in
     let f = c .before .before .finish in
-    λ cs d ms layouts s.
-    let h = collect-room s (enum-told .given .1) e (w .kept .1 .1 .1 .1 .0) in
-    collected s (enum-told .given .1) (w .result) (w .last .1 .1 .1 .1 .0) (f .last .1 .0) e (finished (w .result) (w .last .1 .1 .1 .1 .0) (f .last .1 .0) (omega arith) (omega (arith, f .kept .1 .0)) (e .waits) (f .ensures))
+    λ cs d ms layouts s. collected s (enum-told .given .1) e (w .kept .1 .1 .1 .1 .0) (f .kept .1 .0) (f .ensures)
 
 same-length-5 : tie.Need-same-length-5
 same-length-5 c = search needs
@@ -111,10 +107,7 @@ returns-3 c =
     let p = c .before .before .before .before .before .before .before .before .before .read-labels in
     let e = rw (new2 .ensures, join-shared .ensures) at (p .ensures) in
     let f = c .before .before .finish2 in
-    let none = enum-told3 .given .1 in
-    λ cs d ms layouts s.
-    let h = broken-room s (enum-told2 .given .1) e none (p .kept .1 .1 .1 .1 .0) in
-    none-broken s (enum-told2 .given .1) e (f .last .1 .0) none (finished (p .result .writer) (p .last .1 .1 .1 .1 .0) (f .last .1 .0) (omega arith) (omega (arith, f .kept .1 .0)) (e .waits) (f .ensures))
+    λ cs d ms layouts s. none-broken s (enum-told2 .given .1) e (enum-told3 .given .1) (p .kept .1 .1 .1 .1 .0) (f .kept .1 .0) (f .ensures)
 
 pub read-frame-spec : {M : Type 1} → statement M
 read-frame-spec =

@@ -1,13 +1,22 @@
 -- `passes::read::read_symbol` meets its contract: 13 and 14 by the places, 15 by the pairs, or the frame copied. The labels are
 -- sliced twice, and the second time are as they were written.
 use Rattle.passes.proofs.SymbolPasses.{again, again-length, places-of, place-refused, frame-of, pair-refused, frame-fits, frame-read}
-use Rattle.g9932.specs.Symbol.{classesOf}
+use lib.ListN.{take, drop}
 use lib.Seq.{length-take-le}
 use native.Mathlib.Omega.{arith}
-use mathlib.Core.Path.{sym}
+use mathlib.Core.List.{_++_}
+use mathlib.Core.Path.{_≡_, sym}
 use borrow.Author.Needs.{needs}
 use Rattle.passes.proofs.read.read_symbol.Statement.{statement}
 use Rattle.passes.proofs.read.read_symbol.Tie as tie
+
+-- the labels, when they are lent again
+lent-again : (c : tie.After-read-places) → let a = c .before .before .before .before .before .before .before .before .before .before .before .args in
+    let l = c .read-places .last .1 .1 .1 .1 .1 .0 in
+    take (a .n) (l ++ drop (a .n) (a .labels .now)) ≡ l
+lent-again c =
+    let s = c .before .before .before .before .before .before .before .before .before .before .before in
+    again _ (s .args .labels .now) _ (s .pre .fits .labelsFit) (c .read-places .kept .1 .1 .1 .1 .1 .0)
 
 slice-aggregate-read-places : tie.Need-slice-aggregate-read-places
 slice-aggregate-read-places c =
@@ -41,8 +50,7 @@ same-length c = search needs
 returns : tie.Need-returns
 returns c =
     let d = c .before .before .before .before .before .read-places in
-    let t = c .before .t in
-    λ T g. place-refused g (d .ensures (classesOf T) _ _ _ (places-of g)) (t .given .1)
+    λ T g. place-refused g (d .ensures) (c .before .t .given .1)
 
 enum-known-t-2 : tie.Need-enum-known-t-2
 enum-known-t-2 c = search needs
@@ -62,16 +70,16 @@ slice-relend-prefix-read-frame c = search needs
 
 slice-aggregate-read-frame-3 : tie.Need-slice-aggregate-read-frame-3
 slice-aggregate-read-frame-3 c =
-    let d = c .before .before .before .before .before .before .before .before .read-places in
-    let s = c .before .before .before .before .before .before .before .before .before .before .before .before .before .before .before .before .before .before .before in
-    again-length (d .last .1 .1 .1 .1 .1 .0) (s .args .labels .now) _ (s .pre .fits .labelsFit) (d .kept .1 .1 .1 .1 .1 .0)
+    let p = c .before .before .before .before .before .before .before .before in
+    let s = p .before .before .before .before .before .before .before .before .before .before .before in
+    again-length (p .read-places .last .1 .1 .1 .1 .1 .0) (s .args .labels .now) _ (s .pre .fits .labelsFit) (p .read-places .kept .1 .1 .1 .1 .1 .0)
 
 read-frame-requires : tie.Need-read-frame-requires
 read-frame-requires c κs =
-    let s = c .before .before .before .before .before .before .before .before .before .before .before .before .before .before .before .before .before .before .before .before in
-    let d = c .before .before .before .before .before .before .before .before .before .read-places in
+    let p = c .before .before .before .before .before .before .before .before .before in
+    let s = p .before .before .before .before .before .before .before .before .before .before .before in
     let t = c .before .before .before .before .before .t2 in
-    (_, _, _, _, frame-of (s .pre .planned) (d .ensures (classesOf (s .pre .tables)) _ _ _ (places-of (s .pre .planned))) (t .given .1) (again _ (s .args .labels .now) _ (s .pre .fits .labelsFit) (d .kept .1 .1 .1 .1 .1 .0)))
+    (_, _, _, _, frame-of (s .pre .planned) (p .read-places .ensures) (t .given .1) (lent-again p))
 
 enum-known-broken : tie.Need-enum-known-broken
 enum-known-broken c = search needs
@@ -84,23 +92,22 @@ same-length-3 c = search needs
 
 returns-2 : tie.Need-returns-2
 returns-2 c =
-    let d = c .before .before .before .before .before .before .before .before .before .before .before .before .before .before .before .before .before .read-places in
-    let t = c .before .before .before .before .before .before .before .before .before .before .before .before .before .t2 in
-    let b = c .before .before .before .before .before .before .before .read-frame in
-    let s = c .before .before .before .before .before .before .before .before .before .before .before .before .before .before .before .before .before .before .before .before .before .before .before .before .before .before .before .before in
-    let k = c .before .broken in
-    λ T g. pair-refused g (d .ensures (classesOf T) _ _ _ (places-of g)) (t .given .1) (b .ensures (classesOf T) _ _ _ (frame-of g (d .ensures (classesOf T) _ _ _ (places-of g)) (t .given .1) (again _ (s .args .labels .now) _ (s .pre .fits .labelsFit) (d .kept .1 .1 .1 .1 .1 .0)))) (k .given .1)
+    let b = c .before .before .before .before .before .before .before in
+    let t = b .before .before .before .before .before .before .t2 in
+    let p = b .before .before .before .before .before .before .before .before .before .before in
+    λ T g. pair-refused g (p .read-places .ensures) (t .given .1) (lent-again p) (b .read-frame .ensures) (c .before .broken .given .1)
 
 enum-told : tie.Need-enum-told
 enum-told c = search needs
 
 copy-requires : tie.Need-copy-requires
 copy-requires c κs =
-    let s = c .before .before .before .before .before .before .before .before .before .before .before .before .before .before .before .before .before .before .before .before .before .before .before .before .before .before .before .before .before in
-    let d = c .before .before .before .before .before .before .before .before .before .before .before .before .before .before .before .before .before .before .read-places in
-    let t = c .before .before .before .before .before .before .before .before .before .before .before .before .before .before .t2 in
-    let b = c .before .before .before .before .before .before .before .before .read-frame in
-    frame-fits (s .pre .planned) (d .ensures (classesOf (s .pre .tables)) _ _ _ (places-of (s .pre .planned))) (t .given .1) (b .ensures (classesOf (s .pre .tables)) _ _ _ (frame-of (s .pre .planned) (d .ensures (classesOf (s .pre .tables)) _ _ _ (places-of (s .pre .planned))) (t .given .1) (again _ (s .args .labels .now) _ (s .pre .fits .labelsFit) (d .kept .1 .1 .1 .1 .1 .0)))) (b .kept .1 .1 .1 .1 .1 .0)
+    let b = c .before .before .before .before .before .before .before .before in
+    let t = b .before .before .before .before .before .before .t2 in
+    let p = b .before .before .before .before .before .before .before .before .before .before in
+    let f = b .read-frame in
+    let s = p .before .before .before .before .before .before .before .before .before .before .before in
+    frame-fits (s .pre .planned) (p .read-places .ensures) (t .given .1) (lent-again p) (f .ensures) (f .kept .1 .1 .1 .1 .1 .0)
 
 same-length-4 : tie.Need-same-length-4
 same-length-4 c = search needs
@@ -113,14 +120,14 @@ same-length-6 c = search needs
 
 returns-3 : tie.Need-returns-3
 returns-3 c =
-    let d = c .before .before .before .before .before .before .before .before .before .before .before .before .before .before .before .before .before .before .before .before .before .read-places in
-    let t = c .before .before .before .before .before .before .before .before .before .before .before .before .before .before .before .before .before .t2 in
-    let b = c .before .before .before .before .before .before .before .before .before .before .before .read-frame in
-    let s = c .before .before .before .before .before .before .before .before .before .before .before .before .before .before .before .before .before .before .before .before .before .before .before .before .before .before .before .before .before .before .before .before in
-    let e = c .before .before .before .before .before .enum-told in
-    let h = c .before .before .before .before .before .before .before .slice-known6 in
-    let o = c .before .before .copy in
-    λ T g. frame-read g (d .ensures (classesOf T) _ _ _ (places-of g)) (t .given .1) (b .ensures (classesOf T) _ _ _ (frame-of g (d .ensures (classesOf T) _ _ _ (places-of g)) (t .given .1) (again _ (s .args .labels .now) _ (s .pre .fits .labelsFit) (d .kept .1 .1 .1 .1 .1 .0)))) (b .kept .1 .1 .1 .1 .1 .0) (e .given .1) (λ k i. omega (arith, h .given k)) (o .last .1 .0) (o .ensures)
+    let b = c .before .before .before .before .before .before .before .before .before .before .before in
+    let t = b .before .before .before .before .before .before .t2 in
+    let p = b .before .before .before .before .before .before .before .before .before .before in
+    let f = b .read-frame in
+    let whole = c .before .before .before .before .before .enum-told .given .1 in
+    let bytes = c .before .before .before .before .before .before .before .slice-known6 .given in
+    let out = c .before .before .copy .ensures in
+    λ T g. frame-read g (p .read-places .ensures) (t .given .1) (lent-again p) (f .ensures) (f .kept .1 .1 .1 .1 .1 .0) whole (λ k i. omega (arith, bytes k)) out
 
 pub read-symbol-spec : {M : Type 1} → statement M
 read-symbol-spec =

@@ -38,7 +38,7 @@ returns c =
     let a = c .before .before .before .before .before .before .before .before .before .before .before .before .before .before .before .before .before .args in
     let f = set-filler .ensures in
     let p = c .before .before .put-points in
-    λ cs d es ps w. written w (a .register) (set-filler .result) (p .last .1 .1 .0) (p .last .1 .1 .1 .0) (f .registerIs) (p .kept .1 .1 .0) (p .kept .1 .1 .1 .0) (rw (f .labelsAre, split-shared .ensures) at (p .ensures))
+    λ cs d es ps w. written w (a .register) (f .registerIs) (p .kept .1 .1 .0) (p .kept .1 .1 .1 .0) (rw (f .labelsAre, split-shared .ensures) at (p .ensures))
 
 pub write-points-spec : {M : Type 1} → statement M
 write-points-spec =

@@ -2,11 +2,21 @@
 -- the second time are as they were written.
 use Rattle.passes.proofs.SymbolPasses.{again, again-length, points-of}
 use Rattle.g9932.specs.Symbol.{classesOf, sentIn}
+use lib.ListN.{take, drop}
 use lib.Seq.{length-take-le}
-use mathlib.Core.Path.{sym}
+use mathlib.Core.List.{_++_}
+use mathlib.Core.Path.{_≡_, sym}
 use borrow.Author.Needs.{needs}
 use Rattle.passes.proofs.write.write_symbol.Statement.{statement}
 use Rattle.passes.proofs.write.write_symbol.Tie as tie
+
+-- the labels, when they are lent again
+lent-again : (c : tie.After-label-frame) → let a = c .before .before .before .before .before .before .before .before .before .before .args in
+    let l = c .label-frame .last .1 .1 .1 .1 .1 .0 in
+    take (a .n) (l ++ drop (a .n) (a .labels .now)) ≡ l
+lent-again c =
+    let s = c .before .before .before .before .before .before .before .before .before .before in
+    again _ (s .args .labels .now) _ (s .pre .fits .labelsFit) (c .label-frame .kept .1 .1 .1 .1 .1 .0)
 
 slice-aggregate-label-frame : tie.Need-slice-aggregate-label-frame
 slice-aggregate-label-frame c =
@@ -50,9 +60,9 @@ slice-aggregate-write-points-3 c =
 
 write-points-requires : tie.Need-write-points-requires
 write-points-requires c κs =
-    let s = c .before .before .before .before .before .before .before .before .before .before .before .before .before .before .before .before .before in
-    let l = c .before .before .before .before .before .before .before .label-frame in
-    (_, _, _, _, points-of (s .pre .planned) (l .kept .1 .1 .1 .1 .1 .0) (again _ (s .args .labels .now) _ (s .pre .fits .labelsFit) (l .kept .1 .1 .1 .1 .1 .0)) (l .ensures))
+    let l = c .before .before .before .before .before .before .before in
+    let s = l .before .before .before .before .before .before .before .before .before .before in
+    (_, _, _, _, points-of (s .pre .planned) (l .label-frame .kept .1 .1 .1 .1 .1 .0) (lent-again l) (l .label-frame .ensures))
 
 same-length : tie.Need-same-length
 same-length c = search needs
@@ -66,9 +76,9 @@ same-length-3 c = search needs
 returns : tie.Need-returns
 returns c =
     let y = c .before .before .before .before .write-points in
-    let s = c .before .before .before .before .before .before .before .before .before .before .before .before .before .before .before .before .before .before .before .before .before .before in
-    let l = c .before .before .before .before .before .before .before .before .before .before .before .before .label-frame in
-    λ T w. y .ensures (classesOf T) (sentIn T (s .args .frame .now)) _ _ (points-of w (l .kept .1 .1 .1 .1 .1 .0) (again _ (s .args .labels .now) _ (s .pre .fits .labelsFit) (l .kept .1 .1 .1 .1 .1 .0)) (l .ensures))
+    let l = c .before .before .before .before .before .before .before .before .before .before .before .before in
+    let s = l .before .before .before .before .before .before .before .before .before .before in
+    λ T w. y .ensures (classesOf T) (sentIn T (s .args .frame .now)) _ _ (points-of w (l .label-frame .kept .1 .1 .1 .1 .1 .0) (lent-again l) (l .label-frame .ensures))
 
 pub write-symbol-spec : {M : Type 1} → statement M
 write-symbol-spec =

@@ -47,7 +47,8 @@ returns-4 c =
     let y = c .before .before .if2 in
     let f = c .before .frame-refused in
     let z = c .if3 in
-    inputs-refused (p .given .1) _ (test-past 10 (room-none (s .args .x-len) (s .args .y-len) (s .args .nsc) (x .left) (y .left)) (test-here 11 _ (sym (f .ensures) ∙ z .taken)))
+    let room = room-none (s .args .x-len) (s .args .y-len) (s .args .nsc) (x .left) (y .left) in
+    inputs-refused (p .given .1) _ (test-past 10 room (test-here 11 _ (sym (f .ensures) ∙ z .taken)))
 
 seed-refused-requires : tie.Need-seed-refused-requires
 seed-refused-requires c κs = search needs
@@ -63,7 +64,8 @@ returns-5 c =
     let z = c .before .before .if3 in
     let r = c .before .seed-refused in
     let q = c .if4 in
-    inputs-refused (p .given .1) _ (test-past 10 (room-none (s .args .x-len) (s .args .y-len) (s .args .nsc) (x .left) (y .left)) (test-past 11 (sym (f .ensures) ∙ z .left) (test-here 12 _ (sym (r .ensures) ∙ q .taken))))
+    let room = room-none (s .args .x-len) (s .args .y-len) (s .args .nsc) (x .left) (y .left) in
+    inputs-refused (p .given .1) _ (test-past 10 room (test-past 11 (sym (f .ensures) ∙ z .left) (test-here 12 _ (sym (r .ensures) ∙ q .taken))))
 
 returns-6 : tie.Need-returns-6
 unfolding encodeInputs
@@ -76,7 +78,8 @@ returns-6 c =
     let z = c .before .before .if3 in
     let r = c .before .seed-refused in
     let q = c .if4 in
-    inputs-pass (p .given .1) (test-past 10 (room-none (s .args .x-len) (s .args .y-len) (s .args .nsc) (x .left) (y .left)) (test-past 11 (sym (f .ensures) ∙ z .left) (test-past 12 (sym (r .ensures) ∙ q .left) refl)))
+    let room = room-none (s .args .x-len) (s .args .y-len) (s .args .nsc) (x .left) (y .left) in
+    inputs-pass (p .given .1) (test-past 10 room (test-past 11 (sym (f .ensures) ∙ z .left) (test-past 12 (sym (r .ensures) ∙ q .left) refl)))
 
 pub check-inputs-spec : {M : Type 1} → statement M
 check-inputs-spec =

@@ -1,8 +1,8 @@
--- `decoder::taken_bits` meets its contract, by whether the pair is one of the last two.
+-- `decoder::taken_count` meets its contract, by whether the pair is one of the last two.
 use native.Mathlib.Omega.{arith}
 use borrow.Author.Needs.{needs}
-use Rattle.decoder.proofs.taken_bits.Statement.{statement}
-use Rattle.decoder.proofs.taken_bits.Tie as tie
+use Rattle.decoder.proofs.taken_count.Statement.{statement}
+use Rattle.decoder.proofs.taken_count.Tie as tie
 
 add-result : tie.Need-add-result
 add-result c = search needs
@@ -22,6 +22,6 @@ sub-result-2 c = search needs
 returns-2 : tie.Need-returns-2
 returns-2 c = (rw (c .if1 .left), omega arith)
 
-pub taken-bits-spec : {M : Type 1} → statement M
-taken-bits-spec =
+pub taken-count-spec : {M : Type 1} → statement M
+taken-count-spec =
     tie.close (tie.spec add-result sub-result returns add-result-2 sub-result-2 returns-2)
