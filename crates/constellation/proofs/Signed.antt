@@ -14,6 +14,7 @@ use lib.Signed.{mag, nonNeg}
 use mir.Syntax.{w16, w32}
 use mir.Val.{Fits, SFits, toZ, ofZ}
 use mir.ValLaws.{toZ-pos, toZ-ofZ}
+use Rattle.g9932.proofs.TwosComplement.{pos-inj}
 use Rattle.constellation.specs.Widened.{signWeight, axis}
 use Rattle.constellation.specs.Reading.{Steps}
 use Rattle.constellation.specs.MapByLayout.{scaled}
@@ -130,16 +131,13 @@ pub steps-law : (h r : ℕ) (z : ℤ) → h ≤ 256 → pos r ≡ z +ℤ pos 655
 steps-law h r z p e =
     record {
       to = λ d g.
-          let n = of-pos r (2 * d + 65536 - h) (e ∙ ap (λ (y : ℤ). y +ℤ pos 65535) g ∙ axis-raised h d p) in
+          let n = pos-inj r (2 * d + 65536 - h) (e ∙ ap (λ (y : ℤ). y +ℤ pos 65535) g ∙ axis-raised h d p) in
           omega arith;
       back = λ d g.
           let n : 2 * d + 65536 - h ≡ r = omega arith in
           let w : z +ℤ pos 65535 ≡ axis h d +ℤ pos 65535 = sym (axis-raised h d p ∙ ap pos n ∙ e) in
           sym (+ℤ-negℤ-cancel z (pos 65535)) ∙ ap (λ (y : ℤ). y -ℤ pos 65535) w ∙ +ℤ-negℤ-cancel (axis h d) (pos 65535);
     }
-  where
-    of-pos : (a b : ℕ) → pos a ≡ pos b → a ≡ b
-    of-pos a b f = cc
 
 -- ---- the steps cut to the width
 

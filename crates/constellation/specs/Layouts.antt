@@ -3,19 +3,30 @@
 -- the bits 7 and 15.
 use Prim.Native.Nat.{ℕ, _+_, _-_, _*_, _%_, _^_, _≤_}
 use mathlib.Core.Bool.{cond}
-use mathlib.Core.List.{List, [], _∷_}
+use mathlib.Core.List.{List, _∷_}
 use mathlib.Core.Path.{_≡_}
 use lib.Dec.{ltb}
+use Rattle.g9932.specs.Bits.{valuesFrom}
 use Rattle.g9932.specs.declared.Class.{Class}
 use Rattle.g9932.specs.declared.Class.the-variants.{Data, Monitored, Silent}
 use Rattle.constellation.specs.Widened.{pairs}
 
+-- the powers that tell the pairs, and the marks of an odd b from 3 and of b = 1
+abbrev powers : ℕ → ℕ
+powers k = 256 * 2 ^ k + 2 ^ (6 - k)
+
+abbrev oddMark : ℕ
+oddMark = 128
+
+abbrev oneMark : ℕ
+oneMark = 32768
+
 -- of b bits, 1 to 15
 abbrev pub layoutOf : ℕ → ℕ
-layoutOf b = 256 * 2 ^ pairs b + 2 ^ (6 - pairs b) + cond (ltb b 2) 32768 (128 * (b % 2))
+layoutOf b = powers (pairs b) + cond (ltb b 2) oneMark (oddMark * (b % 2))
 
 abbrev pub silentLayout : ℕ
-silentLayout = 33216
+silentLayout = powers 0 + oddMark + oneMark
 
 -- the layout of a constellation, or a silent tone's
 pub data ToneLayout (s : ℕ) : Type 0 where
@@ -30,21 +41,4 @@ classLayout Silent = silentLayout
 
 -- by bit count; 0 bits have a silent tone's
 abbrev pub layoutList : List ℕ
-layoutList =
-    33216
-    ∷ 33088
-    ∷ 320
-    ∷ 448
-    ∷ 544
-    ∷ 672
-    ∷ 1040
-    ∷ 1168
-    ∷ 2056
-    ∷ 2184
-    ∷ 4100
-    ∷ 4228
-    ∷ 8194
-    ∷ 8322
-    ∷ 16385
-    ∷ 16513
-    ∷ []
+layoutList = silentLayout ∷ valuesFrom layoutOf 1 15

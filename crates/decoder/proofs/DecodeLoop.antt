@@ -14,10 +14,9 @@ use Rattle.frame.specs.Written.{written, count}
 use Rattle.g9932.proofs.Pairs.{read-on, read-stop}
 use Rattle.g9932.proofs.Words.{length-bits}
 use Rattle.g9932.specs.Bits.{bits}
-use Rattle.g9932.specs.Order.{Pair, pair, inTwos}
+use Rattle.g9932.specs.Order.{Wide, Pair, pair, inTwos}
 use Rattle.g9932.specs.Trellis.{Word, Reading, frame, breaks, after as after', lastTwo, taken, width, decodedWord, decodedAt, obeysCode, takenBits, nextOf, readPairs, takenTotal}
 use Rattle.g9932.specs.declared.Found.the-variants.{At, Nothing}
-use Rattle.trellis.specs.Coding.{Wide}
 use Rattle.decoder.specs.Reading.{decodedIn, ReadPairNeeds, ReadsPair, ReadPairsNeeds, readingFrom, ReadsFrom}
 use Rattle.decoder.specs.declared.Reader.{Reader}
 use Rattle.decoder.specs.declared.PairRead.{PairRead}

@@ -10,11 +10,11 @@ use Rattle.frame.specs.declared.BitWriter.{BitWriter}
 use Rattle.g9932.specs.Sizes.{mostTones}
 use Rattle.g9932.specs.Answers.{breakIn, frameIn}
 use Rattle.g9932.specs.Bits.{_⊕_, weight, odd, bits}
-use Rattle.g9932.specs.Order.{inTwos, pairsOf, Pair}
+use Rattle.g9932.specs.Order.{Wide, inTwos, pairsOf, Pair}
 use Rattle.g9932.specs.Trellis.{Word, Reading, decodedWord, obeysCode, takenBits, nextOf, zeroState, readPairs, takenTotal}
 use Rattle.g9932.specs.declared.Found.{Found}
 use Rattle.g9932.specs.declared.Found.the-variants.{At, Nothing}
-use Rattle.trellis.specs.Coding.{labelNumber, Wide}
+use Rattle.trellis.specs.Coding.{labelNumber}
 use Rattle.decoder.specs.declared.Reader.{Reader}
 use Rattle.decoder.specs.declared.DecodedWord.{DecodedWord}
 use Rattle.decoder.specs.declared.PairRead.{PairRead}

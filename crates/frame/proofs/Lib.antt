@@ -2,4 +2,4 @@ pub mod Loads
 pub mod Frames
 pub mod Stores
 pub mod Labels
-pub mod Tables
+pub mod Lowest

@@ -10,7 +10,7 @@ use Rattle.frame.specs.Written.{Framed}
 use Rattle.g9932.specs.Answers.{onDone, reportOf, reportBy, breakIn, frameIn, pointsVerdict}
 use Rattle.g9932.specs.Bits.{first}
 use Rattle.g9932.specs.Filler.{registerAfter}
-use Rattle.g9932.specs.Order.{pairsOf, sum}
+use Rattle.g9932.specs.Order.{Wide, pairsOf, sum}
 use Rattle.g9932.specs.Refusals.{Verdict, refused, refuseAt, numberOf, placeOf}
 use Rattle.g9932.specs.Sizes.{Tables, entry, Point, points, bytesFor, pack, mostTones, mostBits, mostHeld}
 use Rattle.g9932.specs.Symbol.{load, classesOf, sizeOf, offgridTest, monitorTest, gatherBits, readingIn}
@@ -26,7 +26,6 @@ use Rattle.plan.specs.declared.PlanSizes.{PlanSizes}
 use Rattle.passes.specs.PlanFits.{PlanFits}
 use Rattle.passes.specs.declared.read.PlacesRead.{PlacesRead}
 use Rattle.passes.specs.declared.read.PlacesRead.the-variants.{Refused, Done}
-use Rattle.trellis.specs.Coding.{Wide}
 
 -- ---- the places
 

@@ -12,11 +12,11 @@ use lib.Seq.{drop-drop, take-all}
 use Rattle.frame.proofs.Labels.{labels-take, labels-set, within-set}
 use Rattle.frame.specs.Labels.{bitsOfLabels}
 use Rattle.g9932.specs.Bits.{bits}
-use Rattle.g9932.specs.Order.{Pair, pair, inTwos}
+use Rattle.g9932.specs.Order.{Wide, Pair, pair, inTwos}
 use Rattle.g9932.specs.Sizes.{unpack}
 use Rattle.g9932.specs.Trellis.{lastTwo, taken, wordOf, sentBits, nextOf, encodePairs}
 use Rattle.g9932.specs.declared.TrellisState.{TrellisState}
-use Rattle.trellis.specs.Coding.{codedWord, CodePairNeeds, CodesPair, Wide, CodeNeeds, CodesFrom}
+use Rattle.trellis.specs.Coding.{codedWord, CodePairNeeds, CodesPair, CodeNeeds, CodesFrom}
 use Rattle.trellis.specs.declared.Coder.{Coder}
 use Rattle.trellis.specs.declared.PairCode.{PairCode}
 use Rattle.trellis.proofs.Entries.{cut-pair, pair-wide, inTwos-short, forced-is}

@@ -6,7 +6,7 @@ use Prim.Native.Nat.{ℕ, _+_, _*_, _/_, _%_, _<_}
 use lib.ListN.{getD}
 use lib.Pow.{field}
 use native.Mathlib.Omega.{arith}
-use Rattle.frame.proofs.Tables.{table-at}
+use Rattle.g9932.proofs.Lists.{table-at}
 use Rattle.g9932.proofs.Words.{weight-le, odd-weight}
 use Rattle.g9932.specs.Bits.{weight, odd}
 use Rattle.g9932.specs.Trellis.{lowBits, nextState}

@@ -3,10 +3,10 @@ use Prim.Native.Nat.{ℕ, _+_, _-_, _*_, _%_, _^_, _≤_, _<_}
 use mathlib.Core.Bool.{Bool}
 use mathlib.Core.List.{List, _++_}
 use mathlib.Core.Path.{_≡_}
-use lib.ListN.{length, take, drop, getD}
+use lib.ListN.{length, take, drop}
 use Rattle.frame.specs.Labels.{bitsOfLabels, Within}
 use Rattle.g9932.specs.Bits.{weight, bits}
-use Rattle.g9932.specs.Order.{inTwos, pairsOf, Pair}
+use Rattle.g9932.specs.Order.{Wide, inTwos, pairsOf, Pair}
 use Rattle.g9932.specs.Sizes.{unpack, mostBytes, mostTones}
 use Rattle.g9932.specs.Trellis.{Word, taken, wordOf, sentBits, nextOf, zeroState, encodePairs, takenTotal}
 use Rattle.trellis.specs.declared.Coder.{Coder}
@@ -38,10 +38,6 @@ abbrev pub firstCoder : ℕ → Coder
 firstCoder start = record { state = zeroState; at = start }
 
 -- ---- the pairs from an entry on; the labels are those of the entries, in their order
-
--- every entry is 2 to 15
-abbrev pub Wide : List ℕ → Type 0
-Wide es = (k : ℕ) → k < length es → (2 ≤ getD es k 0) × (getD es k 0 ≤ 15)
 
 pub record CodeNeeds (c : Coder) (es : List ℕ) (i : ℕ) (frame labels : List ℕ) : Type 0 where
   pub inside : i ≤ length es
