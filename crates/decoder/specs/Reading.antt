@@ -5,7 +5,7 @@ use mathlib.Core.List.{List, [], _++_}
 use mathlib.Core.Path.{_≡_}
 use lib.ListN.{length, drop}
 use Rattle.frame.specs.Labels.{bitsOfLabels, Within}
-use Rattle.frame.specs.Written.{written, Waits, count, Put}
+use Rattle.frame.specs.Written.{written, Waits, bitsPut, Put}
 use Rattle.frame.specs.declared.BitWriter.{BitWriter}
 use Rattle.g9932.specs.Sizes.{mostTones}
 use Rattle.g9932.specs.Answers.{breakIn, frameIn}
@@ -66,7 +66,7 @@ pub record ReadPairsNeeds (c : Reader) (es : List ℕ) (i : ℕ) (labels frame :
   pub inside : i ≤ length es
   pub places : length es ≤ length labels
   pub within : Within es labels (length es)
-  pub bytes : count (c .writer) + takenTotal (inTwos (drop i es)) + 64 ≤ 8 * length frame
+  pub bytes : bitsPut (c .writer) + takenTotal (inTwos (drop i es)) + 64 ≤ 8 * length frame
   pub waits : Waits (c .writer)
 
 -- a pair found k further on
@@ -81,7 +81,7 @@ pub record ReadsFrom (c : Reader) (es : List ℕ) (i : ℕ) (labels frame : List
   pub broken : r .broken ≡ onward ((i + 1) / 2) (breakIn (readingFrom c es i labels))
   pub whole : r .broken ≡ Nothing → written (r .writer) after ≡ written (c .writer) frame ++ frameIn (readingFrom c es i labels)
   pub waits : Waits (r .writer)
-  pub counted : r .broken ≡ Nothing → count (r .writer) ≡ count (c .writer) + takenTotal (inTwos (drop i es))
+  pub counted : r .broken ≡ Nothing → bitsPut (r .writer) ≡ bitsPut (c .writer) + takenTotal (inTwos (drop i es))
 
 -- ---- all pairs
 
@@ -92,12 +92,12 @@ pub record ReadsLabels (w : BitWriter) (es labels before : List ℕ) (r : PairsR
   pub broken : r .broken ≡ breakIn (readingOfAll es labels)
   pub whole : r .broken ≡ Nothing → written (r .writer) after ≡ written w before ++ frameIn (readingOfAll es labels)
   pub waits : Waits (r .writer)
-  pub counted : r .broken ≡ Nothing → count (r .writer) ≡ count w + takenTotal (pairsOf es)
+  pub counted : r .broken ≡ Nothing → bitsPut (r .writer) ≡ bitsPut w + takenTotal (pairsOf es)
 
 pub record ReadLabelNeeds (w : BitWriter) (es labels frame : List ℕ) : Type 0 where
   pub wide : Wide es
   pub few : 4 ≤ length es
   pub many : length es ≤ mostTones
   pub within : Within es labels (length es)
-  pub bytes : count w + takenTotal (pairsOf es) + 64 ≤ 8 * length frame
+  pub bytes : bitsPut w + takenTotal (pairsOf es) + 64 ≤ 8 * length frame
   pub waits : Waits w

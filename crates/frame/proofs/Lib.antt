@@ -1,4 +1,4 @@
-pub mod Loads
+pub mod BitsAhead
 pub mod Frames
 pub mod Stores
 pub mod Labels

@@ -23,9 +23,9 @@ even-above a w = omega arith
 low-two : (r : ℕ) → r % 4 ≡ r % 2 + 2 * (r / 2 % 2)
 low-two r = omega arith
 
-pub two-bits : (r : ℕ) → r % 4 ≡ num (drawn 2 r)
+pub two-drawn : (r : ℕ) → r % 4 ≡ num (drawn 2 r)
 unfolding num drawOf
-two-bits r =
+two-drawn r =
     let b : weight (odd (nextRegister r)) ≡ r / 2 % 2 = weight-odd (nextRegister r) ∙ rw next-number (even-above (r / 2) _) in
     low-two r ∙ rw (weight-odd r, b) (sum (r % 2) (r / 2 % 2))
   where

@@ -47,18 +47,18 @@ pub whole-pairs : (es : List ℕ) → (length es % 2 ≡ 1 → ⊥) → pairsOf 
 whole-pairs es even = rw (ne-eqb (length es % 2) 1 even)
 
 pub padded-pairs : (es : List ℕ) (y : ℕ) → 4 ≤ length es → length es % 2 ≡ 1 → y ≡ getD es 0 0 → pairsOf es ≡ pair 0 y ∷ inTwos (drop 1 es)
-padded-pairs es y few odd hy =
+padded-pairs es y enough odd hy =
     let d : drop 0 es ≡ getD es 0 0 ∷ drop 1 es = drop-cons es 0 0 (omega arith) in
     rw (eq-eqb (length es % 2) 1 odd) (ap (λ (l : List ℕ). inTwos (0 ∷ l)) d ∙ rw hy)
 
 -- the pair with the 0 is not among the last two
 pub not-forced : (es : List ℕ) → 4 ≤ length es → length es % 2 ≡ 1 → false ≡ lastTwo (inTwos (drop 1 es))
-not-forced es few odd = sym (three-pairs (drop 1 es) (simp length-drop (omega arith)))
+not-forced es enough odd = sym (three-pairs (drop 1 es) (simp length-drop (omega arith)))
 
 -- and the bits that the pairs take, with the 0 in front
 pub padded-taken : (es : List ℕ) (y : ℕ) → 4 ≤ length es → length es % 2 ≡ 1 → y ≡ getD es 0 0
     → takenTotal (pairsOf es) ≡ taken false (pair 0 y) + takenTotal (inTwos (drop 1 es))
-padded-taken es y few odd hy = rw (padded-pairs es y few odd hy, ← (not-forced es few odd))
+padded-taken es y enough odd hy = rw (padded-pairs es y enough odd hy, ← (not-forced es enough odd))
 
 -- ---- a place among the entries, as the loops ask for it
 

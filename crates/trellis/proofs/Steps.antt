@@ -60,7 +60,7 @@ state-back s =
     let p3 : odd (n / 8) ≡ s .s3 = ap odd e3 ∙ odd-weight (s .s3) 0 in
     λ i. record { s3 = p3 i; s2 = p2 i; s1 = p1 i; s0 = p0 i }
 
-pub state-lt : (s : TrellisState) → stateNumber s < 16
+state-lt : (s : TrellisState) → stateNumber s < 16
 unfolding stateNumber
 state-lt s = omega (arith, weight-le (s .s0), weight-le (s .s1), weight-le (s .s2), weight-le (s .s3))
 
