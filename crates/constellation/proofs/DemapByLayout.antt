@@ -1,5 +1,5 @@
--- The label of a point by a layout: the word moved up to sixteen bits, and the label moved down again.
-use Prim.Native.Nat.{ℕ, zero, suc, _+_, _-_, _*_, _/_, _%_, _^_, _≤_, _<_}
+-- The label of a point by a layout: the lifted word, and the label lowered again.
+use Prim.Native.Nat.{ℕ, _+_, _-_, _*_, _/_, _%_, _^_, _≤_, _<_}
 use mathlib.Core.Bool.{Bool, true, false, _&&_, _||_, not, cond, true≢false}
 use mathlib.Core.Path.{_≡_, refl, sym, ap, ap₂, _∙_}
 use native.Mathlib.Nat.{mul-assoc, mul-comm, add-mul, mul-div-cancel-left, mul-le-mul, mul-lt-mul-of-pos-right, mod-lt}
@@ -8,15 +8,15 @@ use lib.Bits.{bitAnd}
 use lib.Dec.{eqb, ltb}
 use lib.IntN.{ℤ}
 use lib.Pow.{pow-pos, pow-mono, pow-add, shr-shr, shl-shr, mod-pow-add, low}
-use Rattle.g9932.specs.Bits.{bits, num, first}
+use Rattle.g9932.specs.Bits.{bits, num}
 use Rattle.g9932.specs.Points.{labelOf, samePoint}
 use Rattle.g9932.specs.Sizes.{Point, point, origin}
-use Rattle.constellation.specs.Widened.{pairs, signWeight, interleaved}
-use Rattle.constellation.specs.Reading.{FoundLabelIs, Steps, Narrowed, topSix, inGrid}
-use Rattle.constellation.specs.Layouts.{layoutOf, ToneLayout, carries, nothing}
-use Rattle.constellation.specs.DemapByLayout.{Power, IsLayout, OnAxis, WordUp, TopsBy, LabelDown, Demaps}
-use Rattle.constellation.proofs.Grid.{bit-rule, six-few}
-use Rattle.constellation.proofs.Mapping.{rule}
+use Rattle.constellation.specs.Widened.{plainPairs, signWeight, interleaved}
+use Rattle.constellation.specs.Reading.{FoundLabelIs, RaisedCoordinate, NarrowedWord, topSix, inGrid}
+use Rattle.constellation.specs.Layouts.{lower, upper, layoutOf, ToneLayout, carries, nothing}
+use Rattle.constellation.specs.DemapByLayout.{Power, IsLayout, OnAxis, LiftedWord, TopsBy, LoweredLabel, Demaps}
+use Rattle.constellation.proofs.Grid.{six-few}
+use Rattle.constellation.proofs.Layouts.{holds, square}
 use Rattle.constellation.proofs.Reading.{test, found-label-law}
 use Rattle.constellation.proofs.Tops.{narrowed-top}
 
@@ -43,13 +43,10 @@ plain-up k v w h e =
     let s : w % 2 ^ (2 * k + p) ≡ v % 2 ^ (2 * k) * 2 ^ p = d ∙ rw (q, r) (omega arith) in
     ap (λ (i : ℕ). w % 2 ^ i) (sym (twelve k h)) ∙ s
 
-square : (k : ℕ) → 2 ^ k * 2 ^ k ≡ 2 ^ (2 * k)
-square k = let e : k + k ≡ 2 * k = omega arith in sym (pow-add 2 k k) ∙ ap (λ (n : ℕ). 2 ^ n) e
-
 pub square-le : (m : ℕ) → Power m → m * m ≤ 4096
 square-le m p = rw (p .2, square (p .0)) (pow-mono {i = 2 * p .0} {j = 12} (omega (arith, p .1)))
 
-pub down-law : (m t w : ℕ) → LabelDown m t w ((8192 * t + 2 * (w % 4096)) * (8 * (m * m)) / 65536)
+pub down-law : (m t w : ℕ) → LoweredLabel m t w ((8192 * t + 2 * (w % 4096)) * (8 * (m * m)) / 65536)
 down-law m t w k v h e f =
     let q = 2 ^ (2 * k) in
     let p = 2 ^ (2 * (6 - k)) in
@@ -67,25 +64,12 @@ product-le m t w p h = mul-le-mul {n₂ = 65535} {m₂ = 32768} (omega arith) (o
 
 -- ---- what a layout holds
 
-pub record Holds (b : ℕ) : Type 0 where
-  above : layoutOf b / 256 % 128 ≡ 2 ^ pairs b
-  pub below : layoutOf b % 128 ≡ 2 ^ (6 - pairs b)
-  pub one : eqb (layoutOf b / 32768) 1 ≡ ltb b 2
-  pub silent : eqb (bitAnd (layoutOf b / 32768) (layoutOf b / 128 % 2)) 1 ≡ false
-
-holds : (b : ℕ) → 1 ≤ b → b ≤ 15 → Holds b
-unfolding first
-holds zero l m = absurd (omega arith)
-holds (suc j) l m =
-    record {
-      above = rule (λ j. layoutOf (suc j) / 256 % 128) (λ j. 2 ^ pairs (suc j)) 15 refl j (omega arith);
-      below = rule (λ j. layoutOf (suc j) % 128) (λ j. 2 ^ (6 - pairs (suc j))) 15 refl j (omega arith);
-      one = bit-rule (λ j. eqb (layoutOf (suc j) / 32768) 1) (λ j. ltb (suc j) 2) 15 refl j (omega arith);
-      silent = bit-rule (λ j. eqb (bitAnd (layoutOf (suc j) / 32768) (layoutOf (suc j) / 128 % 2)) 1) (λ j. false) 15 refl j (omega arith);
-    }
+one-test : (c : Bool) → eqb (cond c 1 0) 1 ≡ c
+one-test true = refl
+one-test false = refl
 
 pub is-layout : (s : ℕ) → ToneLayout s → IsLayout s
-is-layout s (carries b l m e) = rw e (pairs b, omega arith, holds b l m .above, holds b l m .below)
+is-layout s (carries b l m e) = rw e (plainPairs b, omega arith, holds b l m .upperIs, holds b l m .lowerIs)
 is-layout s (nothing e) = rw e (0, omega arith, refl, refl)
 
 -- a point is on a tone's constellation or off it
@@ -93,22 +77,22 @@ pub on-or-off : (s : ℕ) (p : Point) (k l : ℕ) → ToneLayout s → Demaps s 
 on-or-off s p k l (carries b h m e) on off = true≢false (on .sought b h m e .found ∙ sym (off .sought b h m e .found))
 on-or-off s p k l (nothing e) on off = true≢false (on .silent e ∙ sym (off .silent e))
 
--- the bits of a coordinate, moved up, are eight
-pub in-width : (layout : ℕ) (z : ℤ) (e : ℕ) (on : Bool) → IsLayout layout → OnAxis (4 * (layout / 256 % 128)) z e on → e * (layout % 128) < 256
+-- the bits of a coordinate, lifted, are eight
+pub in-width : (layout : ℕ) (z : ℤ) (e : ℕ) (on : Bool) → IsLayout layout → OnAxis (4 * upper layout) z e on → e * lower layout < 256
 in-width layout z e on s ax =
     let k = s .0 in
     let n : k + (6 - k) ≡ 6 = omega (arith, s .1) in
     let p : 2 ^ k * 2 ^ (6 - k) ≡ 64 = sym (pow-add 2 k (6 - k)) ∙ ap (λ (i : ℕ). 2 ^ i) n in
-    let h : 0 < 4 * (layout / 256 % 128) = omega (arith, s .2, pow-pos k) in
-    let a : e < 4 * 2 ^ k = rw (ax .bitsIs, ← s .2) (mod-lt (ax .steps / 2) h) in
+    let h : 0 < 4 * upper layout = omega (arith, s .2, pow-pos k) in
+    let a : e < 4 * 2 ^ k = rw (ax .bitsIs, ← s .2) (mod-lt (ax .raised / 2) h) in
     let b = mul-lt-mul-of-pos-right a (pow-pos (6 - k)) in
     rw (s .3) (omega (arith, mul-assoc 4 (2 ^ k) (2 ^ (6 - k))))
 
 -- ---- the label
 
-module _ (layout : ℕ) (x y : ℤ) (ex ey w t l : ℕ) (ox oy on origin-is : Bool) (ax : OnAxis (4 * (layout / 256 % 128)) x ex ox)
-    (ay : OnAxis (4 * (layout / 256 % 128)) y ey oy) (word : WordUp (layout % 128) ex ey w) (tops : TopsBy layout (w / 1024) on t)
-    (down : LabelDown (layout / 256 % 128) t w l) (o : origin-is ≡ samePoint (point x y) origin) where
+module _ (layout : ℕ) (x y : ℤ) (ex ey w t l : ℕ) (ox oy on origin-is : Bool) (ax : OnAxis (4 * upper layout) x ex ox)
+    (ay : OnAxis (4 * upper layout) y ey oy) (word : LiftedWord (lower layout) ex ey w) (tops : TopsBy layout (w / 1024) on t)
+    (down : LoweredLabel (upper layout) t w l) (o : origin-is ≡ samePoint (point x y) origin) where
   abbrev silence : Bool
   silence = eqb (bitAnd (layout / 32768) (layout / 128 % 2)) 1
 
@@ -119,27 +103,27 @@ module _ (layout : ℕ) (x y : ℤ) (ex ey w t l : ℕ) (ox oy on origin-is : Bo
       → FoundLabelIs (record { found = onIt; label = r }) (labelOf b (point x y))
   unfolding test
   by-bits r b low high e own =
-      let k = pairs b in
+      let k = plainPairs b in
       let f = holds b low high in
       let few : k ≤ 6 = omega arith in
-      let m : layout / 256 % 128 ≡ 2 ^ k = rw e (f .above) in
-      let h : 4 * (layout / 256 % 128) ≡ signWeight k = ap (λ (i : ℕ). 4 * i) m in
-      let fx : ex ≡ ax .steps / 2 % signWeight k = ax .bitsIs ∙ ap (λ (i : ℕ). ax .steps / 2 % i) h in
-      let fy : ey ≡ ay .steps / 2 % signWeight k = ay .bitsIs ∙ ap (λ (i : ℕ). ay .steps / 2 % i) h in
+      let m : upper layout ≡ 2 ^ k = rw e (f .upperIs) in
+      let h : 4 * upper layout ≡ signWeight k = ap (λ (i : ℕ). 4 * i) m in
+      let fx : ex ≡ ax .raised / 2 % signWeight k = ax .bitsIs ∙ ap (λ (i : ℕ). ax .raised / 2 % i) h in
+      let fy : ey ≡ ay .raised / 2 % signWeight k = ay .bitsIs ∙ ap (λ (i : ℕ). ay .raised / 2 % i) h in
       let v = num (interleaved (bits 8 ex) (bits 8 ey)) in
-      let up : w ≡ v * 2 ^ (2 * (6 - k)) = word (6 - k) (rw e (f .below)) in
+      let up : w ≡ v * 2 ^ (2 * (6 - k)) = word (6 - k) (rw e (f .lowerIs)) in
       let six : w / 1024 ≡ topSix k v = six-up k v w few up in
       let g : on ≡ inGrid b (topSix k v) = tops .onIs b low high e (λ z. rw (six, six-few b v z) (omega arith)) ∙ ap (inGrid b) six in
-      let back : Narrowed k v l =
+      let back : NarrowedWord k v l =
       rw (down k v few m up) (narrowed-top k v t (λ q i j. tops .threeIs q i (j ∙ ap (λ (s : ℕ). s / 4) (sym six)))) in
-      let sx : Steps (signWeight k) x (ax .steps) = rw h at (ax .stepsIs) in
-      let sy : Steps (signWeight k) y (ay .steps) = rw h at (ay .stepsIs) in
-      let tx : ox ≡ eqb (2 * (ax .steps / 2 % signWeight k) + 65536) (ax .steps) = ax .onIs ∙ ap (λ (i : ℕ). eqb (2 * i + 65536) (ax .steps)) fx in
-      let ty : oy ≡ eqb (2 * (ay .steps / 2 % signWeight k) + 65536) (ay .steps) = ay .onIs ∙ ap (λ (i : ℕ). eqb (2 * i + 65536) (ay .steps)) fy in
-      let quiet : silence ≡ false = rw e (f .silent) in
-      found-label-law b x y (ax .steps) (ay .steps) v l low high sx sy (ap₂ (λ (i j : ℕ). num (interleaved (bits 8 i) (bits 8 j))) fx fy) back onIt r
+      let sx : RaisedCoordinate (signWeight k) x (ax .raised) = rw h at (ax .raisedIs) in
+      let sy : RaisedCoordinate (signWeight k) y (ay .raised) = rw h at (ay .raisedIs) in
+      let tx : ox ≡ eqb (2 * (ax .raised / 2 % signWeight k) + 65536) (ax .raised) = ax .onIs ∙ ap (λ (i : ℕ). eqb (2 * i + 65536) (ax .raised)) fx in
+      let ty : oy ≡ eqb (2 * (ay .raised / 2 % signWeight k) + 65536) (ay .raised) = ay .onIs ∙ ap (λ (i : ℕ). eqb (2 * i + 65536) (ay .raised)) fy in
+      let quiet : silence ≡ false = rw e (ap (λ (n : ℕ). eqb n 1) (f .notSilent)) in
+      found-label-law b x y (ax .raised) (ay .raised) v l low high sx sy (ap₂ (λ (i j : ℕ). num (interleaved (bits 8 i) (bits 8 j))) fx fy) back onIt r
       (rw quiet (ap₂ _&&_ g (ap₂ _&&_ tx ty)))
-      (own ∙ ap (λ (i : Bool). cond i (l % 2) l) (ap (λ (s : ℕ). eqb (s / 32768) 1) e ∙ f .one))
+      (own ∙ ap (λ (i : Bool). cond i (l % 2) l) (ap (λ (s : ℕ). eqb (s / 32768) 1) e ∙ ap (λ (n : ℕ). eqb n 1) (f .one) ∙ one-test (ltb b 2)))
 
   pub demaps-law : (r : ℕ) → r ≡ cond (eqb (layout / 32768) 1) (l % 2) l → Demaps layout (point x y) (record { on = onIt; label = r })
   demaps-law r own = record { sought = λ b low high e. by-bits r b low high e own; silent = λ e. rw e (or-none origin-is ∙ o) }

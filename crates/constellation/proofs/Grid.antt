@@ -14,7 +14,7 @@ use Rattle.g9932.specs.declared.Found.the-variants.{At, Nothing}
 use Rattle.g9932.specs.Trellis.{same}
 use Rattle.g9932.proofs.Identities.{same→eq}
 use Rattle.g9932.proofs.Search.{first-no}
-use Rattle.constellation.specs.Widened.{pairs, topFive, topFour, widened, wordOf}
+use Rattle.constellation.specs.Widened.{plainPairs, topFive, topFour, widenedLabel, labelWord}
 use Rattle.constellation.specs.Reading.{topSix, tops, sixOf, isAt, inGrid}
 use Rattle.constellation.proofs.Lanes.{twice}
 
@@ -40,8 +40,8 @@ some-first p n k h e = go (first p n) refl
 
 -- ---- a word of at least six bits, by its top six and the bits below
 
-six-form : (j l : ℕ) → widened (suc j) l ≡ (4 * topFour (l / 2 ^ (2 * j)) + l / 2 ^ (2 * j) % 4) * 2 ^ (2 * j) + l % 2 ^ (2 * j)
-unfolding widened topFive
+six-form : (j l : ℕ) → widenedLabel (suc j) l ≡ (4 * topFour (l / 2 ^ (2 * j)) + l / 2 ^ (2 * j) % 4) * 2 ^ (2 * j) + l % 2 ^ (2 * j)
+unfolding widenedLabel topFive
 six-form j l =
     let q = l / 2 ^ (2 * j) in
     let t = topFour q in
@@ -78,27 +78,27 @@ tops-pow b h = go (eqb (b % 2) 0) refl
         odd-rest : (b % 2 ≡ 0 → ⊥) → 5 + rest b ≡ b
         odd-rest f = omega arith
 
-word-form : (b l : ℕ) → 4 ≤ b → wordOf b l ≡ (4 * topFour (l / 2 ^ rest b) + l / 2 ^ rest b % 4) * 2 ^ rest b + l % 2 ^ rest b
+word-form : (b l : ℕ) → 4 ≤ b → labelWord b l ≡ (4 * topFour (l / 2 ^ rest b) + l / 2 ^ rest b % 4) * 2 ^ rest b + l % 2 ^ rest b
 word-form b l h =
-    let k : pairs b ≡ suc (b / 2 - 2) = omega arith in
+    let k : plainPairs b ≡ suc (b / 2 - 2) = omega arith in
     rw (k, le-ltb b 2 (omega arith)) (six-form (b / 2 - 2) l)
 
-six-rest : (b w : ℕ) → 4 ≤ b → topSix (pairs b) w ≡ w / 2 ^ rest b
-six-rest b w h = let k : pairs b ≡ suc (b / 2 - 2) = omega arith in rw k (six-shift (b / 2 - 2) w)
+six-rest : (b w : ℕ) → 4 ≤ b → topSix (plainPairs b) w ≡ w / 2 ^ rest b
+six-rest b w h = let k : plainPairs b ≡ suc (b / 2 - 2) = omega arith in rw k (six-shift (b / 2 - 2) w)
 
-pub six-few : (b w : ℕ) → b < 4 → topSix (pairs b) w ≡ 4 * w
-six-few b w h = let k : pairs b ≡ 0 = omega arith in rw k (omega arith)
+pub six-few : (b w : ℕ) → b < 4 → topSix (plainPairs b) w ≡ 4 * w
+six-few b w h = let k : plainPairs b ≡ 0 = omega arith in rw k (omega arith)
 
 -- ---- the words that are in the grid are those of labels
 
-pub grid-word : (b w : ℕ) → inGrid b (topSix (pairs b) w) ≡ true → (l : ℕ) × (l < 2 ^ b) × (wordOf b l ≡ w)
+pub grid-word : (b w : ℕ) → inGrid b (topSix (plainPairs b) w) ≡ true → (l : ℕ) × (l < 2 ^ b) × (labelWord b l ≡ w)
 unfolding inGrid
 grid-word b w e =
-    let f = first-some (λ q. eqb (sixOf b q) (topSix (pairs b) w)) (tops b) e in
-    go (ltb b 4) refl (f .0) (f .1) (eqb-true (sixOf b (f .0)) (topSix (pairs b) w) (f .2))
+    let f = first-some (λ q. eqb (sixOf b q) (topSix (plainPairs b) w)) (tops b) e in
+    go (ltb b 4) refl (f .0) (f .1) (eqb-true (sixOf b (f .0)) (topSix (plainPairs b) w) (f .2))
   where
     go : (c : Bool) → ltb b 4 ≡ c → (q : ℕ) → q < cond c (2 ^ b) (cond (eqb (b % 2) 0) 16 32)
-        → cond c (4 * wordOf b q) (4 * topFour q + q % 4) ≡ topSix (pairs b) w → (l : ℕ) × (l < 2 ^ b) × (wordOf b l ≡ w)
+        → cond c (4 * labelWord b q) (4 * topFour q + q % 4) ≡ topSix (plainPairs b) w → (l : ℕ) × (l < 2 ^ b) × (labelWord b l ≡ w)
     go true c q i g = (q, i, omega (arith, six-few b w (ltb-true b 4 c)))
     go false c q i g =
         let k = ltb-false b 4 c in
@@ -108,20 +108,20 @@ grid-word b w e =
         let lo : l % 2 ^ rest b ≡ w % 2 ^ rest b = low q (rest b) r in
         (l, rw (← tops-pow b k) (digits-lt i r), word-form b l k ∙ rw (hi, lo, g ∙ six-rest b w k) (split w (rest b)))
 
-pub word-grid : (b l : ℕ) → l < 2 ^ b → inGrid b (topSix (pairs b) (wordOf b l)) ≡ true
+pub word-grid : (b l : ℕ) → l < 2 ^ b → inGrid b (topSix (plainPairs b) (labelWord b l)) ≡ true
 unfolding inGrid
 word-grid b l h = go (ltb b 4) refl
   where
     go : (c : Bool) → ltb b 4 ≡ c
-        → isAt (first (λ q. eqb (cond c (4 * wordOf b q) (4 * topFour q + q % 4)) (topSix (pairs b) (wordOf b l))) (cond c (2 ^ b) (cond (eqb (b % 2) 0) 16 32))) ≡ true
-    go true c = some-first _ _ l h (eq-eqb _ _ (sym (six-few b (wordOf b l) (ltb-true b 4 c))))
+        → isAt (first (λ q. eqb (cond c (4 * labelWord b q) (4 * topFour q + q % 4)) (topSix (plainPairs b) (labelWord b l))) (cond c (2 ^ b) (cond (eqb (b % 2) 0) 16 32))) ≡ true
+    go true c = some-first _ _ l h (eq-eqb _ _ (sym (six-few b (labelWord b l) (ltb-true b 4 c))))
     go false c =
         let k = ltb-false b 4 c in
         let q = l / 2 ^ rest b in
         let r = mod-lt l (pow-pos (rest b)) in
         let i : q < cond (eqb (b % 2) 0) 16 32 = div-lt-iff-lt-mul (pow-pos (rest b)) .1 (rw (tops-pow b k) h) in
-        let e : topSix (pairs b) (wordOf b l) ≡ 4 * topFour q + q % 4 =
-        six-rest b (wordOf b l) k ∙ ap (λ (w : ℕ). w / 2 ^ rest b) (word-form b l k) ∙ high (4 * topFour q + q % 4) (rest b) r in
+        let e : topSix (plainPairs b) (labelWord b l) ≡ 4 * topFour q + q % 4 =
+        six-rest b (labelWord b l) k ∙ ap (λ (w : ℕ). w / 2 ^ rest b) (word-form b l k) ∙ high (4 * topFour q + q % 4) (rest b) r in
         some-first _ _ q i (eq-eqb _ _ (sym e))
 
 pub six-lt : (k w : ℕ) → w < 2 ^ (4 + 2 * k) → topSix k w < 64

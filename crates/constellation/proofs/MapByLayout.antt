@@ -14,13 +14,14 @@ use lib.Pow.{pow-pos, pow-mono, pow-add, shr-shr, shl-shr, shr-le, split, high, 
 use Rattle.g9932.specs.Bits.{weight, num, odd, bits, first}
 use Rattle.g9932.specs.Points.{evens, pointOf}
 use Rattle.g9932.specs.Sizes.{point, origin}
-use Rattle.g9932.specs.declared.Found.the-variants.{At, Nothing}
+use Rattle.g9932.specs.declared.Found.the-variants.{At}
 use Rattle.g9932.proofs.Words.{half-weight}
-use Rattle.constellation.specs.Widened.{pairs as pairsOf, mappingLabel, topFive, topFour, widened, xBits, yBits, signWeight, axis}
-use Rattle.constellation.specs.Layouts.{layoutOf, silentLayout}
-use Rattle.constellation.specs.MapByLayout.{Mappable, label, silent, MapsTo, Liftable, pairs, none, lower, upper, pairsPoint, layoutPoint, liftedLabel, spreadWord, scaled}
+use Rattle.constellation.specs.Widened.{plainPairs, mappingLabel, topFive, topFour, widenedLabel, xBits, yBits, signWeight, coordinateOf}
+use Rattle.constellation.specs.Layouts.{lower, upper, layoutOf, silentLayout}
+use Rattle.constellation.specs.MapByLayout.{Mappable, label, silent, MapsTo, Liftable, pairs, none, pairsPoint, layoutPoint, liftedLabel, widenedLifted, scaledCoordinate}
 use Rattle.constellation.proofs.Lanes.{Slot, full, worth, gaps, gaps-worth, full-worth, bits-held, masked, squeeze, squeezed, mask-held, squeeze-held, OfBits, of-bits, twice}
-use Rattle.constellation.proofs.Mapping.{rule, point-word}
+use Rattle.constellation.proofs.Layouts.{holds, square}
+use Rattle.constellation.proofs.Mapping.{point-word}
 use Rattle.constellation.proofs.Sizes.{evens-long, evens-more, evens-lt, odds-evens, label-lt}
 
 -- ---- every other bit of a word
@@ -49,15 +50,15 @@ x-bits : (w : ℕ) → w < 65536 → yBits (w / 2) ≡ xBits w
 x-bits w h = rw (odds-evens 15 w) (evens-more 15 (w / 2) (omega arith))
 
 -- two bits fewer of a word are one bit fewer of each half
-two-bits : (n w : ℕ) → num (evens (bits (suc (suc n)) w)) ≡ weight (odd w) + 2 * num (evens (bits n (w / 2 / 2)))
+evens-two : (n w : ℕ) → num (evens (bits (suc (suc n)) w)) ≡ weight (odd w) + 2 * num (evens (bits n (w / 2 / 2)))
 unfolding bits num
-two-bits n w = refl
+evens-two n w = refl
 
 fewer-two : (w : ℕ) → w < 65536 → yBits (w / 4) ≡ yBits w / 2
 fewer-two w h =
     let f : w / 2 / 2 ≡ w / 4 = omega arith in
     let e = rw f at (evens-long 2 14 (w / 2 / 2) (omega arith)) in
-    let t = rw f at (two-bits 14 w) in
+    let t = rw f at (evens-two 14 w) in
     rw (e, t) (sym (half-weight (odd w) (num (evens (bits 14 (w / 4))))))
 
 fewer : (j w : ℕ) → w < 65536 → yBits (w / 2 ^ (2 * j)) ≡ yBits w / 2 ^ j
@@ -128,9 +129,9 @@ module _ (k l : ℕ) (h : k ≤ 6) where
       rw (twelve, e) at (field (liftedLabel (2 ^ p) l / 2) (2 * k) p)
 
   -- the word of the label stands at the top
-  spread-high : spreadWord (liftedLabel (2 ^ p) l) / 2 ^ p ≡ widened k l
-  unfolding widened
-  spread-high =
+  widened-lifted-high : widenedLifted (liftedLabel (2 ^ p) l) / 2 ^ p ≡ widenedLabel k l
+  unfolding widenedLabel
+  widened-lifted-high =
       let t = topFour (topFive k l) in
       let r = liftedLabel (2 ^ p) l / 2 % 4096 in
       let e : t * 2 ^ (2 * k) * 2 ^ p ≡ 4096 * t = mul-assoc t (2 ^ (2 * k)) (2 ^ p) ∙ ap (λ (n : ℕ). t * n) (sym (pow-add 2 (2 * k) p) ∙ ap (λ (n : ℕ). 2 ^ n) twelve) ∙ mul-comm t 4096 in
@@ -140,13 +141,13 @@ module _ (k l : ℕ) (h : k ≤ 6) where
 
 -- ---- every tone
 
-square : (k : ℕ) → k ≤ 6 → 2 ^ (6 - k) * 2 ^ (6 - k) ≡ 2 ^ (12 - 2 * k)
-square k h = let n : 6 - k + (6 - k) ≡ 12 - 2 * k = omega arith in sym (pow-add 2 (6 - k) (6 - k)) ∙ ap (λ (m : ℕ). 2 ^ m) n
+lower-square : (k : ℕ) → k ≤ 6 → 2 ^ (6 - k) * 2 ^ (6 - k) ≡ 2 ^ (12 - 2 * k)
+lower-square k h = let n : 2 * (6 - k) ≡ 12 - 2 * k = omega arith in square (6 - k) ∙ ap (λ (m : ℕ). 2 ^ m) n
 
 pub liftable-label : (s l : ℕ) → Liftable s l → (lower s ≤ 64) × (liftedLabel (lower s * lower s) l < 65536)
 liftable-label s l (pairs k h c m i) =
     let small : 2 ^ (6 - k) ≤ 2 ^ 6 = pow-mono {i = 6 - k} {j = 6} (omega arith) in
-    rw (c, square k h) (small, lifted-lt k l h i)
+    rw (c, lower-square k h) (small, lifted-lt k l h i)
 liftable-label s l (none c m) = rw c (omega arith, omega arith)
 
 pub liftable-upper : (s l : ℕ) → Liftable s l → upper s ≤ 64
@@ -172,84 +173,69 @@ silent-point : (s l : ℕ) → upper s ≡ 0 → layoutPoint s l ≡ origin
 unfolding layoutPoint first
 silent-point s l m = rw m
 
-scaled-pow : (k e : ℕ) → scaled (2 ^ k) e ≡ axis (signWeight k) (e * 2 ^ k / 64)
+scaled-pow : (k e : ℕ) → scaledCoordinate (2 ^ k) e ≡ coordinateOf (signWeight k) (e * 2 ^ k / 64)
 scaled-pow k e = rw (ne-eqb (2 ^ k) 0 (λ z. absurd (omega (arith, z, pow-pos k))))
 
 -- The point that the code makes of a layout and a mapping label.
-pub liftable-point : (s l w : ℕ) → Liftable s l → w < 65536 → w ≡ spreadWord (liftedLabel (lower s * lower s) l)
-    → point (scaled (upper s) (yBits (w / 2))) (scaled (upper s) (yBits w)) ≡ layoutPoint s l
+pub liftable-point : (s l w : ℕ) → Liftable s l → w < 65536 → w ≡ widenedLifted (liftedLabel (lower s * lower s) l)
+    → point (scaledCoordinate (upper s) (yBits (w / 2))) (scaledCoordinate (upper s) (yBits w)) ≡ layoutPoint s l
 liftable-point s l w (pairs k h c m i) n e =
-    let word : w / 2 ^ (12 - 2 * k) ≡ widened k l = ap (λ (v : ℕ). v / 2 ^ (12 - 2 * k)) (e ∙ ap (λ (v : ℕ). spreadWord (liftedLabel v l)) (ap₂ (λ (a b : ℕ). a * b) c c ∙ square k h)) ∙ spread-high k l h in
+    let lifted : w ≡ widenedLifted (liftedLabel (2 ^ (12 - 2 * k)) l) = e ∙ ap (λ (v : ℕ). widenedLifted (liftedLabel v l)) (ap₂ (λ (a b : ℕ). a * b) c c ∙ lower-square k h) in
+    let word : w / 2 ^ (12 - 2 * k) ≡ widenedLabel k l = ap (λ (v : ℕ). v / 2 ^ (12 - 2 * k)) lifted ∙ widened-lifted-high k l h in
     let x = ap (λ (v : ℕ). v * 2 ^ k / 64) (x-bits w n) ∙ sym (fewer-x k w h n) ∙ ap (λ (v : ℕ). xBits v) word in
     let y = sym (fewer-y k w h n) ∙ ap (λ (v : ℕ). yBits v) word in
-    rw (m, scaled-pow k (yBits (w / 2)), scaled-pow k (yBits w)) (ap₂ point (ap (axis (signWeight k)) x) (ap (axis (signWeight k)) y) ∙ sym (pairs-point s l k h m))
+    rw (m, scaled-pow k (yBits (w / 2)), scaled-pow k (yBits w)) (ap₂ point (ap (coordinateOf (signWeight k)) x) (ap (coordinateOf (signWeight k)) y) ∙ sym (pairs-point s l k h m))
 liftable-point s l w (none c m) n e = rw (m, silent-point s l m)
 
 -- ---- a label's own layout
 
 -- 0 for a silent tone; the label where it is not silent; the mapping label
-abbrev live : ℕ → ℕ
-live s = 1 - bitAnd (s / 32768) (s / 128 % 2)
+abbrev notSilent : ℕ → ℕ
+notSilent s = 1 - bitAnd (s / 32768) (s / 128 % 2)
 
 abbrev own : ℕ → ℕ → ℕ
-own s l = l * live s
+own s l = l * notSilent s
 
 abbrev mapping : ℕ → ℕ → ℕ
 mapping s l = own s l + 2 * (s / 32768 * own s l)
 
 module _ (b : ℕ) (h : 1 ≤ b) (k : b ≤ 15) where
-  by-count : (f g : ℕ → ℕ) → first (λ j. not (eqb (f (suc j)) (g (suc j)))) 15 ≡ Nothing → f b ≡ g b
-  by-count f g e = let n : suc (b - 1) ≡ b = omega arith in rw n at (rule (λ j. f (suc j)) (λ j. g (suc j)) 15 e (b - 1) (omega arith))
-
-  upper-layout : upper (layoutOf b) ≡ 2 ^ pairsOf b
-  unfolding first
-  upper-layout = by-count (λ b. upper (layoutOf b)) (λ b. 2 ^ pairsOf b) refl
-
-  lower-layout : lower (layoutOf b) ≡ 2 ^ (6 - pairsOf b)
-  unfolding first
-  lower-layout = by-count (λ b. lower (layoutOf b)) (λ b. 2 ^ (6 - pairsOf b)) refl
-
-  live-layout : live (layoutOf b) ≡ 1
-  unfolding first
-  live-layout = by-count (λ b. live (layoutOf b)) (λ b. 1) refl
-
-  one-layout : layoutOf b / 32768 ≡ cond (ltb b 2) 1 0
-  unfolding first
-  one-layout = by-count (λ b. layoutOf b / 32768) (λ b. cond (ltb b 2) 1 0) refl
+  not-silent : notSilent (layoutOf b) ≡ 1
+  not-silent = ap (λ (n : ℕ). 1 - n) (holds b h k .notSilent)
 
   one-label : (l : ℕ) → mapping (layoutOf b) l ≡ mappingLabel b l
-  one-label l = rw (live-layout, one-layout, mul-one) (by (ltb b 2))
+  one-label l = rw (not-silent, holds b h k .one, mul-one) (by (ltb b 2))
     where
       by : (c : Bool) → l + 2 * (cond c 1 0 * l) ≡ cond c (3 * l) l
       by true = omega arith
       by false = omega arith
 
   module _ (l : ℕ) (s : l < 2 ^ b) where
-    label-liftable : Liftable (layoutOf b * live (layoutOf b)) (mapping (layoutOf b) l)
-    label-liftable = rw (one-label l, live-layout, mul-one) (pairs (pairsOf b) (omega arith) lower-layout upper-layout (label-lt b l h s))
+    label-liftable : Liftable (layoutOf b * notSilent (layoutOf b)) (mapping (layoutOf b) l)
+    label-liftable = rw (one-label l, not-silent, mul-one) (pairs (plainPairs b) (omega arith) (holds b h k .lowerIs) (holds b h k .upperIs) (label-lt b l h s))
 
     label-small : mapping (layoutOf b) l < 65536
     label-small =
-        let most : 2 ^ (2 * pairsOf b + 3) ≤ 2 ^ 15 = pow-mono {i = 2 * pairsOf b + 3} {j = 15} (omega arith) in
+        let most : 2 ^ (2 * plainPairs b + 3) ≤ 2 ^ 15 = pow-mono {i = 2 * plainPairs b + 3} {j = 15} (omega arith) in
         rw (one-label l) (omega (arith, label-lt b l h s))
 
-    label-point : layoutPoint (layoutOf b * live (layoutOf b)) (mapping (layoutOf b) l) ≡ pointOf b (bits b l)
+    label-point : layoutPoint (layoutOf b * notSilent (layoutOf b)) (mapping (layoutOf b) l) ≡ pointOf b (bits b l)
     label-point =
-        rw (one-label l, live-layout, mul-one)
-        (pairs-point (layoutOf b) (mappingLabel b l) (pairsOf b) (omega arith) upper-layout ∙ sym (point-word b l h k s))
+        rw (one-label l, not-silent, mul-one)
+        (pairs-point (layoutOf b) (mappingLabel b l) (plainPairs b) (omega arith) (holds b h k .upperIs) ∙ sym (point-word b l h k s))
 
 -- no product of the steps is too large
 pub record StepsFit (s l : ℕ) : Type 0 where
   pub both : bitAnd (s / 32768) (s / 128 % 2) ≤ 1
   pub ownFits : own s l < 65536
   pub mappingFits : mapping s l < 65536
-  pub layoutFits : s * live s < 65536
-  pub liftable : Liftable (s * live s) (mapping s l)
+  pub layoutFits : s * notSilent s < 65536
+  pub liftable : Liftable (s * notSilent s) (mapping s l)
 
 pub mappable-fits : (s l : ℕ) → s < 65536 → l < 65536 → Mappable s l → StepsFit s l
 mappable-fits s l h k m =
-    let a : l * live s ≤ l * 1 = mul-le-mul-left l (omega arith) in
-    let b : s * live s ≤ s * 1 = mul-le-mul-left s (omega arith) in
+    let a : l * notSilent s ≤ l * 1 = mul-le-mul-left l (omega arith) in
+    let b : s * notSilent s ≤ s * 1 = mul-le-mul-left s (omega arith) in
     record {
       both = omega (arith, and-le-l (s / 32768) (s / 128 % 2));
       ownFits = omega arith;
@@ -258,11 +244,11 @@ mappable-fits s l h k m =
       liftable = of m .1;
     }
   where
-    of : Mappable s l → (mapping s l < 65536) × Liftable (s * live s) (mapping s l)
+    of : Mappable s l → (mapping s l < 65536) × Liftable (s * notSilent s) (mapping s l)
     of (label b f t e i) = rw e (label-small b f t l i, label-liftable b f t l i)
     of (silent e) = rw e (omega arith, none refl refl)
 
-pub maps-to : (s l : ℕ) → MapsTo s l (layoutPoint (s * live s) (mapping s l))
+pub maps-to : (s l : ℕ) → MapsTo s l (layoutPoint (s * notSilent s) (mapping s l))
 maps-to s l =
     record {
       tone = λ b h k e i. rw e (label-point b h k l i);

@@ -21,7 +21,7 @@ use Rattle.g9932.proofs.Coordinates.{three, five, coords, axisBits-pos, coords-
 use Rattle.g9932.proofs.Constellations.{point-coords}
 use Rattle.constellation.proofs.Lanes.{twice}
 use Rattle.constellation.proofs.Sizes.{own-bits, word-lt, bits-lt, half-le}
-use Rattle.constellation.specs.Widened.{pairs, topFive, topFour, widened, wordOf, xBits, yBits, axis, signWeight}
+use Rattle.constellation.specs.Widened.{plainPairs, topFive, topFour, widenedLabel, labelWord, xBits, yBits, coordinateOf, signWeight}
 
 -- two functions of numbers agree below n, by a test of all of them
 pub rule : (f g : ℕ → ℕ) (n : ℕ) → first (λ k. not (eqb (f k) (g k))) n ≡ Nothing → (k : ℕ) → k < n → f k ≡ g k
@@ -47,11 +47,11 @@ axis-cons : (k e : ℕ) (a : Bool) (xs : List Bool) → 1 ≤ length xs → Axis
 unfolding num
 axis-cons k e a xs h ih = rw (sign-cons a xs h, twice-sign (signBit xs) (length xs)) (omega (arith, pow-suc 2 k))
 
-axis-value : (k e : ℕ) (xs : List Bool) → 1 ≤ length xs → Axis k xs e → twosComplement (true ∷ xs) ≡ axis (signWeight k) e
+axis-value : (k e : ℕ) (xs : List Bool) → 1 ≤ length xs → Axis k xs e → twosComplement (true ∷ xs) ≡ coordinateOf (signWeight k) e
 unfolding num weight twosComplement
 axis-value k e xs h ih = go (signBit xs) refl ih
   where
-    go : (s : Bool) → signBit xs ≡ s → 2 * 2 ^ k + num xs ≡ e + cond s (2 ^ length xs) 0 → twosComplement (true ∷ xs) ≡ axis (signWeight k) e
+    go : (s : Bool) → signBit xs ≡ s → 2 * 2 ^ k + num xs ≡ e + cond s (2 ^ length xs) 0 → twosComplement (true ∷ xs) ≡ coordinateOf (signWeight k) e
     go false p q =
         let v : 1 + 2 * num xs ≡ 2 * e + 1 - signWeight k = omega arith in
         rw (sign-cons true xs h, p, le-ltb (2 * e + 1) (signWeight k) (omega arith)) (ap pos v)
@@ -61,8 +61,8 @@ axis-value k e xs h ih = go (signBit xs) refl ih
 
 -- ---- two bits more
 
-widened-step : (k l : ℕ) → 1 ≤ k → widened (suc k) l ≡ 4 * widened k (l / 2 / 2) + l % 4
-unfolding widened topFive
+widened-step : (k l : ℕ) → 1 ≤ k → widenedLabel (suc k) l ≡ 4 * widenedLabel k (l / 2 / 2) + l % 4
+unfolding widenedLabel topFive
 widened-step zero l h = absurd (omega arith)
 widened-step (suc j) l h =
     let n : 2 + 2 * j ≡ 2 * suc j = omega arith in
@@ -93,31 +93,31 @@ evens-cons b (c ∷ l) = refl
 
 -- the coordinates of a label of b bits, by its word of n bits
 pub record Worded (b l n : ℕ) : Type 0 where
-  pub x : Axis (pairs b) (coords (bits b l) .xs) (num (odds (bits n (wordOf b l))))
-  pub y : Axis (pairs b) (coords (bits b l) .ys) (num (evens (bits n (wordOf b l))))
+  pub x : Axis (plainPairs b) (coords (bits b l) .xs) (num (odds (bits n (labelWord b l))))
+  pub y : Axis (plainPairs b) (coords (bits b l) .ys) (num (evens (bits n (labelWord b l))))
 
 module _ (b l : ℕ) where
   xLeft : ℕ
-  xLeft = 2 * 2 ^ pairs b + num (coords (bits b l) .xs)
+  xLeft = 2 * 2 ^ plainPairs b + num (coords (bits b l) .xs)
 
   xRight : ℕ
-  xRight = num (odds (bits (2 * pairs b + 4) (wordOf b l))) + sign (coords (bits b l) .xs)
+  xRight = num (odds (bits (2 * plainPairs b + 4) (labelWord b l))) + sign (coords (bits b l) .xs)
 
   yLeft : ℕ
-  yLeft = 2 * 2 ^ pairs b + num (coords (bits b l) .ys)
+  yLeft = 2 * 2 ^ plainPairs b + num (coords (bits b l) .ys)
 
   yRight : ℕ
-  yRight = num (evens (bits (2 * pairs b + 4) (wordOf b l))) + sign (coords (bits b l) .ys)
+  yRight = num (evens (bits (2 * plainPairs b + 4) (labelWord b l))) + sign (coords (bits b l) .ys)
 
 few : (b : ℕ) → first (λ l. not (eqb (xLeft b l) (xRight b l))) (2 ^ b) ≡ Nothing → first (λ l. not (eqb (yLeft b l) (yRight b l))) (2 ^ b) ≡ Nothing
-    → (l n : ℕ) → l < 2 ^ b → n ≡ 2 * pairs b + 4 → Worded b l n
+    → (l n : ℕ) → l < 2 ^ b → n ≡ 2 * plainPairs b + 4 → Worded b l n
 unfolding xLeft xRight yLeft yRight
 few b tx ty l n h e = rw e (record { x = rule (xLeft b) (xRight b) (2 ^ b) tx l h; y = rule (yLeft b) (yRight b) (2 ^ b) ty l h })
 
-word-more : (b l : ℕ) → 4 ≤ b → wordOf (suc (suc b)) l ≡ 4 * wordOf b (l / 2 / 2) + l % 4
+word-more : (b l : ℕ) → 4 ≤ b → labelWord (suc (suc b)) l ≡ 4 * labelWord b (l / 2 / 2) + l % 4
 word-more b l h =
-    let e : pairs (suc (suc b)) ≡ suc (pairs b) = omega arith in
-    rw (e, le-ltb (suc (suc b)) 2 (omega arith), le-ltb b 2 (omega arith)) (widened-step (pairs b) l (omega arith))
+    let e : plainPairs (suc (suc b)) ≡ suc (plainPairs b) = omega arith in
+    rw (e, le-ltb (suc (suc b)) 2 (omega arith), le-ltb b 2 (omega arith)) (widened-step (plainPairs b) l (omega arith))
 
 word-odds : (n w l : ℕ) → num (odds (bits (suc (suc n)) (4 * w + l % 4))) ≡ weight (odd (l / 2)) + 2 * num (odds (bits n w))
 unfolding num
@@ -139,28 +139,28 @@ unfolding bits
 more b l n r =
     record {
       x = rw (ap (λ (v : ℕ). num (odds (bits (suc (suc n)) v))) word ∙ word-odds n w l, e)
-          (axis-cons (pairs c) (num (odds (bits n w))) (odd (l / 2)) (coords (bits c (l / 2 / 2)) .xs) (k .0) (r .x));
+          (axis-cons (plainPairs c) (num (odds (bits n w))) (odd (l / 2)) (coords (bits c (l / 2 / 2)) .xs) (k .0) (r .x));
       y = rw (ap (λ (v : ℕ). num (evens (bits (suc (suc n)) v))) word ∙ word-evens n w l, e)
-          (axis-cons (pairs c) (num (evens (bits n w))) (odd l) (coords (bits c (l / 2 / 2)) .ys) (k .1) (r .y));
+          (axis-cons (plainPairs c) (num (evens (bits n w))) (odd l) (coords (bits c (l / 2 / 2)) .ys) (k .1) (r .y));
     }
   where
     c : ℕ
     c = suc (suc (suc (suc b)))
 
     w : ℕ
-    w = wordOf c (l / 2 / 2)
+    w = labelWord c (l / 2 / 2)
 
     k : (1 ≤ length (coords (bits c (l / 2 / 2)) .xs)) × (1 ≤ length (coords (bits c (l / 2 / 2)) .ys))
     k = some-bits c (l / 2 / 2) (omega arith)
 
-    e : pairs (suc (suc c)) ≡ suc (pairs c)
+    e : plainPairs (suc (suc c)) ≡ suc (plainPairs c)
     e = omega arith
 
-    word : wordOf (suc (suc c)) l ≡ 4 * w + l % 4
+    word : labelWord (suc (suc c)) l ≡ 4 * w + l % 4
     word = word-more c l (omega arith)
 
-worded : (b l n : ℕ) → 1 ≤ b → l < 2 ^ b → n ≡ 2 * pairs b + 4 → Worded b l n
-unfolding xLeft xRight yLeft yRight first weight num odd bits topFive topFour widened three five
+worded : (b l n : ℕ) → 1 ≤ b → l < 2 ^ b → n ≡ 2 * plainPairs b + 4 → Worded b l n
+unfolding xLeft xRight yLeft yRight first weight num odd bits topFive topFour widenedLabel three five
 worded zero l n k h e = absurd (omega arith)
 worded (suc zero) l n k h e = few 1 refl refl l n h e
 worded (suc (suc zero)) l n k h e = few 2 refl refl l n h e
@@ -175,26 +175,26 @@ worded (suc (suc (suc (suc (suc (suc b)))))) l (suc (suc n)) k h e =
 
 -- The point of a label has the coordinates that its word gives.
 pub point-word : (b l : ℕ) → 1 ≤ b → b ≤ 15 → l < 2 ^ b
-    → pointOf b (bits b l) ≡ point (axis (signWeight (pairs b)) (xBits (wordOf b l))) (axis (signWeight (pairs b)) (yBits (wordOf b l)))
+    → pointOf b (bits b l) ≡ point (coordinateOf (signWeight (plainPairs b)) (xBits (labelWord b l))) (coordinateOf (signWeight (plainPairs b)) (yBits (labelWord b l)))
 point-word b l h k s =
-    let r = worded b l (2 * pairs b + 4) h s refl in
+    let r = worded b l (2 * plainPairs b + 4) h s refl in
     let some = some-bits b l h in
-    let own = own-bits (pairs b) (wordOf b l) (omega arith) (word-lt b l h s) in
-    let x = axis-value (pairs b) (num (odds (bits (2 * pairs b + 4) (wordOf b l)))) (coords (bits b l) .xs) (some .0) (r .x) in
-    let y = axis-value (pairs b) (num (evens (bits (2 * pairs b + 4) (wordOf b l)))) (coords (bits b l) .ys) (some .1) (r .y) in
+    let own = own-bits (plainPairs b) (labelWord b l) (omega arith) (word-lt b l h s) in
+    let x = axis-value (plainPairs b) (num (odds (bits (2 * plainPairs b + 4) (labelWord b l)))) (coords (bits b l) .xs) (some .0) (r .x) in
+    let y = axis-value (plainPairs b) (num (evens (bits (2 * plainPairs b + 4) (labelWord b l)))) (coords (bits b l) .ys) (some .1) (r .y) in
     let p : pointOf b (bits b l) ≡ point (twosComplement (true ∷ coords (bits b l) .xs)) (twosComplement (true ∷ coords (bits b l) .ys)) =
     rw (length-bits b l) at (point-coords (bits b l)) in
-    p ∙ ap₂ point (x ∙ ap (axis (signWeight (pairs b))) (sym (own .0))) (y ∙ ap (axis (signWeight (pairs b))) (sym (own .1)))
+    p ∙ ap₂ point (x ∙ ap (coordinateOf (signWeight (plainPairs b))) (sym (own .0))) (y ∙ ap (coordinateOf (signWeight (plainPairs b))) (sym (own .1)))
 
 -- both parts of a label's word, from one number
 pub record Parts (b l both : ℕ) : Type 0 where
-  pub x : both / 65536 ≡ xBits (wordOf b l)
-  pub y : both % 65536 ≡ yBits (wordOf b l)
+  pub x : both / 65536 ≡ xBits (labelWord b l)
+  pub y : both % 65536 ≡ yBits (labelWord b l)
   pub xSmall : both / 65536 < 256
   pub ySmall : both % 65536 < 256
 
-pub parts-law : (b l both : ℕ) → 1 ≤ b → b ≤ 15 → l < 2 ^ b → both ≡ 65536 * xBits (wordOf b l) + yBits (wordOf b l) → Parts b l both
+pub parts-law : (b l both : ℕ) → 1 ≤ b → b ≤ 15 → l < 2 ^ b → both ≡ 65536 * xBits (labelWord b l) + yBits (labelWord b l) → Parts b l both
 parts-law b l both h k s e =
-    let u = bits-lt (pairs b) (wordOf b l) (omega arith) (word-lt b l h s) in
-    let m = half-le (pairs b) (omega arith) in
+    let u = bits-lt (plainPairs b) (labelWord b l) (omega arith) (word-lt b l h s) in
+    let m = half-le (plainPairs b) (omega arith) in
     record { x = omega arith; y = omega arith; xSmall = omega arith; ySmall = omega arith }

@@ -16,12 +16,12 @@ use Rattle.g9932.specs.Points.{pointOf, labelOf, isLabel, labelBits}
 use Rattle.g9932.specs.Answers.{labelFound, toneDone, toneRefused}
 use Rattle.g9932.proofs.Words.{bits-num, num-bits, num-lt, length-bits, weight-le}
 use Rattle.g9932.proofs.Labels.{label-point, label-back}
-use Rattle.constellation.specs.Widened.{pairs, mappingLabel, wordOf, xBits, yBits, interleaved, signWeight, axis}
-use Rattle.constellation.specs.Reading.{FoundLabelIs, Steps, Narrowed, ownLabel, topSix, inGrid}
+use Rattle.constellation.specs.Widened.{plainPairs, mappingLabel, labelWord, xBits, yBits, interleaved, signWeight, coordinateOf}
+use Rattle.constellation.specs.Reading.{FoundLabelIs, RaisedCoordinate, NarrowedWord, ownLabel, topSix, inGrid}
 use Rattle.constellation.proofs.Grid.{grid-word, word-grid}
 use Rattle.constellation.proofs.Halves.{interleaved-apart, deinterleave-interleaved}
 use Rattle.constellation.proofs.Mapping.{point-word}
-use Rattle.constellation.proofs.Signed.{cut-steps}
+use Rattle.constellation.proofs.Signed.{raised-bits}
 use Rattle.constellation.proofs.Sizes.{label-lt, word-lt, word-16, bits-lt, half-le}
 
 -- ---- the word of two coordinates' bits
@@ -63,35 +63,35 @@ own-label b m h s = go (ltb b 2) refl
 -- ---- the label that is found
 
 module _ (b : ℕ) (x y : ℤ) (u v w n : ℕ) (low : 1 ≤ b) (high : b ≤ 15)
-    (ux : Steps (signWeight (pairs b)) x u) (vy : Steps (signWeight (pairs b)) y v)
-    (word : w ≡ num (interleaved (bits 8 (u / 2 % signWeight (pairs b))) (bits 8 (v / 2 % signWeight (pairs b))))) (back : Narrowed (pairs b) w n) where
+    (ux : RaisedCoordinate (signWeight (plainPairs b)) x u) (vy : RaisedCoordinate (signWeight (plainPairs b)) y v)
+    (word : w ≡ num (interleaved (bits 8 (u / 2 % signWeight (plainPairs b))) (bits 8 (v / 2 % signWeight (plainPairs b))))) (back : NarrowedWord (plainPairs b) w n) where
   abbrev h : ℕ
-  h = signWeight (pairs b)
+  h = signWeight (plainPairs b)
 
   -- its word is a label's, and its coordinates have the bits of the word
   unfoldable pub test : Bool
-  test = inGrid b (topSix (pairs b) w) && (eqb (2 * (u / 2 % h) + 65536) u && eqb (2 * (v / 2 % h) + 65536) v)
+  test = inGrid b (topSix (plainPairs b) w) && (eqb (2 * (u / 2 % h) + 65536) u && eqb (2 * (v / 2 % h) + 65536) v)
 
-  few : pairs b ≤ 6
+  few : plainPairs b ≤ 6
   few = omega arith
 
   -- the point is that of the label left
   kept : test ≡ true → labelOf b (point x y) ≡ some (bits b (ownLabel b n))
   unfolding test
   kept e =
-      let a = and-eq-true-iff (inGrid b (topSix (pairs b) w)) (eqb (2 * (u / 2 % h) + 65536) u && eqb (2 * (v / 2 % h) + 65536) v) .0 e in
+      let a = and-eq-true-iff (inGrid b (topSix (plainPairs b) w)) (eqb (2 * (u / 2 % h) + 65536) u && eqb (2 * (v / 2 % h) + 65536) v) .0 e in
       let c = and-eq-true-iff (eqb (2 * (u / 2 % h) + 65536) u) (eqb (2 * (v / 2 % h) + 65536) v) .0 (a .1) in
-      let gx : x ≡ axis h (u / 2 % h) = ux .back (u / 2 % h) (sym (eqb-true (2 * (u / 2 % h) + 65536) u (c .0))) in
-      let gy : y ≡ axis h (v / 2 % h) = vy .back (v / 2 % h) (sym (eqb-true (2 * (v / 2 % h) + 65536) v (c .1))) in
+      let gx : x ≡ coordinateOf h (u / 2 % h) = ux .back (u / 2 % h) (sym (eqb-true (2 * (u / 2 % h) + 65536) u (c .0))) in
+      let gy : y ≡ coordinateOf h (v / 2 % h) = vy .back (v / 2 % h) (sym (eqb-true (2 * (v / 2 % h) + 65536) v (c .1))) in
       let g = grid-word b w (a .0) in
       let m = g .0 in
       let own : ownLabel b n ≡ m = ap (ownLabel b) (back (mappingLabel b m) (label-lt b m low (g .1)) (sym (g .2))) ∙ own-label b m low (g .1) in
-      let l = half-le (pairs b) few in
-      let z : 0 < h = omega (arith, pow-pos (pairs b)) in
+      let l = half-le (plainPairs b) few in
+      let z : 0 < h = omega (arith, pow-pos (plainPairs b)) in
       let parts = deinterleave-interleaved (u / 2 % h) (v / 2 % h) (omega (arith, mod-lt (u / 2) z)) (omega (arith, mod-lt (v / 2) z)) in
-      let fx : xBits (wordOf b m) ≡ u / 2 % h = ap xBits (g .2 ∙ word) ∙ parts .0 in
-      let fy : yBits (wordOf b m) ≡ v / 2 % h = ap yBits (g .2 ∙ word) ∙ parts .1 in
-      let q : pointOf b (bits b m) ≡ point x y = point-word b m low high (g .1) ∙ ap₂ point (ap (axis h) fx ∙ sym gx) (ap (axis h) fy ∙ sym gy) in
+      let fx : xBits (labelWord b m) ≡ u / 2 % h = ap xBits (g .2 ∙ word) ∙ parts .0 in
+      let fy : yBits (labelWord b m) ≡ v / 2 % h = ap yBits (g .2 ∙ word) ∙ parts .1 in
+      let q : pointOf b (bits b m) ≡ point x y = point-word b m low high (g .1) ∙ ap₂ point (ap (coordinateOf h) fx ∙ sym gx) (ap (coordinateOf h) fy ∙ sym gy) in
       rw own (rw q at (label-point b (bits b m) (length-bits b m)))
 
   -- a point's label is found
@@ -104,14 +104,14 @@ module _ (b : ℕ) (x y : ℤ) (u v w n : ℕ) (low : 1 ≤ b) (high : b ≤ 15)
       let same : bits b m ≡ labelBits (labelOf b (point x y)) = rw (r .0) at (bits-num (labelBits (labelOf b (point x y)))) in
       let p = sym (r .1) ∙ ap (pointOf b) (sym same) ∙ point-word b m low high s in
       let t = word-lt b m low s in
-      let a = bits-lt (pairs b) (wordOf b m) few t in
-      let gx : u ≡ 2 * xBits (wordOf b m) + 65536 = ux .to (xBits (wordOf b m)) (ap (λ (q : Point). q .px) p) in
-      let gy : v ≡ 2 * yBits (wordOf b m) + 65536 = vy .to (yBits (wordOf b m)) (ap (λ (q : Point). q .py) p) in
-      let fx : u / 2 % h ≡ xBits (wordOf b m) = ap (λ (i : ℕ). i / 2 % h) gx ∙ cut-steps (pairs b) (xBits (wordOf b m)) few (a .0) in
-      let fy : v / 2 % h ≡ yBits (wordOf b m) = ap (λ (i : ℕ). i / 2 % h) gy ∙ cut-steps (pairs b) (yBits (wordOf b m)) few (a .1) in
-      let fw : w ≡ wordOf b m = word ∙ rw (fx, fy) (interleaved-apart (wordOf b m) (word-16 (pairs b) (wordOf b m) few t)) in
+      let a = bits-lt (plainPairs b) (labelWord b m) few t in
+      let gx : u ≡ 2 * xBits (labelWord b m) + 65536 = ux .to (xBits (labelWord b m)) (ap (λ (q : Point). q .px) p) in
+      let gy : v ≡ 2 * yBits (labelWord b m) + 65536 = vy .to (yBits (labelWord b m)) (ap (λ (q : Point). q .py) p) in
+      let fx : u / 2 % h ≡ xBits (labelWord b m) = ap (λ (i : ℕ). i / 2 % h) gx ∙ raised-bits (plainPairs b) (xBits (labelWord b m)) few (a .0) in
+      let fy : v / 2 % h ≡ yBits (labelWord b m) = ap (λ (i : ℕ). i / 2 % h) gy ∙ raised-bits (plainPairs b) (yBits (labelWord b m)) few (a .1) in
+      let fw : w ≡ labelWord b m = word ∙ rw (fx, fy) (interleaved-apart (labelWord b m) (word-16 (plainPairs b) (labelWord b m) few t)) in
       let fl : ownLabel b n ≡ m = ap (ownLabel b) (back (mappingLabel b m) (label-lt b m low s) fw) ∙ own-label b m low s in
-      let g : inGrid b (topSix (pairs b) w) ≡ true = ap (λ (i : ℕ). inGrid b (topSix (pairs b) i)) fw ∙ word-grid b m s in
+      let g : inGrid b (topSix (plainPairs b) w) ≡ true = ap (λ (i : ℕ). inGrid b (topSix (plainPairs b) i)) fw ∙ word-grid b m s in
       let tx = eq-eqb (2 * (u / 2 % h) + 65536) u (rw fx (sym gx)) in
       let ty = eq-eqb (2 * (v / 2 % h) + 65536) v (rw fy (sym gy)) in
       (rw (g, tx, ty), fl)

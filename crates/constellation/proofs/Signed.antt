@@ -1,4 +1,4 @@
--- Coordinates of sixteen bits: the difference that gives one, and the number of steps from the left end that it stands at.
+-- Coordinates of sixteen bits: the difference that gives one, and its bits, from the coordinate raised.
 use Prim.Native.Nat.{ℕ, zero, suc, _+_, _-_, _*_, _/_, _%_, _^_, _≤_, _<_}
 use mathlib.Core.Bool.{Bool, true, false, cond}
 use mathlib.Core.Path.{_≡_, refl, sym, ap, _∙_}
@@ -14,9 +14,10 @@ use lib.Signed.{mag, nonNeg}
 use mir.Syntax.{w16, w32}
 use mir.Val.{Fits, SFits, toZ, ofZ}
 use mir.ValLaws.{toZ-pos, toZ-ofZ}
-use Rattle.constellation.specs.Widened.{signWeight, axis}
-use Rattle.constellation.specs.Reading.{Steps}
-use Rattle.constellation.specs.MapByLayout.{scaled}
+use Rattle.g9932.proofs.TwosComplement.{pos-inj}
+use Rattle.constellation.specs.Widened.{signWeight, coordinateOf}
+use Rattle.constellation.specs.Reading.{RaisedCoordinate}
+use Rattle.constellation.specs.MapByLayout.{scaledCoordinate}
 use Rattle.constellation.specs.DemapByLayout.{Power, OnAxis}
 use Rattle.constellation.proofs.Sizes.{half-le}
 
@@ -26,16 +27,16 @@ sub-pos : (a h : ℕ) → 1 ≤ h → pos a -ℤ pos h ≡ subℕ a h
 sub-pos a zero p = absurd (omega arith)
 sub-pos a (suc h) p = refl
 
-axis-mag : (h e : ℕ) → h ≤ 256 → e < 256 → mag (axis h e) < 32768
-axis-mag h e p q = go (ltb (2 * e + 1) h)
+coordinate-mag : (h e : ℕ) → h ≤ 256 → e < 256 → mag (coordinateOf h e) < 32768
+coordinate-mag h e p q = go (ltb (2 * e + 1) h)
   where
     go : (c : Bool) → mag (cond c (negsuc (h - suc (2 * e + 1))) (pos (2 * e + 1 - h))) < 32768
     go true = omega arith
     go false = omega arith
 
-pub axis-law : (h e : ℕ) → 1 ≤ h → h ≤ 256 → e < 256 → (toZ w16 (2 * e + 1) -ℤ toZ w16 h ≡ axis h e) × SFits w16 (axis h e)
-axis-law h e o p q =
-    (rw (toZ-pos w16 (2 * e + 1) (omega arith), toZ-pos w16 h (omega arith)) (sub-pos (2 * e + 1) h o), record { sfits = axis-mag h e p q })
+pub coordinate-law : (h e : ℕ) → 1 ≤ h → h ≤ 256 → e < 256 → (toZ w16 (2 * e + 1) -ℤ toZ w16 h ≡ coordinateOf h e) × SFits w16 (coordinateOf h e)
+coordinate-law h e o p q =
+    (rw (toZ-pos w16 (2 * e + 1) (omega arith), toZ-pos w16 h (omega arith)) (sub-pos (2 * e + 1) h o), record { sfits = coordinate-mag h e p q })
 
 -- ---- a coordinate of scaled bits; the one below them is 0 where the tone is silent
 
@@ -45,8 +46,8 @@ scaled-lt m e p q = mul-le-mul {n₁ = e} {m₁ = m} {n₂ = 255} {m₂ = 64} (o
 pub record ScaledIs (m e one : ℕ) : Type 0 where
   pub product : e * m ≤ 16320
   pub small : one ≤ 1
-  pub is : toZ w16 (2 * (e * m / 64) + one) -ℤ toZ w16 (4 * m) ≡ scaled m e
-  pub fits : SFits w16 (scaled m e)
+  pub is : toZ w16 (2 * (e * m / 64) + one) -ℤ toZ w16 (4 * m) ≡ scaledCoordinate m e
+  pub fits : SFits w16 (scaledCoordinate m e)
 
 pub scaled-silent : (m e one : ℕ) → m ≡ 0 → one ≡ 0 → ScaledIs m e one
 scaled-silent m e one z o =
@@ -60,7 +61,7 @@ scaled-silent m e one z o =
 pub scaled-tone : (m e one : ℕ) → (m ≡ 0 → ⊥) → m ≤ 64 → e < 256 → one ≡ 1 → ScaledIs m e one
 scaled-tone m e one h p q o =
     let n = scaled-lt m e q p in
-    let r = axis-law (4 * m) (e * m / 64) (omega arith) (omega arith) (omega arith) in
+    let r = coordinate-law (4 * m) (e * m / 64) (omega arith) (omega arith) (omega arith) in
     let z = ne-eqb m 0 h in
     record { product = n; small = omega arith; is = rw (o, z) (r .0); fits = rw z (r .1) }
 
@@ -113,8 +114,8 @@ raised-by n low high z f =
 pub raised-law : (z : ℤ) → SFits w16 z → RaisedIs 65535 z
 raised-law = raised-by 65535 (omega arith) (omega arith)
 
-axis-raised : (h d : ℕ) → h ≤ 256 → axis h d +ℤ pos 65535 ≡ pos (2 * d + 65536 - h)
-axis-raised h d p = go (ltb (2 * d + 1) h) refl
+coordinate-raised : (h d : ℕ) → h ≤ 256 → coordinateOf h d +ℤ pos 65535 ≡ pos (2 * d + 65536 - h)
+coordinate-raised h d p = go (ltb (2 * d + 1) h) refl
   where
     go : (c : Bool) → ltb (2 * d + 1) h ≡ c → cond c (negsuc (h - suc (2 * d + 1))) (pos (2 * d + 1 - h)) +ℤ pos 65535 ≡ pos (2 * d + 65536 - h)
     go true t =
@@ -126,31 +127,28 @@ axis-raised h d p = go (ltb (2 * d + 1) h) refl
         let n : 2 * d + 1 - h + 65535 ≡ 2 * d + 65536 - h = omega arith in
         ap pos n
 
-pub steps-law : (h r : ℕ) (z : ℤ) → h ≤ 256 → pos r ≡ z +ℤ pos 65535 → Steps h z (r + h)
-steps-law h r z p e =
+pub raised-coordinate : (h r : ℕ) (z : ℤ) → h ≤ 256 → pos r ≡ z +ℤ pos 65535 → RaisedCoordinate h z (r + h)
+raised-coordinate h r z p e =
     record {
       to = λ d g.
-          let n = of-pos r (2 * d + 65536 - h) (e ∙ ap (λ (y : ℤ). y +ℤ pos 65535) g ∙ axis-raised h d p) in
+          let n = pos-inj r (2 * d + 65536 - h) (e ∙ ap (λ (y : ℤ). y +ℤ pos 65535) g ∙ coordinate-raised h d p) in
           omega arith;
       back = λ d g.
           let n : 2 * d + 65536 - h ≡ r = omega arith in
-          let w : z +ℤ pos 65535 ≡ axis h d +ℤ pos 65535 = sym (axis-raised h d p ∙ ap pos n ∙ e) in
-          sym (+ℤ-negℤ-cancel z (pos 65535)) ∙ ap (λ (y : ℤ). y -ℤ pos 65535) w ∙ +ℤ-negℤ-cancel (axis h d) (pos 65535);
+          let w : z +ℤ pos 65535 ≡ coordinateOf h d +ℤ pos 65535 = sym (coordinate-raised h d p ∙ ap pos n ∙ e) in
+          sym (+ℤ-negℤ-cancel z (pos 65535)) ∙ ap (λ (y : ℤ). y -ℤ pos 65535) w ∙ +ℤ-negℤ-cancel (coordinateOf h d) (pos 65535);
     }
-  where
-    of-pos : (a b : ℕ) → pos a ≡ pos b → a ≡ b
-    of-pos a b f = cc
 
--- ---- the steps cut to the width
+-- ---- the bits below the sign bit's weight
 
 half-pow : (k : ℕ) → signWeight k ≡ 2 ^ suc (suc k)
 half-pow k = omega (arith, pow-suc 2 (suc k), pow-suc 2 k)
 
-pub cut-law : (k h n : ℕ) → h ≡ signWeight k → bitAnd n (h - 1) ≡ n % h
-cut-law k h n e = rw (e ∙ half-pow k) (and-mask n (suc (suc k)))
+pub below-weight : (k h n : ℕ) → h ≡ signWeight k → bitAnd n (h - 1) ≡ n % h
+below-weight k h n e = rw (e ∙ half-pow k) (and-mask n (suc (suc k)))
 
-pub cut-steps : (k d : ℕ) → k ≤ 6 → d < signWeight k → (2 * d + 65536) / 2 % signWeight k ≡ d
-cut-steps k d l s =
+pub raised-bits : (k d : ℕ) → k ≤ 6 → d < signWeight k → (2 * d + 65536) / 2 % signWeight k ≡ d
+raised-bits k d l s =
     let u : (2 * d + 65536) / 2 ≡ 2 ^ (13 - k) * 2 ^ suc (suc k) + d = omega (arith, all) in
     rw (u, half-pow k) (digits-mod (2 ^ (13 - k)) (omega (arith, half-pow k)))
   where
@@ -165,19 +163,19 @@ cut-steps k d l s =
 abbrev upped : ℕ → ℕ → ℕ
 upped m u = u / 2 + 2 * m
 
--- an even coordinate is on no axis, so its steps may be any odd number
-abbrev stepsOf : ℕ → ℕ → ℕ
-stepsOf m u = 2 * upped m u + 32768 + (1 - u % 2)
+-- an even coordinate is on no axis, so it may be raised to any odd number
+abbrev raisedOf : ℕ → ℕ → ℕ
+raisedOf m u = 2 * upped m u + 32768 + (1 - u % 2)
 
-steps-16 : (m u : ℕ) (z : ℤ) → 4 * m ≤ 256 → pos u ≡ z +ℤ pos 32768 → Steps (4 * m) z (stepsOf m u)
-steps-16 m u z p e =
+raised-coordinate-16 : (m u : ℕ) (z : ℤ) → 4 * m ≤ 256 → pos u ≡ z +ℤ pos 32768 → RaisedCoordinate (4 * m) z (raisedOf m u)
+raised-coordinate-16 m u z p e =
     record {
       to = λ d g. let n = s .to d g in omega arith;
       back = λ d g. s .back d (omega arith);
     }
   where
-    s : Steps (4 * m) z (u + 32767 + 4 * m)
-    s = steps-law (4 * m) (u + 32767) z p (ap (λ (y : ℤ). y +ℤ pos 32767) e ∙ +ℤ-assoc z (pos 32768) (pos 32767))
+    s : RaisedCoordinate (4 * m) z (u + 32767 + 4 * m)
+    s = raised-coordinate (4 * m) (u + 32767) z p (ap (λ (y : ℤ). y +ℤ pos 32767) e ∙ +ℤ-assoc z (pos 32768) (pos 32767))
 
 same-test : (a b c d : ℕ) → (a ≡ b → c ≡ d) → (c ≡ d → a ≡ b) → eqb a b ≡ eqb c d
 same-test a b c d f g = go (eqb a b) refl
@@ -190,10 +188,10 @@ pub axis-16 : (m u : ℕ) (z : ℤ) → Power m → pos u ≡ z +ℤ pos 32768
     → OnAxis (4 * m) z (bitAnd (upped m u) (4 * m - 1)) (eqb (upped m u - bitAnd (upped m u) (4 * m - 1) + u % 2) 16385)
 axis-16 m u z p r =
     record {
-      steps = stepsOf m u;
-      stepsIs = steps-16 m u z (omega (arith, half-le k (p .1))) r;
+      raised = raisedOf m u;
+      raisedIs = raised-coordinate-16 m u z (omega (arith, half-le k (p .1))) r;
       bitsIs = mask ∙ sym (ap (λ (n : ℕ). n % (4 * m)) whole ∙ add-mul-mod-self-right f (2 ^ (12 - k)) (4 * m));
-      onIs = rw mask (same-test (f - f % (4 * m) + u % 2) 16385 (2 * (f % (4 * m)) + 65536) (stepsOf m u) (λ t. omega (arith, fours)) (λ t. omega (arith, fours)));
+      onIs = rw mask (same-test (f - f % (4 * m) + u % 2) 16385 (2 * (f % (4 * m)) + 65536) (raisedOf m u) (λ t. omega (arith, fours)) (λ t. omega (arith, fours)));
     }
   where
     k : ℕ
@@ -206,7 +204,7 @@ axis-16 m u z p r =
     width = ap (λ (n : ℕ). 4 * n) (p .2)
 
     mask : bitAnd f (4 * m - 1) ≡ f % (4 * m)
-    mask = cut-law k (4 * m) f width
+    mask = below-weight k (4 * m) f width
 
     fourteen : 12 - k + suc (suc k) ≡ 14
     fourteen = omega (arith, p .1)
@@ -214,7 +212,7 @@ axis-16 m u z p r =
     all : 2 ^ (12 - k) * (4 * m) ≡ 16384
     all = rw (width ∙ half-pow k) (sym (pow-add 2 (12 - k) (suc (suc k))) ∙ ap (λ (n : ℕ). 2 ^ n) fourteen)
 
-    whole : stepsOf m u / 2 ≡ f + 2 ^ (12 - k) * (4 * m)
+    whole : raisedOf m u / 2 ≡ f + 2 ^ (12 - k) * (4 * m)
     whole = rw all (omega arith)
 
     -- f without its lower bits is a multiple of 4

@@ -12,7 +12,7 @@ use Rattle.g9932.specs.Bits.{num, odd, bits, first}
 use Rattle.g9932.specs.Points.{evens, odds}
 use Rattle.g9932.proofs.Words.{weight-odd, weight-le}
 use Rattle.g9932.proofs.Search.{first-no}
-use Rattle.constellation.specs.Widened.{pairs, mappingLabel, topFive, topFour, widened, wordOf, signWeight, xBits, yBits}
+use Rattle.constellation.specs.Widened.{plainPairs, mappingLabel, topFive, topFour, widenedLabel, labelWord, signWeight, xBits, yBits}
 
 -- ---- words
 
@@ -25,23 +25,23 @@ pub four-lt : (q : ℕ) → q < 32 → topFour q < 16
 unfolding first topFour
 four-lt q h = leb-false 16 (topFour q) (first-no (λ q. leb 16 (topFour q)) 32 refl q h)
 
-widened-lt : (k l : ℕ) → l < 2 ^ (2 * k + 3) → widened k l < 2 ^ (4 + 2 * k)
-unfolding widened
+widened-lt : (k l : ℕ) → l < 2 ^ (2 * k + 3) → widenedLabel k l < 2 ^ (4 + 2 * k)
+unfolding widenedLabel
 widened-lt k l h =
     rw (pow-add 2 4 (2 * k)) (digits-lt {m = 16} (four-lt (topFive k l) (five-lt k l h)) (mod-lt l (pow-pos (2 * k))))
 
 pub label-16 : (k l : ℕ) → k ≤ 6 → l < 2 ^ (2 * k + 3) → l < 32768
 label-16 k l h s = lt-of-lt-of-le s (pow-mono {i = 2 * k + 3} {j = 15} (omega arith))
 
-pub label-lt : (b l : ℕ) → 1 ≤ b → l < 2 ^ b → mappingLabel b l < 2 ^ (2 * pairs b + 3)
+pub label-lt : (b l : ℕ) → 1 ≤ b → l < 2 ^ b → mappingLabel b l < 2 ^ (2 * plainPairs b + 3)
 label-lt b l h k = go (ltb b 2) refl
   where
-    go : (c : Bool) → ltb b 2 ≡ c → cond c (3 * l) l < 2 ^ (2 * pairs b + 3)
+    go : (c : Bool) → ltb b 2 ≡ c → cond c (3 * l) l < 2 ^ (2 * plainPairs b + 3)
     go true e =
         let one : b ≡ 1 = omega (arith, ltb-true b 2 e) in
         let small : l < 2 ^ 1 = rw one at k in
         rw one (omega arith)
-    go false e = lt-of-lt-of-le k (pow-mono {i = b} {j = 2 * pairs b + 3} (omega (arith, ltb-false b 2 e)))
+    go false e = lt-of-lt-of-le k (pow-mono {i = b} {j = 2 * plainPairs b + 3} (omega (arith, ltb-false b 2 e)))
 
 -- ---- the bits of X and Y
 
@@ -99,8 +99,8 @@ bits-lt k w h s =
 
 -- ---- the word of a label of b bits
 
-pub word-lt : (b l : ℕ) → 1 ≤ b → l < 2 ^ b → wordOf b l < 2 ^ (4 + 2 * pairs b)
-word-lt b l h k = widened-lt (pairs b) (mappingLabel b l) (label-lt b l h k)
+pub word-lt : (b l : ℕ) → 1 ≤ b → l < 2 ^ b → labelWord b l < 2 ^ (4 + 2 * plainPairs b)
+word-lt b l h k = widened-lt (plainPairs b) (mappingLabel b l) (label-lt b l h k)
 
 pub word-16 : (k w : ℕ) → k ≤ 6 → w < 2 ^ (4 + 2 * k) → w < 65536
 word-16 k w h s = lt-of-lt-of-le s (pow-mono {i = 4 + 2 * k} {j = 16} (omega arith))

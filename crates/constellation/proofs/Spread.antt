@@ -13,7 +13,7 @@ use Rattle.g9932.specs.Bits.{weight, num, odd, bits, first}
 use Rattle.g9932.proofs.Search.{first-no}
 use Rattle.g9932.proofs.Words.{length-bits}
 use Rattle.constellation.specs.Widened.{interleaved}
-use Rattle.constellation.specs.DemapByLayout.{spread, spaced, WordUp}
+use Rattle.constellation.specs.DemapByLayout.{spread, spreadByte, LiftedWord}
 use Rattle.constellation.proofs.Lanes.{twice}
 use Rattle.constellation.proofs.Mapping.{rule}
 
@@ -22,26 +22,26 @@ use Rattle.constellation.proofs.Mapping.{rule}
 abbrev moved : ℕ → ℕ → ℕ → ℕ
 moved f m n = bitAnd (bitOr n (n * f % 65536)) m
 
-pub spaced-law : (e : ℕ) → e < 256 → moved 2 0x5555 (moved 4 0x3333 (moved 16 0x0f0f e)) ≡ spaced e
+pub spread-byte : (e : ℕ) → e < 256 → moved 2 0x5555 (moved 4 0x3333 (moved 16 0x0f0f e)) ≡ spreadByte e
 unfolding first weight num odd bits
-spaced-law = rule (λ e. moved 2 0x5555 (moved 4 0x3333 (moved 16 0x0f0f e))) spaced 256 refl
+spread-byte = rule (λ e. moved 2 0x5555 (moved 4 0x3333 (moved 16 0x0f0f e))) spreadByte 256 refl
 
-pub spaced-le : (e : ℕ) → e < 256 → spaced e ≤ 21845
+pub spread-byte-le : (e : ℕ) → e < 256 → spreadByte e ≤ 21845
 unfolding first weight num odd bits
-spaced-le e h = let l = leb-false 21846 (spaced e) (first-no (λ e. leb 21846 (spaced e)) 256 refl e h) in omega arith
+spread-byte-le e h = let l = leb-false 21846 (spreadByte e) (first-no (λ e. leb 21846 (spreadByte e)) 256 refl e h) in omega arith
 
-spaced-twice : (e : ℕ) → e < 128 → spaced (2 * e) ≡ 4 * spaced e
+spread-byte-twice : (e : ℕ) → e < 128 → spreadByte (2 * e) ≡ 4 * spreadByte e
 unfolding first weight num odd bits
-spaced-twice = rule (λ e. spaced (2 * e)) (λ e. 4 * spaced e) 128 refl
+spread-byte-twice = rule (λ e. spreadByte (2 * e)) (λ e. 4 * spreadByte e) 128 refl
 
-spaced-up : (j e : ℕ) → e * 2 ^ j < 256 → spaced (e * 2 ^ j) ≡ spaced e * 2 ^ (2 * j)
-spaced-up zero e h = let n : e * 2 ^ 0 ≡ e = omega arith in rw n (omega arith)
-spaced-up (suc j) e h =
+spread-byte-up : (j e : ℕ) → e * 2 ^ j < 256 → spreadByte (e * 2 ^ j) ≡ spreadByte e * 2 ^ (2 * j)
+spread-byte-up zero e h = let n : e * 2 ^ 0 ≡ e = omega arith in rw n (omega arith)
+spread-byte-up (suc j) e h =
     let n : 2 * suc j ≡ suc (suc (2 * j)) = omega arith in
     let d = twice e j in
-    let s = spaced-twice (e * 2 ^ j) (omega arith) in
-    let i = spaced-up j e (omega arith) in
-    rw (d, n) (omega (arith, twice (spaced e) (suc (2 * j)), twice (spaced e) (2 * j)))
+    let s = spread-byte-twice (e * 2 ^ j) (omega arith) in
+    let i = spread-byte-up j e (omega arith) in
+    rw (d, n) (omega (arith, twice (spreadByte e) (suc (2 * j)), twice (spreadByte e) (2 * j)))
 
 -- ---- two of them in turn
 
@@ -52,10 +52,10 @@ interleaved-spread [] (y ∷ ys) h = absurd (omega arith)
 interleaved-spread (x ∷ xs) [] h = absurd (omega arith)
 interleaved-spread (x ∷ xs) (y ∷ ys) h = let r = interleaved-spread xs ys (omega arith) in omega arith
 
-pub word-up : (c x y : ℕ) → x * c < 256 → y * c < 256 → WordUp c x y (2 * spaced (x * c) + spaced (y * c))
-word-up c x y hx hy j e =
+pub lifted-word : (c x y : ℕ) → x * c < 256 → y * c < 256 → LiftedWord c x y (2 * spreadByte (x * c) + spreadByte (y * c))
+lifted-word c x y hx hy j e =
     let p = 2 ^ (2 * j) in
-    let ex : spaced (x * c) ≡ spaced x * p = rw e (spaced-up j x (rw e at hx)) in
-    let ey : spaced (y * c) ≡ spaced y * p = rw e (spaced-up j y (rw e at hy)) in
+    let ex : spreadByte (x * c) ≡ spreadByte x * p = rw e (spread-byte-up j x (rw e at hx)) in
+    let ey : spreadByte (y * c) ≡ spreadByte y * p = rw e (spread-byte-up j y (rw e at hy)) in
     let w = interleaved-spread (bits 8 x) (bits 8 y) (length-bits 8 x ∙ sym (length-bits 8 y)) in
-    rw (ex, ey, w) (omega (arith, add-mul (2 * spaced x) (spaced y) p, mul-assoc 2 (spaced x) p))
+    rw (ex, ey, w) (omega (arith, add-mul (2 * spreadByte x) (spreadByte y) p, mul-assoc 2 (spreadByte x) p))

@@ -8,7 +8,7 @@ use lib.Bits.{bitAnd, bitOr, bitXor}
 use lib.Dec.{eqb, ltb, leb}
 use Rattle.g9932.specs.Bits.{first}
 use Rattle.g9932.proofs.Search.{first-no}
-use Rattle.constellation.specs.Widened.{topFive, topFour, widened}
+use Rattle.constellation.specs.Widened.{topFive, topFour, widenedLabel}
 use Rattle.constellation.specs.Reading.{inGrid}
 use Rattle.constellation.specs.Layouts.{layoutOf}
 use Rattle.constellation.specs.DemapByLayout.{TopsBy}
@@ -90,7 +90,7 @@ abbrev inGridAt : ℕ → Bool
 inGridAt n = inGrid (suc (n / 64)) (sixAt (suc (n / 64)) (n % 64))
 
 grid-test : (n : ℕ) → n < 960 → gridAt n ≡ inGridAt n
-unfolding first topFive topFour widened inGrid
+unfolding first topFive topFour widenedLabel inGrid
 grid-test = bit-rule gridAt inGridAt 960 refl
 
 grid-is : (b s : ℕ) → 1 ≤ b → b ≤ 15 → s < 64 → (b < 4 → s % 4 ≡ 0) → grid b s ≡ inGrid b s
@@ -107,7 +107,7 @@ grid-is (suc j) s l m h z =
 pub tops-law : (layout s x y : ℕ) → s < 64 → x ≡ xNear layout s → y ≡ yNear layout s → TopsBy layout s (eqb (off layout s x y) 0) (three s)
 tops-law layout s x y h ex ey =
     record {
-      few = three-few s h;
+      small = three-few s h;
       threeIs = λ q l e. three-four s h ∙ ap (λ (n : ℕ). three (4 * n)) (sym e) ∙ three-back q l;
       onIs = λ b l m e z. rw (ex, ey, e) (grid-is b s l m h z);
     }

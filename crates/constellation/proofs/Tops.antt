@@ -9,8 +9,8 @@ use lib.Dec.{eqb}
 use lib.Pow.{pow-pos, split, high, low, shr-shr, shl-exact}
 use Rattle.g9932.specs.Bits.{first}
 use Rattle.g9932.specs.declared.Found.the-variants.{Nothing}
-use Rattle.constellation.specs.Widened.{topFive, topFour, widened}
-use Rattle.constellation.specs.Reading.{Narrowed, topSix}
+use Rattle.constellation.specs.Widened.{topFive, topFour, widenedLabel}
+use Rattle.constellation.specs.Reading.{NarrowedWord, topSix}
 use Rattle.constellation.proofs.Mapping.{rule}
 use Rattle.constellation.proofs.Sizes.{five-lt, four-lt}
 
@@ -43,8 +43,8 @@ xor-twice : (q : ℕ) → q < 32 → bitXor (q / 4) (bitXor (q / 4) (topFour q))
 unfolding first topFour
 xor-twice = rule (λ q. bitXor (q / 4) (bitXor (q / 4) (topFour q))) topFour 32 refl
 
-pub widened-law : (k l d : ℕ) → k ≤ 6 → l < 2 ^ (2 * k + 3) → d ≡ bitXor (topFive k l / 4) (topFour (topFive k l)) → bitXor l (d * 2 ^ (2 * k) % 2 ^ 32) ≡ widened k l
-unfolding widened
+pub widened-law : (k l d : ℕ) → k ≤ 6 → l < 2 ^ (2 * k + 3) → d ≡ bitXor (topFive k l / 4) (topFour (topFive k l)) → bitXor l (d * 2 ^ (2 * k) % 2 ^ 32) ≡ widenedLabel k l
+unfolding widenedLabel
 widened-law k l d h s e =
     let q = five-lt k l s in
     let t : d < 16 = rw e (xor-lt 4 (topFive k l / 4) (topFour (topFive k l)) (omega arith) (four-lt (topFive k l) q)) in
@@ -57,8 +57,8 @@ six-four k w =
     shr-shr (4 * w) (2 * k) 2 ∙ ap (λ (n : ℕ). 4 * w / 2 ^ n) (add-comm (2 * k) 2) ∙ sym (shr-shr (4 * w) 2 (2 * k)) ∙ ap (λ (n : ℕ). n / 2 ^ (2 * k)) f
 
 -- the top three bits of the label, by the top four of its word, leave one label
-pub narrowed-top : (k w t : ℕ) → ((q : ℕ) → q < 32 → topFour q ≡ topSix k w / 4 → t ≡ q / 4) → Narrowed k w (t * 2 ^ (2 * k) + w % 2 ^ (2 * k))
-unfolding widened
+pub narrowed-top : (k w t : ℕ) → ((q : ℕ) → q < 32 → topFour q ≡ topSix k w / 4 → t ≡ q / 4) → NarrowedWord k w (t * 2 ^ (2 * k) + w % 2 ^ (2 * k))
+unfolding widenedLabel
 narrowed-top k w t back m l e =
     let r = mod-lt m (pow-pos (2 * k)) in
     let hi : w / 2 ^ (2 * k) ≡ topFour (topFive k m) = rw e (high (topFour (topFive k m)) (2 * k) r) in
@@ -68,7 +68,7 @@ narrowed-top k w t back m l e =
 
 -- a table by the top four bits gives the top three back
 pub narrowed-law : (table : ℕ) → first (λ q. not (eqb (bitXor (topFour q) (table / 2 ^ (4 * topFour q) % 16)) (q / 4))) 32 ≡ Nothing
-    → (k w s : ℕ) → k ≤ 6 → s ≡ topSix k w → Narrowed k w (bitXor w (table / 2 ^ (4 * (s / 4)) % 16 * 2 ^ (2 * k) % 2 ^ 32))
+    → (k w s : ℕ) → k ≤ 6 → s ≡ topSix k w → NarrowedWord k w (bitXor w (table / 2 ^ (4 * (s / 4)) % 16 * 2 ^ (2 * k) % 2 ^ 32))
 narrowed-law table test k w s h six =
     let back = rule (λ q. bitXor (topFour q) (table / 2 ^ (4 * topFour q) % 16)) (λ q. q / 4) 32 test in
     rw (six, xor-shl k w (table / 2 ^ (4 * (topSix k w / 4)) % 16) h (omega arith), ← six-four k w)

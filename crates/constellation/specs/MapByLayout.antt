@@ -9,8 +9,8 @@ use Rattle.g9932.specs.Points.{pointOf}
 use Rattle.g9932.specs.Sizes.{Point, point, origin}
 use Rattle.g9932.specs.declared.Found.{Found}
 use Rattle.g9932.specs.declared.Found.the-variants.{At, Nothing}
-use Rattle.constellation.specs.Layouts.{layoutOf, silentLayout}
-use Rattle.constellation.specs.Widened.{topFour, widened, xBits, yBits, signWeight, axis}
+use Rattle.constellation.specs.Layouts.{lower, upper, layoutOf, silentLayout}
+use Rattle.constellation.specs.Widened.{topFour, widenedLabel, xBits, yBits, signWeight, coordinateOf}
 
 -- the label goes with the layout
 pub data Mappable (s l : ℕ) : Type 0 where
@@ -24,13 +24,6 @@ pub record MapsTo (s l : ℕ) (p : Point) : Type 0 where
 
 -- ---- the steps of the code: a mapping label, with the layout, or with 0 for a silent tone
 
--- the two powers that a layout holds
-abbrev pub lower : ℕ → ℕ
-lower s = s % 128
-
-abbrev pub upper : ℕ → ℕ
-upper s = s / 256 % 128
-
 -- the label has three bits above k pairs, or the tone is silent
 pub data Liftable (s l : ℕ) : Type 0 where
   pairs : (k : ℕ) → k ≤ 6 → lower s ≡ 2 ^ (6 - k) → upper s ≡ 2 ^ k → l < 2 ^ (2 * k + 3) → Liftable s l
@@ -38,7 +31,7 @@ pub data Liftable (s l : ℕ) : Type 0 where
 
 -- the point of a label with k pairs
 abbrev pub pairsPoint : ℕ → ℕ → Point
-pairsPoint k l = point (axis (signWeight k) (xBits (widened k l))) (axis (signWeight k) (yBits (widened k l)))
+pairsPoint k l = point (coordinateOf (signWeight k) (xBits (widenedLabel k l))) (coordinateOf (signWeight k) (yBits (widenedLabel k l)))
 
 abbrev pub foundPoint : Found → ℕ → Point
 foundPoint (At k) l = pairsPoint k l
@@ -53,9 +46,9 @@ abbrev pub liftedLabel : ℕ → ℕ → ℕ
 liftedLabel m l = 2 * (l * m) + (3 - l % 4) * m / 2
 
 -- the word of a lifted label
-abbrev pub spreadWord : ℕ → ℕ
-spreadWord a = 4096 * topFour (a / 2048) + a / 2 % 4096
+abbrev pub widenedLifted : ℕ → ℕ
+widenedLifted a = 4096 * topFour (a / 2048) + a / 2 % 4096
 
 -- a coordinate of bits at the top of eight, m being 2 to the pairs
-abbrev pub scaled : ℕ → ℕ → ℤ
-scaled m e = cond (eqb m 0) (pos 0) (axis (4 * m) (e * m / 64))
+abbrev pub scaledCoordinate : ℕ → ℕ → ℤ
+scaledCoordinate m e = cond (eqb m 0) (pos 0) (coordinateOf (4 * m) (e * m / 64))

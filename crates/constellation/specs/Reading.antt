@@ -10,7 +10,7 @@ use Rattle.g9932.specs.Bits.{num, first}
 use Rattle.g9932.specs.Points.{isLabel, labelBits}
 use Rattle.g9932.specs.declared.Found.{Found}
 use Rattle.g9932.specs.declared.Found.the-variants.{At, Nothing}
-use Rattle.constellation.specs.Widened.{axis, topFour, widened, wordOf}
+use Rattle.constellation.specs.Widened.{coordinateOf, topFour, widenedLabel, labelWord}
 use Rattle.constellation.specs.declared.FoundLabel.{FoundLabel}
 
 -- whether there is a label, and its number where there is one
@@ -18,14 +18,14 @@ pub record FoundLabelIs (r : FoundLabel) (o : Option (List Bool)) : Type 0 where
   pub found : r .found ≡ isLabel o
   pub label : isLabel o ≡ true → r .label ≡ num (labelBits o)
 
--- the bits of a coordinate as steps of 2 from the left end, above 65,536
-pub record Steps (h : ℕ) (z : ℤ) (u : ℕ) : Type 0 where
-  pub to : (d : ℕ) → z ≡ axis h d → u ≡ 2 * d + 65536
-  pub back : (d : ℕ) → u ≡ 2 * d + 65536 → z ≡ axis h d
+-- u is the coordinate z raised so that it is positive: to 65,536 plus twice its bits d, where it is on the axis
+pub record RaisedCoordinate (h : ℕ) (z : ℤ) (u : ℕ) : Type 0 where
+  pub to : (d : ℕ) → z ≡ coordinateOf h d → u ≡ 2 * d + 65536
+  pub back : (d : ℕ) → u ≡ 2 * d + 65536 → z ≡ coordinateOf h d
 
 -- l is the only label with k pairs whose word can be w
-abbrev pub Narrowed : ℕ → ℕ → ℕ → Type 0
-Narrowed k w l = (m : ℕ) → m < 2 ^ (2 * k + 3) → w ≡ widened k m → l ≡ m
+abbrev pub NarrowedWord : ℕ → ℕ → ℕ → Type 0
+NarrowedWord k w l = (m : ℕ) → m < 2 ^ (2 * k + 3) → w ≡ widenedLabel k m → l ≡ m
 
 -- the label of b bits, from its mapping label
 abbrev pub ownLabel : ℕ → ℕ → ℕ
@@ -42,7 +42,7 @@ abbrev pub tops : ℕ → ℕ
 tops b = cond (ltb b 4) (2 ^ b) (cond (eqb (b % 2) 0) 16 32)
 
 abbrev pub sixOf : ℕ → ℕ → ℕ
-sixOf b q = cond (ltb b 4) (4 * wordOf b q) (4 * topFour q + q % 4)
+sixOf b q = cond (ltb b 4) (4 * labelWord b q) (4 * topFour q + q % 4)
 
 abbrev pub isAt : Found → Bool
 isAt (At k) = true

@@ -11,8 +11,8 @@ use Rattle.g9932.specs.Bits.{bits, num}
 use Rattle.g9932.specs.Points.{evens, odds, table10-3}
 
 -- how many pairs of plain bits a label has
-abbrev pub pairs : ℕ → ℕ
-pairs b = b / 2 - 1
+abbrev pub plainPairs : ℕ → ℕ
+plainPairs b = b / 2 - 1
 
 -- the label of an odd bit count from 3 that has the same point
 abbrev pub mappingLabel : ℕ → ℕ → ℕ
@@ -31,12 +31,12 @@ unfoldable pub topFour : ℕ → ℕ
 topFour q = crossed (getD table10-3 q 0)
 
 -- the bits of X and Y in turn, Y's first, each with its sign bit complemented and without its last bit, which is 1
-unfoldable pub widened : ℕ → ℕ → ℕ
-widened k l = topFour (topFive k l) * 2 ^ (2 * k) + l % 2 ^ (2 * k)
+unfoldable pub widenedLabel : ℕ → ℕ → ℕ
+widenedLabel k l = topFour (topFive k l) * 2 ^ (2 * k) + l % 2 ^ (2 * k)
 
 -- the word of a label of b bits
-abbrev pub wordOf : ℕ → ℕ → ℕ
-wordOf b l = widened (pairs b) (mappingLabel b l)
+abbrev pub labelWord : ℕ → ℕ → ℕ
+labelWord b l = widenedLabel (plainPairs b) (mappingLabel b l)
 
 -- the bits of X and of Y in a word
 abbrev pub xBits : ℕ → ℕ
@@ -56,5 +56,5 @@ abbrev pub signWeight : ℕ → ℕ
 signWeight k = 4 * 2 ^ k
 
 -- the coordinate of bits whose sign bit is complemented
-abbrev pub axis : ℕ → ℕ → ℤ
-axis h e = subℕ (2 * e + 1) h
+abbrev pub coordinateOf : ℕ → ℕ → ℤ
+coordinateOf h e = subℕ (2 * e + 1) h

@@ -6,7 +6,7 @@ ghost use Prim.Native.Nat.{_*_, _<_};
 ghost use lib.IntN.{pos, _+ℤ_};
 ghost use Rattle.g9932.specs.Points.{samePoint};
 ghost use Rattle.g9932.specs.Sizes.{point, origin};
-ghost use Rattle.constellation.specs.DemapByLayout.{Power, IsLayout, OnAxis, spaced, WordUp, TopsBy, LabelDown, Demaps};
+ghost use Rattle.constellation.specs.DemapByLayout.{Power, IsLayout, OnAxis, spreadByte, LiftedWord, TopsBy, LoweredLabel, Demaps};
 
 // Whether the constellation has a point, and the label where it has.
 pub struct PointLabel {
@@ -34,7 +34,7 @@ fn pick(first: bool, a: u16, b: u16) -> u16
 }
 
 // Whether a point is (0, 0).
-pub fn is_origin(x: i16, y: i16) -> bool
+fn is_origin(x: i16, y: i16) -> bool
     ensures { λ r. ⌜ r ≡ samePoint (point x y) origin ⌝ }
 {
     if x != 0 {
@@ -46,7 +46,7 @@ pub fn is_origin(x: i16, y: i16) -> bool
     true
 }
 
-// A coordinate above 32,768.
+// A coordinate plus 32,768.
 fn raised(z: i16) -> u16
     ensures { λ r. ⌜ pos r ≡ z +ℤ pos 32768 ⌝ }
 {
@@ -68,21 +68,21 @@ fn axis_bits(m: u16, z: i16) -> AxisBits
 }
 
 // Eight bits, a zero above each.
-fn spread8(e: u16) -> u16
+fn spread_byte(e: u16) -> u16
     requires { ⌜ e < 256 ⌝ }
-    ensures { λ r. ⌜ r ≡ spaced e ⌝ }
+    ensures { λ r. ⌜ r ≡ spreadByte e ⌝ }
 {
     let fours = (e | (e << 4)) & 0x0f0f;
     let twos = (fours | (fours << 2)) & 0x3333;
     (twos | (twos << 1)) & 0x5555
 }
 
-// The word of the bits of X and Y, moved up to sixteen bits: c has the weight that moves each half.
-fn word_of(c: u16, x: u16, y: u16) -> u16
+// The word of the bits of X and Y with its top bit in bit 15: c is the weight that moves each half up.
+fn lifted_word(c: u16, x: u16, y: u16) -> u16
     requires { ⌜ (x * c < 256) × (y * c < 256) ⌝ }
-    ensures { λ r. ⌜ WordUp c x y r ⌝ }
+    ensures { λ r. ⌜ LiftedWord c x y r ⌝ }
 {
-    2 * spread8(x * c) + spread8(y * c)
+    2 * spread_byte(x * c) + spread_byte(y * c)
 }
 
 // The top three bits of a label, and the grid, by the top six bits of its word: the sign bits of X and Y, complemented, and two more bits of
@@ -114,10 +114,10 @@ fn top_of(layout: u16, six: u16) -> TopBits
     }
 }
 
-// The label of these top bits and of the plain bits of a word moved up: m · m is the weight of the top bits.
-fn label_below(m: u16, three: u16, word: u16) -> u16
+// The label of these top bits and of the plain bits of a lifted word: m · m is the weight of the top bits.
+fn lowered_label(m: u16, three: u16, word: u16) -> u16
     requires { ⌜ Power m × (three < 8) ⌝ }
-    ensures { λ r. ⌜ LabelDown m three word r ⌝ }
+    ensures { λ r. ⌜ LoweredLabel m three word r ⌝ }
 {
     let lifted = 8192 * three + 2 * (word % 4096);
     ((lifted as u32 * (8 * (m * m)) as u32) >> 16) as u16
@@ -132,9 +132,9 @@ pub fn label_by(layout: u16, x: i16, y: i16) -> PointLabel
     let c = layout % 128;
     let ax = axis_bits(m, x);
     let ay = axis_bits(m, y);
-    let word = word_of(c, ax.bits, ay.bits);
+    let word = lifted_word(c, ax.bits, ay.bits);
     let t = top_of(layout, word / 1024);
-    let label = label_below(m, t.three, word);
+    let label = lowered_label(m, t.three, word);
     let one = layout / 32768;
     let silent = one & (layout / 128 % 2) == 1;
     let inside = t.on & (ax.on & ay.on);

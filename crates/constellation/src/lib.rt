@@ -5,12 +5,12 @@ pub mod map;
 ghost use mathlib.Core.Path.{_≡_};
 ghost use Prim.Native.Nat.{_+_, _*_, _/_, _%_, _^_, _<_, _≤_};
 ghost use lib.Bits.{bitXor};
-ghost use Rattle.g9932.specs.Bits.{bits as bitsOf, num};
+ghost use Rattle.g9932.specs.Bits.{bits as lowestBits, num};
 ghost use Rattle.g9932.specs.Sizes.{point};
 ghost use Rattle.g9932.specs.Points.{pointOf, labelOf};
 ghost use Rattle.g9932.specs.Answers.{mapLabel, readPoint, mappedOf, labelledOf};
-ghost use Rattle.constellation.specs.Widened.{pairs as pairsOf, mappingLabel, topFour, widened as widenedOf, xBits, yBits, interleaved, signWeight, axis as axisOf};
-ghost use Rattle.constellation.specs.Reading.{FoundLabelIs, Steps, Narrowed, ownLabel, topSix, inGrid};
+ghost use Rattle.constellation.specs.Widened.{plainPairs, mappingLabel, topFour, widenedLabel, xBits, yBits, interleaved, signWeight, coordinateOf};
+ghost use Rattle.constellation.specs.Reading.{FoundLabelIs, RaisedCoordinate, NarrowedWord, ownLabel, topSix, inGrid};
 ghost use Rattle.constellation.specs.Layouts.{layoutList};
 use g9932::Labelled;
 use g9932::Mapped;
@@ -73,15 +73,15 @@ pub struct FoundLabel {
     pub label: u32,
 }
 
-// How many pairs of bits stand below the three top bits of a label.
-fn pairs(b: u32) -> u32
-    ensures { λ r. ⌜ r ≡ pairsOf b ⌝ }
+// How many pairs of plain bits stand below the three top bits of a label.
+fn plain_pairs(b: u32) -> u32
+    ensures { λ r. ⌜ r ≡ plainPairs b ⌝ }
 {
     if b < 2 { 0 } else { b / 2 - 1 }
 }
 
-// The mapping label: that of an odd bit count from 3 that has the same point. Called by proved code only.
-pub fn mapping_label(b: u32, label: u32) -> u32
+// The mapping label: that of an odd bit count from 3 that has the same point.
+fn mapping_label(b: u32, label: u32) -> u32
     requires { ⌜ label < 32768 ⌝ }
     ensures { λ r. ⌜ r ≡ mappingLabel b label ⌝ }
 {
@@ -101,9 +101,9 @@ fn widening(q: u32) -> u32
 }
 
 // The word of a label with k pairs: the bits of X and Y in turn.
-fn widened(k: u32, label: u32) -> u32
+fn widened_label(k: u32, label: u32) -> u32
     requires { ⌜ (k ≤ 6) × (label < 2 ^ (2 * k + 3)) ⌝ }
-    ensures { λ r. ⌜ r ≡ widenedOf k label ⌝ }
+    ensures { λ r. ⌜ r ≡ widenedLabel k label ⌝ }
 {
     let q = (32 * label + (24 - 8 * (label % 4))) >> (2 * k + 3);
     label ^ (widening(q) << (2 * k))
@@ -129,24 +129,24 @@ fn sign_weight(k: u32) -> u32
 }
 
 // A coordinate, from its bits with the sign bit complemented.
-fn axis(weight: u32, e: u32) -> i16
+fn coordinate_of(weight: u32, e: u32) -> i16
     requires { ⌜ (1 ≤ weight) × (weight ≤ 256) × (e < 256) ⌝ }
-    ensures { λ r. ⌜ r ≡ axisOf weight e ⌝ }
+    ensures { λ r. ⌜ r ≡ coordinateOf weight e ⌝ }
 {
     (2 * e + 1) as i16 - weight as i16
 }
 
-// The point of a label. Called by proved code only.
-pub fn point_of(b: u32, label: u32) -> Coordinates
+// The point of a label.
+fn point_of(b: u32, label: u32) -> Coordinates
     requires { ⌜ (1 ≤ b) × (b ≤ 15) × (label < 2 ^ b) ⌝ }
-    ensures { λ r. ⌜ point (r .x) (r .y) ≡ pointOf b (bitsOf b label) ⌝ }
+    ensures { λ r. ⌜ point (r .x) (r .y) ≡ pointOf b (lowestBits b label) ⌝ }
 {
-    let k = pairs(b);
-    let both = deinterleave(widened(k, mapping_label(b, label)));
+    let k = plain_pairs(b);
+    let both = deinterleave(widened_label(k, mapping_label(b, label)));
     let h = sign_weight(k);
     Coordinates {
-        x: axis(h, both / 65536),
-        y: axis(h, both % 65536),
+        x: coordinate_of(h, both / 65536),
+        y: coordinate_of(h, both % 65536),
     }
 }
 
@@ -168,26 +168,26 @@ pub fn map_label(bits: u8, label: u32) -> Mapped
     Mapped::Point { x: c.x, y: c.y }
 }
 
-// A coordinate as steps of 2 from the left end, above 65,536.
-fn steps(weight: u32, z: i16) -> u32
+// A coordinate raised so that it is positive: to 65,536 plus twice its bits, where it is on the axis.
+fn raised_coordinate(weight: u32, z: i16) -> u32
     requires { ⌜ weight ≤ 256 ⌝ }
-    ensures { λ r. ⌜ Steps weight z r ⌝ }
+    ensures { λ r. ⌜ RaisedCoordinate weight z r ⌝ }
 {
     (z as i32 + 65535) as u32 + weight
 }
 
-// The bits of a coordinate in its steps.
-fn cut(k: u32, weight: u32, steps: u32) -> u32
+// The bits of a coordinate, from the coordinate raised.
+fn coordinate_bits(k: u32, weight: u32, raised: u32) -> u32
     requires { ⌜ weight ≡ signWeight k ⌝ }
-    ensures { λ r. ⌜ r ≡ steps / 2 % weight ⌝ }
+    ensures { λ r. ⌜ r ≡ raised / 2 % weight ⌝ }
 {
-    (steps / 2) & (weight - 1)
+    (raised / 2) & (weight - 1)
 }
 
 // The word whose bits of X and Y these are.
 fn interleave(x: u32, y: u32) -> u32
     requires { ⌜ (x < 256) × (y < 256) ⌝ }
-    ensures { λ r. ⌜ r ≡ num (interleaved (bitsOf 8 x) (bitsOf 8 y)) ⌝ }
+    ensures { λ r. ⌜ r ≡ num (interleaved (lowestBits 8 x) (lowestBits 8 y)) ⌝ }
 {
     let halves = 65536 * x + y;
     let fours = (halves | (halves << 4)) & 0x0f0f_0f0f;
@@ -197,9 +197,9 @@ fn interleave(x: u32, y: u32) -> u32
 }
 
 // The label with k pairs whose word this is, if it is the word of one; its top six bits are at hand.
-fn narrowed(k: u32, word: u32, six: u32) -> u32
+fn narrowed_word(k: u32, word: u32, six: u32) -> u32
     requires { ⌜ (k ≤ 6) × (six < 64) × (six ≡ topSix k word) ⌝ }
-    ensures { λ r. ⌜ Narrowed k word r ⌝ }
+    ensures { λ r. ⌜ NarrowedWord k word r ⌝ }
 {
     let narrowing = ((NARROW >> (4 * (six / 4))) % 16) as u32;
     word ^ (narrowing << (2 * k))
@@ -232,20 +232,20 @@ fn in_grid(b: u32, six: u32) -> bool
     (ODD_GRID >> six) % 2 == 1
 }
 
-// The label of a point, where the constellation has the point. Called by proved code only.
-pub fn label_of(b: u32, x: i16, y: i16) -> FoundLabel
+// The label of a point, where the constellation has the point.
+fn label_of(b: u32, x: i16, y: i16) -> FoundLabel
     requires { ⌜ (1 ≤ b) × (b ≤ 15) ⌝ }
     ensures { λ r. ⌜ FoundLabelIs r (labelOf b (point x y)) ⌝ }
 {
-    let k = pairs(b);
+    let k = plain_pairs(b);
     let h = sign_weight(k);
-    let u = steps(h, x);
-    let v = steps(h, y);
-    let ex = cut(k, h, u);
-    let ey = cut(k, h, v);
+    let u = raised_coordinate(h, x);
+    let v = raised_coordinate(h, y);
+    let ex = coordinate_bits(k, h, u);
+    let ey = coordinate_bits(k, h, v);
     let word = interleave(ex, ey);
     let six = (4 * word) >> (2 * k);
-    let label = own_label(b, narrowed(k, word, six));
+    let label = own_label(b, narrowed_word(k, word, six));
     let found = in_grid(b, six) & ((2 * ex + 65536 == u) & (2 * ey + 65536 == v));
     FoundLabel { found, label }
 }

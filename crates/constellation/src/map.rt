@@ -3,11 +3,11 @@ ghost use mathlib.Core.Path.{_≡_};
 ghost use Prim.Native.Nat.{_*_, _<_, _≤_};
 ghost use Rattle.g9932.specs.Sizes.{point};
 ghost use Rattle.constellation.specs.Widened.{topFour, yBits};
-ghost use Rattle.constellation.specs.MapByLayout.{Mappable, MapsTo, Liftable, layoutPoint, liftedLabel, spreadWord, scaled};
+ghost use Rattle.constellation.specs.MapByLayout.{Mappable, MapsTo, Liftable, layoutPoint, liftedLabel, widenedLifted, scaledCoordinate};
 use super::Coordinates;
 
 // A label with its top bit in bit 15; below it stands what a three-bit label's top five bits have. c is 2 to the (6 less the pairs).
-fn lifted(c: u16, label: u16) -> u16
+fn lifted_label(c: u16, label: u16) -> u16
     requires { ⌜ (c ≤ 64) × (liftedLabel (c * c) label < 65536) ⌝ }
     ensures { λ r. ⌜ r ≡ liftedLabel (c * c) label ⌝ }
 {
@@ -36,8 +36,8 @@ fn top_four(q: u16) -> u16
 }
 
 // The word of a lifted label: its bits of X and Y in turn, with the top one in bit 15.
-fn spread(a: u16) -> u16
-    ensures { λ r. ⌜ r ≡ spreadWord a ⌝ }
+fn widened_lifted(a: u16) -> u16
+    ensures { λ r. ⌜ r ≡ widenedLifted a ⌝ }
 {
     4096 * top_four(a / 2048) + a / 2 % 4096
 }
@@ -53,9 +53,9 @@ fn evens(word: u16) -> u16
 }
 
 // A coordinate, from its bits at the top of eight; m is 2 to the pairs, or 0 for a silent tone.
-fn coordinate(e: u16, m: u16) -> i16
+fn scaled_coordinate(e: u16, m: u16) -> i16
     requires { ⌜ (e < 256) × (m ≤ 64) ⌝ }
-    ensures { λ r. ⌜ r ≡ scaled m e ⌝ }
+    ensures { λ r. ⌜ r ≡ scaledCoordinate m e ⌝ }
 {
     let one = if m == 0 { 0u16 } else { 1u16 };
     (2 * ((e * m) >> 6) + one) as i16 - (4 * m) as i16
@@ -66,11 +66,11 @@ fn widened_point(layout: u16, label: u16) -> Coordinates
     requires { ⌜ Liftable layout label ⌝ }
     ensures { λ r. ⌜ point (r .x) (r .y) ≡ layoutPoint layout label ⌝ }
 {
-    let w = spread(lifted(layout % 128, label));
+    let w = widened_lifted(lifted_label(layout % 128, label));
     let m = layout / 256 % 128;
     Coordinates {
-        x: coordinate(evens(w / 2), m),
-        y: coordinate(evens(w), m),
+        x: scaled_coordinate(evens(w / 2), m),
+        y: scaled_coordinate(evens(w), m),
     }
 }
 
@@ -81,7 +81,7 @@ pub fn point_by(layout: u16, label: u16) -> Coordinates
     ensures { λ r. ⌜ MapsTo layout label (point (r .x) (r .y)) ⌝ }
 {
     let one = layout / 32768;
-    let live = 1 - (one & (layout / 128 % 2));
-    let own = label * live;
-    widened_point(layout * live, own + 2 * (one * own))
+    let not_silent = 1 - (one & (layout / 128 % 2));
+    let own = label * not_silent;
+    widened_point(layout * not_silent, own + 2 * (one * own))
 }

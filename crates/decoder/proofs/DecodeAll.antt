@@ -9,7 +9,7 @@ use lib.ListN.{length, take, drop, getD}
 use lib.Seq.{take-at, drop-at}
 use Rattle.frame.proofs.Labels.{labels-drop}
 use Rattle.frame.specs.Labels.{bitsOfLabels}
-use Rattle.frame.specs.Written.{written, count}
+use Rattle.frame.specs.Written.{written, bitsPut}
 use Rattle.g9932.proofs.Pairs.{read-on, read-stop}
 use Rattle.g9932.proofs.Words.{length-bits}
 use Rattle.g9932.specs.Answers.{breakIn, frameIn}
@@ -111,7 +111,7 @@ module _ {w : BitWriter} {es labels out : List ℕ} (needs : ReadLabelNeeds w es
               counted = λ z. absurd (found-not z);
             }
 
-        first-count : count (p .reader .writer) ≡ count w + taken false (pair 0 y)
+        first-count : bitsPut (p .reader .writer) ≡ bitsPut w + taken false (pair 0 y)
         first-count =
             let q = first-needs in
             first .puts .counted ∙ omega (arith, first-takes y l (q .0) (q .2 .wSmall))

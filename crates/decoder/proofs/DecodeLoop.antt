@@ -10,14 +10,13 @@ use lib.ListN.{length, take, drop, getD, length-append, length-drop}
 use lib.Seq.{take-at, drop-at}
 use Rattle.frame.proofs.Labels.{labels-drop}
 use Rattle.frame.specs.Labels.{bitsOfLabels}
-use Rattle.frame.specs.Written.{written, count}
+use Rattle.frame.specs.Written.{written, bitsPut}
 use Rattle.g9932.proofs.Pairs.{read-on, read-stop}
 use Rattle.g9932.proofs.Words.{length-bits}
 use Rattle.g9932.specs.Bits.{bits}
-use Rattle.g9932.specs.Order.{Pair, pair, inTwos}
+use Rattle.g9932.specs.Order.{Wide, Pair, pair, inTwos}
 use Rattle.g9932.specs.Trellis.{Word, Reading, frame, breaks, after as after', lastTwo, taken, width, decodedWord, decodedAt, obeysCode, takenBits, nextOf, readPairs, takenTotal}
 use Rattle.g9932.specs.declared.Found.the-variants.{At, Nothing}
-use Rattle.trellis.specs.Coding.{Wide}
 use Rattle.decoder.specs.Reading.{decodedIn, ReadPairNeeds, ReadsPair, ReadPairsNeeds, readingFrom, ReadsFrom}
 use Rattle.decoder.specs.declared.Reader.{Reader}
 use Rattle.decoder.specs.declared.PairRead.{PairRead}
@@ -46,7 +45,7 @@ pub record Decoding (c k : Reader) (es labels out₀ out : List ℕ) (from i : �
   pub done : List Bool
   pub soFar : written (k .writer) out ≡ written (c .writer) out₀ ++ done
   pub rest : readingFrom c es from labels ≡ afterPairs pairs done (readingFrom k es i labels)
-  pub counted : count (k .writer) + takenTotal (inTwos (drop i es)) ≡ count (c .writer) + takenTotal (inTwos (drop from es))
+  pub counted : bitsPut (k .writer) + takenTotal (inTwos (drop i es)) ≡ bitsPut (c .writer) + takenTotal (inTwos (drop from es))
 
 pub decoding-start : {c : Reader} {es labels out : List ℕ} {from : ℕ} → ReadPairsNeeds c es from labels out → Decoding c c es labels out out from from
 decoding-start {c = c} {es = es} {labels = labels} {out = out} {from = from} r =

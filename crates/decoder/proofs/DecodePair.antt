@@ -12,7 +12,7 @@ use Rattle.g9932.specs.Bits.{_⊕_, bit, bits, num, odd, weight}
 use Rattle.g9932.specs.Order.{pair}
 use Rattle.g9932.specs.Trellis.{Word, taken, same, zeroState, implied, decodedWord, obeysCode, takenBits, nextState, nextOf}
 use Rattle.g9932.specs.declared.TrellisState.{TrellisState}
-use Rattle.g9932.proofs.Identities.{bits-agree}
+use Rattle.g9932.proofs.Identities.{bits-agree, false-xor}
 use Rattle.g9932.proofs.Words.{num-append, num-bits, num-lt, num-drop, length-bits, bits-num}
 use Rattle.decoder.specs.Reading.{decodedOf, wordBy, takenNumber, decodedIn}
 use Rattle.decoder.specs.declared.PairWord.{PairWord}
@@ -132,9 +132,6 @@ decoded-fits w x h k =
 
 -- ---- a first pair with x = 0: the labels d are w alone
 
-xor-false : (a : Bool) → false ⊕ a ≡ a
-xor-false = bits-agree 1 (λ a. false ⊕ a) (λ a. a) refl
-
 same-false : (a b : Bool) → same (false ⊕ false ⊕ a ⊕ b) false ≡ not (a ⊕ b)
 same-false = bits-agree 2 (λ a b. same (false ⊕ false ⊕ a ⊕ b) false) (λ a b. not (a ⊕ b)) refl
 
@@ -153,9 +150,9 @@ unfolding decodedWord takenBits num
 first-decoded y f h e =
     let w0 : bit f 0 ≡ odd (num f) = lowest f in
     let w1 : bit f 1 ≡ odd (num f / 2) = bit-num f 1 in
-    let n : weight (odd (num f)) + 2 * (num f / 4) ≡ num ((false ⊕ bit f 0) ∷ drop 2 f) = rw (xor-false (bit f 0), w0, num-drop 2 f) in
+    let n : weight (odd (num f)) + 2 * (num f / 4) ≡ num ((false ⊕ bit f 0) ∷ drop 2 f) = rw (false-xor (bit f 0), w0, num-drop 2 f) in
     let m : length ((false ⊕ bit f 0) ∷ drop 2 f) ≡ y - 1 = let k = length-drop 2 f in omega arith in
-    (rw (← w0, ← w1) (sym (same-false (bit f 0) (bit f 1))), rw (xor-false (bit f 0), w0), rw (n, ← m) (bits-num ((false ⊕ bit f 0) ∷ drop 2 f)), rw (n, ← m) (num-lt ((false ⊕ bit f 0) ∷ drop 2 f)))
+    (rw (← w0, ← w1) (sym (same-false (bit f 0) (bit f 1))), rw (false-xor (bit f 0), w0), rw (n, ← m) (bits-num ((false ⊕ bit f 0) ∷ drop 2 f)), rw (n, ← m) (num-lt ((false ⊕ bit f 0) ∷ drop 2 f)))
 
 module _ (y w : ℕ) (h : 2 ≤ y) (hw : w < 2 ^ y) where
   pub decoded-first : FirstDecoded y w

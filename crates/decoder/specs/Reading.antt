@@ -5,17 +5,17 @@ use mathlib.Core.List.{List, [], _++_}
 use mathlib.Core.Path.{_≡_}
 use lib.ListN.{length, drop}
 use Rattle.frame.specs.Labels.{bitsOfLabels, Within}
-use Rattle.frame.specs.Written.{written, Waits, count, Put}
+use Rattle.frame.specs.Written.{written, Waits, bitsPut, Put}
 use Rattle.frame.specs.declared.BitWriter.{BitWriter}
 use Rattle.g9932.specs.Sizes.{mostTones}
 use Rattle.g9932.specs.Answers.{breakIn, frameIn}
 use Rattle.g9932.specs.Bits.{_⊕_, weight, odd, bits}
-use Rattle.g9932.specs.Order.{inTwos, pairsOf, Pair}
+use Rattle.g9932.specs.Order.{Wide, inTwos, pairsOf, Pair}
 use Rattle.g9932.specs.Trellis.{Word, Reading, decodedWord, obeysCode, takenBits, nextOf, zeroState, readPairs, readingOf, takenTotal}
 use Rattle.g9932.specs.declared.Found.{Found}
 use Rattle.g9932.specs.declared.Found.the-variants.{At, Nothing}
 use Rattle.g9932.specs.declared.Mode.the-variants.{Coded}
-use Rattle.trellis.specs.Coding.{labelNumber, Wide}
+use Rattle.trellis.specs.Coding.{labelNumber}
 use Rattle.decoder.specs.declared.Reader.{Reader}
 use Rattle.decoder.specs.declared.PairWord.{PairWord}
 use Rattle.decoder.specs.declared.PairRead.{PairRead}
@@ -67,7 +67,7 @@ pub record ReadPairsNeeds (c : Reader) (es : List ℕ) (i : ℕ) (labels frame :
   pub inside : i ≤ length es
   pub labelsFit : length es ≤ length labels
   pub within : Within es labels (length es)
-  pub bytes : count (c .writer) + takenTotal (inTwos (drop i es)) + 64 ≤ 8 * length frame
+  pub bytes : bitsPut (c .writer) + takenTotal (inTwos (drop i es)) + 64 ≤ 8 * length frame
   pub waits : Waits (c .writer)
 
 -- a pair found k further on
@@ -82,7 +82,7 @@ pub record ReadsFrom (c : Reader) (es : List ℕ) (i : ℕ) (labels frame : List
   pub broken : r .broken ≡ onward ((i + 1) / 2) (breakIn (readingFrom c es i labels))
   pub whole : r .broken ≡ Nothing → written (r .writer) after ≡ written (c .writer) frame ++ frameIn (readingFrom c es i labels)
   pub waits : Waits (r .writer)
-  pub counted : r .broken ≡ Nothing → count (r .writer) ≡ count (c .writer) + takenTotal (inTwos (drop i es))
+  pub counted : r .broken ≡ Nothing → bitsPut (r .writer) ≡ bitsPut (c .writer) + takenTotal (inTwos (drop i es))
 
 -- ---- all pairs
 
@@ -90,12 +90,12 @@ pub record ReadsLabels (w : BitWriter) (es labels before : List ℕ) (r : PairsR
   pub broken : r .broken ≡ breakIn (readingOf Coded (pairsOf es) (bitsOfLabels es labels))
   pub whole : r .broken ≡ Nothing → written (r .writer) after ≡ written w before ++ frameIn (readingOf Coded (pairsOf es) (bitsOfLabels es labels))
   pub waits : Waits (r .writer)
-  pub counted : r .broken ≡ Nothing → count (r .writer) ≡ count w + takenTotal (pairsOf es)
+  pub counted : r .broken ≡ Nothing → bitsPut (r .writer) ≡ bitsPut w + takenTotal (pairsOf es)
 
 pub record ReadLabelNeeds (w : BitWriter) (es labels frame : List ℕ) : Type 0 where
   pub wide : Wide es
   pub enough : 4 ≤ length es
   pub many : length es ≤ mostTones
   pub within : Within es labels (length es)
-  pub bytes : count w + takenTotal (pairsOf es) + 64 ≤ 8 * length frame
+  pub bytes : bitsPut w + takenTotal (pairsOf es) + 64 ≤ 8 * length frame
   pub waits : Waits w

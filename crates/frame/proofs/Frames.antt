@@ -13,7 +13,7 @@ use Rattle.g9932.specs.Sizes.{bytesFor, unpack}
 use Rattle.g9932.specs.Refusals.{someOne, frameTest}
 use Rattle.g9932.proofs.Words.{num-drop}
 use Rattle.g9932.proofs.Packed.{drop-unpack}
-use Rattle.frame.proofs.Loads.{ByteAt, from-byte}
+use Rattle.frame.proofs.BitsAhead.{ByteAt, from-byte}
 
 doubled : (n : ℕ) → eqb (2 * n) 0 ≡ eqb n 0
 doubled n = go (eqb n 0) refl

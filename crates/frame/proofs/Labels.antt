@@ -73,4 +73,4 @@ at-set (p ∷ ps) ls (suc j) x r h =
     λ i. getD-set-other ls (entry ps j) p x 0 (λ e. let l = r .rises 0 (suc j) (omega arith) h in omega (arith, e, l)) i ∷ at-set ps ls j x (rising-tail p ps (length ls) r) (omega arith) i
 
 pub placed-length : {es ps ls : List ℕ} → Placed es ps ls → length (labelsAt ps ls) ≡ length es
-placed-length {ps = ps} {ls = ls} p = length-at ps ls ∙ p .same
+placed-length {ps = ps} {ls = ls} p = length-at ps ls ∙ p .placesLength

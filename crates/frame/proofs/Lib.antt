@@ -1,5 +1,5 @@
-pub mod Loads
+pub mod BitsAhead
 pub mod Frames
 pub mod Stores
 pub mod Labels
-pub mod Tables
+pub mod Lowest

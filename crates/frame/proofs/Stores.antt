@@ -17,7 +17,7 @@ use Rattle.g9932.specs.Sizes.{unpack, bytesFor}
 use Rattle.g9932.proofs.Words.{length-bits, bits-add, take-bits, bits-mod}
 use Rattle.g9932.proofs.Packed.{length-unpack, unpack-append, take-unpack}
 use Rattle.frame.specs.declared.BitWriter.{BitWriter}
-use Rattle.frame.specs.Written.{emptyWriter, written, Waits, count, Put, Framed}
+use Rattle.frame.specs.Written.{emptyWriter, written, Waits, bitsPut, Put, Framed}
 
 -- one byte of w more
 push : (l : List ℕ) (p : List Bool) (i j m w b : ℕ) → i < length l → j ≡ i + 1 → b ≡ w / 2 ^ m % 256 → unpack (take i l) ≡ p ++ bits m w
@@ -129,7 +129,7 @@ finish-law w l b h waits hb =
 
 -- ---- what callers use
 
-pub length-written : (w : BitWriter) (l : List ℕ) → w .next ≤ length l → length (written w l) ≡ count w
+pub length-written : (w : BitWriter) (l : List ℕ) → w .next ≤ length l → length (written w l) ≡ bitsPut w
 unfolding written
 length-written w l h =
     let a = length-unpack (take (w .next) l) in

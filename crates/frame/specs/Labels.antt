@@ -27,5 +27,5 @@ pub record Rising (ps : List ℕ) (n : ℕ) : Type 0 where
 
 -- each entry has a place in a list of labels
 pub record Placed (es ps ls : List ℕ) : Type 0 where
-  pub same : length ps ≡ length es
+  pub placesLength : length ps ≡ length es
   pub rising : Rising ps (length ls)

@@ -1,4 +1,4 @@
-pub mod Loads
+pub mod BitsAhead
 pub mod Masks
 pub mod Written
 pub mod Labels

@@ -23,14 +23,14 @@ pub record Waits (w : BitWriter) : Type 0 where
   pub small : w .acc < 2 ^ w .fill
 
 -- how many bits are put
-abbrev pub count : BitWriter → ℕ
-count w = 8 * w .next + w .fill
+abbrev pub bitsPut : BitWriter → ℕ
+bitsPut w = 8 * w .next + w .fill
 
 -- the writer v has put the bits x more than w
 pub record Put (w : BitWriter) (before : List ℕ) (x : List Bool) (v : BitWriter) (after : List ℕ) : Type 0 where
   pub holds : written v after ≡ written w before ++ x
   pub waits : Waits v
-  pub counted : count v ≡ count w + length x
+  pub counted : bitsPut v ≡ bitsPut w + length x
 
 -- a buffer that begins with the frame of the bits x
 pub record Framed (x : List Bool) (buffer : List ℕ) : Type 0 where

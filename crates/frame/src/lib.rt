@@ -9,10 +9,10 @@ ghost use lib.ListN.{length, getD, take, drop};
 ghost use Rattle.g9932.specs.Bits.{bits, num};
 ghost use Rattle.g9932.specs.Sizes.{bytesFor, unpack};
 ghost use Rattle.g9932.specs.Refusals.{frameTest};
-ghost use Rattle.frame.specs.Loads.{Ahead};
+ghost use Rattle.frame.specs.BitsAhead.{Ahead};
 ghost use Rattle.frame.specs.Written.{emptyWriter, written, Waits, Put};
 
-// The byte at a place, 0 past the end.
+// Byte i, 0 past the end.
 fn byte_at(bytes: &[u8], i: usize) -> u64
     ensures { λ r. ⌜ (r ≡ getD (now (bytes .entry)) i 0) × (r < 256) ⌝ }
 {
@@ -36,8 +36,8 @@ pub fn frame_refused(frame: &[u8], l: usize) -> bool
     byte_at(frame, l / 8) >> (l % 8) != 0
 }
 
-// Five bytes from a place on; past the end they count as 0.
-fn word_at(bytes: &[u8], i: usize) -> u64
+// Five bytes from byte i on; past the end they count as 0.
+fn word40(bytes: &[u8], i: usize) -> u64
     requires { ⌜ i < 2 ^ 61 ⌝ }
     ensures { λ r. ⌜ r ≡ num (take 40 (drop (8 * i) (unpack (now (bytes .entry))))) ⌝ }
 {
@@ -55,7 +55,7 @@ fn wide(x: u8) -> u64
     x as u64
 }
 
-// Four bytes from a place on.
+// Four bytes from byte i on.
 fn word32(bytes: &[u8], i: usize) -> u64
     requires { ⌜ i + 4 ≤ length (now bytes) ⌝ }
     ensures { λ r. ⌜ (r ≡ num (take 32 (drop (8 * i) (unpack (now (bytes .entry)))))) × (r < 2 ^ 32) ⌝ }
@@ -67,7 +67,7 @@ fn word32(bytes: &[u8], i: usize) -> u64
     b0 + 256 * b1 + 65536 * b2 + 16777216 * b3
 }
 
-// Eight bytes from a place on: one load.
+// Eight bytes from byte i on: one load.
 fn word64(bytes: &[u8], i: usize) -> u64
     requires { ⌜ i + 8 ≤ length (now bytes) ⌝ }
     ensures { λ r. ⌜ r ≡ num (take 64 (drop (8 * i) (unpack (now (bytes .entry))))) ⌝ }
@@ -104,7 +104,7 @@ fn ahead_inside(bytes: &[u8], at: usize) -> u64
 fn ahead_near_end(bytes: &[u8], at: usize) -> u64
     ensures { λ r. ⌜ Ahead r (drop at (unpack (now (bytes .entry)))) ⌝ }
 {
-    word_at(bytes, at / 8) >> bit_in_byte(at)
+    word40(bytes, at / 8) >> bit_in_byte(at)
 }
 
 // The same anywhere; past the end the bits count as 0.
@@ -132,7 +132,7 @@ fn low8(w: u64) -> u8
     (w % 256) as u8
 }
 
-// Writes eight bytes at a place: one store.
+// Writes eight bytes from byte i on: one store.
 fn store64(bytes: &mut [u8], i: usize, w: u64)
     requires { ⌜ i + 8 ≤ length (now bytes) ⌝ }
     ensures { λ _. ⌜ unpack (take (i + 8) (now (bytes .exit))) ≡ unpack (take i (now (bytes .entry))) ++ bits 64 w ⌝ }
@@ -148,7 +148,7 @@ fn store64(bytes: &mut [u8], i: usize, w: u64)
 }
 
 // Puts bits one after the other: whole bytes stand before `next`, and `fill` bits wait in `acc`.
-// What a buffer holds from `next` on is nobody's until `finish`; a buffer has eight bytes more than are put.
+// What a buffer holds from `next` on is unspecified until `finish`; a buffer has eight bytes more than are put.
 pub struct BitWriter {
     pub acc: u64,
     pub fill: usize,

@@ -10,7 +10,7 @@ use Rattle.g9932.specs.Bits.{_⊕_, bit}
 use Rattle.g9932.specs.Trellis.{Word, nextOf, implied, same, obeysCode, takenBits}
 use Rattle.g9932.specs.declared.TrellisState.{TrellisState}
 use Rattle.g9932.proofs.Coordinates.{oppositeLabel, length-opposite}
-use Rattle.g9932.proofs.Identities.{bits-agree}
+use Rattle.g9932.proofs.Identities.{bits-agree, xor-false}
 use Rattle.g9932.proofs.OnePair.{forced-obeys, same-not}
 use Rattle.g9932.proofs.Turns.{Turn, both-u0, lone-u0, turned-parity}
 
@@ -18,9 +18,6 @@ use Rattle.g9932.proofs.Turns.{Turn, both-u0, lone-u0, turned-parity}
 
 not-both : (a b : Bool) → not a ⊕ not b ≡ a ⊕ b
 not-both = bits-agree 2 (λ a b. not a ⊕ not b) (λ a b. a ⊕ b) refl
-
-xor-false : (a : Bool) → a ⊕ false ≡ a
-xor-false = bits-agree 1 (λ a. a ⊕ false) (λ a. a) refl
 
 xor-not : (a b : Bool) → a ⊕ not b ≡ not (a ⊕ b)
 xor-not = bits-agree 2 (λ a b. a ⊕ not b) (λ a b. not (a ⊕ b)) refl

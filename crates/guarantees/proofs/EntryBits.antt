@@ -11,7 +11,7 @@ use Rattle.g9932.specs.Bits.{bit, odd}
 use Rattle.g9932.specs.Order.{Pair, pair, sum, isOne, inTwos, zeroInFront, pairsOf}
 use Rattle.g9932.specs.Trellis.{Word, lastTwo, taken, takenTotal, lowBitsOf, sentBits, nextOf, wordAt, encodePairs}
 use Rattle.g9932.specs.declared.TrellisState.{TrellisState}
-use Rattle.g9932.proofs.Formed.{AllTwo, fit-both, fit-lone, isOne-odd, isOne-even}
+use Rattle.g9932.proofs.Formed.{AllTwo, fit-both, fit-lone, isOne-odd, isOne-even, three-pairs}
 use Rattle.g9932.proofs.OnePair.{Fit, lone, both, Valid, word-valid, length-sent}
 use Rattle.guarantees.specs.Words.{wordsOf, labelsOf, lowestOf, lowest}
 
@@ -87,14 +87,6 @@ lone-lows y es s f h o z e =
     let past : drop y (sentBits 0 u ++ rest) ≡ rest = drop-at (sentBits 0 u) rest y (length-sent fit v ∙ zero-add y) in
     ap₂ (λ (k : List Bool) (l : List (List Bool)). k ∷ l) (lone-low y u rest (length-sent fit v) (h .0))
     (ap (λ (d : List Bool). map (take 2) (labelsOf es d)) past ∙ twos-low es (nextOf s u) (drop k f) (h .1) o (simp length-drop (omega arith)))
-
--- at least three pairs where there is a 0 in front
-three-pairs : (es : List ℕ) → 4 ≤ length es → lastTwo (inTwos es) ≡ false
-three-pairs [] h = absurd (omega arith)
-three-pairs (a ∷ []) h = absurd (omega arith)
-three-pairs (a ∷ b ∷ []) h = absurd (omega arith)
-three-pairs (a ∷ b ∷ c ∷ []) h = absurd (omega arith)
-three-pairs (a ∷ b ∷ c ∷ d ∷ es) h = refl
 
 pub pairs-low : (es : List ℕ) (s : TrellisState) (f : List Bool) → AllTwo es → 4 ≤ length es → length f ≡ takenTotal (pairsOf es)
     → map (take 2) (labelsOf es (encodePairs s (pairsOf es) f)) ≡ lowest (pairsOf es) (wordsOf s (pairsOf es) f)

@@ -6,7 +6,7 @@ use mathlib.Core.Path.{_≡_, refl, _∙_}
 use lib.ListN.{length, drop, drop-of-length-le}
 use Rattle.frame.proofs.Labels.{labels-drop, length-at, at-get}
 use Rattle.frame.specs.Labels.{bitsOfLabels, labelsAt}
-use Rattle.frame.specs.Written.{written, Waits, count, Put}
+use Rattle.frame.specs.Written.{written, Waits, bitsPut, Put}
 use Rattle.frame.specs.declared.BitWriter.{BitWriter}
 use Rattle.g9932.proofs.Words.{length-bits}
 use Rattle.g9932.specs.Bits.{bits}
@@ -20,7 +20,7 @@ pub record Collecting (w₀ : BitWriter) (es ps ls frame₀ frame : List ℕ) (w
   pub frameLength : length frame ≡ length frame₀
   pub whole : written w frame ++ bitsOfLabels (drop j es) (drop j (labelsAt ps ls)) ≡ written w₀ frame₀ ++ bitsOfLabels es (labelsAt ps ls)
   pub waits : Waits w
-  pub counted : count w + sum (drop j es) ≡ count w₀ + sum es
+  pub counted : bitsPut w + sum (drop j es) ≡ bitsPut w₀ + sum es
 
 module _ {w₀ : BitWriter} {es ps ls frame₀ : List ℕ} (needs : CollectNeeds w₀ es ps ls frame₀) where
   pub collect-start : Collecting w₀ es ps ls frame₀ frame₀ w₀ 0

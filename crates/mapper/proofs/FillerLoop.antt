@@ -17,8 +17,8 @@ use Rattle.g9932.specs.declared.Found.the-variants.{Nothing}
 use Rattle.mapper.specs.Writing.{withFiller, SetsFiller}
 use Rattle.mapper.specs.Reading.{wrongFiller, ChecksFiller}
 
-pub two-bits : (r : ℕ) → num (drawn 2 r) < 4
-two-bits r = num-lt (drawn 2 r)
+pub drawn-small : (r : ℕ) → num (drawn 2 r) < 4
+drawn-small r = num-lt (drawn 2 r)
 
 -- ---- the register
 

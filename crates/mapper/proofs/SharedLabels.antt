@@ -5,7 +5,8 @@ use native.Mathlib.Omega.{arith}
 use mathlib.Core.List.{List, [], _∷_, _++_, append-assoc}
 use mathlib.Core.Path.{_≡_, refl, sym, ap, _∙_}
 use lib.ListN.{length, take, drop, set, length-set, length-drop, take-append-drop}
-use lib.Seq.{drop-cons, take-suc-set, drop-set-lt, set-getD, getD-set-other}
+use lib.Seq.{take-suc-set, drop-set-lt, set-getD, getD-set-other}
+use Rattle.g9932.proofs.Lists.{drop-two}
 use Rattle.g9932.specs.Sizes.{entry}
 use Rattle.mapper.specs.Writing.{splitOnes}
 use Rattle.mapper.specs.Reading.{joinOnes, JoinNeeds}
@@ -29,11 +30,6 @@ abbrev two-set : List ℕ → ℕ → ℕ → ℕ → List ℕ
 two-set ls i x y = set (set ls i x) (i + 1) y
 
 module _ (ls : List ℕ) (i : ℕ) (l : i + 1 < length ls) where
-  drop-two : drop i ls ≡ entry ls i ∷ entry ls (i + 1) ∷ drop (i + 2) ls
-  drop-two =
-      let n : i + 2 ≡ suc (i + 1) = omega arith in
-      rw (n, ← (drop-cons ls (i + 1) 0 l), add-one) (drop-cons ls i 0 (omega arith))
-
   take-two : (x y : ℕ) → take (i + 2) (two-set ls i x y) ≡ take i ls ++ x ∷ y ∷ []
   take-two x y =
       let n : i + 2 ≡ suc (i + 1) = omega arith in
@@ -53,7 +49,7 @@ module _ (ls : List ℕ) (i : ℕ) (l : i + 1 < length ls) where
 
   pub split-step : {from : ℕ} {ls₀ : List ℕ} → Changing splitOnes from ls₀ ls i
       → Changing splitOnes from ls₀ (two-set ls i (entry ls i % 2) (entry ls i / 2)) (i + 2)
-  split-step = change-step splitOnes (entry ls i % 2) (entry ls i / 2) (ap splitOnes drop-two)
+  split-step = change-step splitOnes (entry ls i % 2) (entry ls i / 2) (ap splitOnes (drop-two ls i l))
 
   abbrev both : ℕ
   both = entry ls i + 2 * entry ls (i + 1)
@@ -62,7 +58,7 @@ module _ (ls : List ℕ) (i : ℕ) (l : i + 1 < length ls) where
   join-step g =
       let kept : two-set ls i both (entry ls (i + 1)) ≡ set ls i both =
       ap (set (set ls i both) (i + 1)) (sym (getD-set-other ls i (i + 1) both 0 (λ e. absurd (omega arith)))) ∙ set-getD (set ls i both) (i + 1) 0 in
-      rw kept at (change-step joinOnes both (entry ls (i + 1)) (ap joinOnes drop-two) g)
+      rw kept at (change-step joinOnes both (entry ls (i + 1)) (ap joinOnes (drop-two ls i l)) g)
 
   -- two labels of one bit, and those after them
   module _ (needs : JoinNeeds ls i) where

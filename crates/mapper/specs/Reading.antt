@@ -9,7 +9,7 @@ use lib.ListN.{length, getD}
 use Rattle.constellation.specs.DemapByLayout.{Demaps}
 use Rattle.constellation.specs.Layouts.{ToneLayout}
 use Rattle.frame.specs.Labels.{bitsOfLabels, Within, labelsAt, Rising}
-use Rattle.frame.specs.Written.{written, Waits, count}
+use Rattle.frame.specs.Written.{written, Waits, bitsPut}
 use Rattle.frame.specs.declared.BitWriter.{BitWriter}
 use Rattle.g9932.specs.Bits.{num, orAt}
 use Rattle.g9932.specs.Filler.{drawn, afterDraws}
@@ -91,10 +91,10 @@ pub record CollectNeeds (w : BitWriter) (es ps labels frame : List ℕ) : Type 0
   pub counts : (k : ℕ) → entry es k ≤ 15
   pub places : Rising ps (length labels)
   pub within : Within es (labelsAt ps labels) (length es)
-  pub bytes : count w + sum es + 64 ≤ 8 * length frame
+  pub bytes : bitsPut w + sum es + 64 ≤ 8 * length frame
   pub waits : Waits w
 
 pub record CollectsLabels (w : BitWriter) (es ps labels frame : List ℕ) (v : BitWriter) (after : List ℕ) : Type 0 where
   pub whole : written v after ≡ written w frame ++ bitsOfLabels es (labelsAt ps labels)
   pub waits : Waits v
-  pub counted : count v ≡ count w + sum es
+  pub counted : bitsPut v ≡ bitsPut w + sum es

@@ -119,7 +119,7 @@ module _ {cs : List Class} {from : ℕ} {es ps ms layouts : List ℕ} (p : PlanO
       let behind : (j : ℕ) → j < length (everySecond from h) → (from ≤ entry (everySecond from h) j) × (entry (everySecond from h) j < length ls) =
       λ j l. let s = second-at from h j (omega arith) in (omega arith, omega arith) in
       record {
-        same =
+        placesLength =
             let e = ap length (p .placesAre) ∙ length-append own (everySecond from h) in
             let f = ap length (p .entriesAre) ∙ length-append (filter (leb (p .least)) bs) (replicate h 2) in
             omega (arith, e, f, length-replicate {A = ℕ} h 2);

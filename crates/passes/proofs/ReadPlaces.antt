@@ -142,7 +142,7 @@ module _ {m : Mode} {cs : List Class} {d : List Bool} {from : ℕ} {es ps ms lay
   collect-needs e =
       let r : HeldFits Uncoded es (length held) = rw e at (w .heldFits) in
       record {
-        same = placed .same;
+        same = placed .placesLength;
         counts = r .0;
         places = placed .rising;
         within = joined-within (w .plan) labels n small;

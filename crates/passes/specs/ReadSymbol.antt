@@ -9,7 +9,7 @@ use Rattle.frame.specs.Labels.{bitsOfLabels}
 use Rattle.frame.specs.Written.{Framed}
 use Rattle.g9932.specs.Answers.{onDone, reportOf, reportBy, breakIn, frameIn, placesVerdict, pointsVerdict}
 use Rattle.g9932.specs.Filler.{registerAfter}
-use Rattle.g9932.specs.Order.{pairsOf, sum}
+use Rattle.g9932.specs.Order.{Wide, pairsOf, sum}
 use Rattle.g9932.specs.Refusals.{refused, accepted, numberOf, placeOf}
 use Rattle.g9932.specs.Sizes.{Tables, entry, Point, points, bytesFor, pack, mostTones, mostBits, mostHeld}
 use Rattle.g9932.specs.Symbol.{load, classesOf, sizeOf, gatherBits, readingIn}
@@ -25,7 +25,6 @@ use Rattle.plan.specs.declared.PlanSizes.{PlanSizes}
 use Rattle.passes.specs.PlanFits.{PlanFits}
 use Rattle.passes.specs.declared.read.PlacesRead.{PlacesRead}
 use Rattle.passes.specs.declared.read.PlacesRead.the-variants.{Refused, Done}
-use Rattle.trellis.specs.Coding.{Wide}
 
 -- ---- the places
 

@@ -1,18 +1,10 @@
 -- A draw in numbers: the bit that is fed back, and the two bits of a monitored tone.
-use mathlib.Core.Path.{_≡_, refl, _∙_}
-use mathlib.Core.Bool.{Bool, true, false}
+use mathlib.Core.Path.{_≡_, _∙_}
 use Prim.Native.Nat.{ℕ, _+_, _*_, _/_, _%_, _<_}
 use native.Mathlib.Omega.{arith}
-use Rattle.g9932.specs.Bits.{_⊕_, weight, odd, num}
+use Rattle.g9932.specs.Bits.{weight, odd, num}
 use Rattle.g9932.specs.Filler.{nextRegister, drawOf, drawn}
-use Rattle.g9932.proofs.Words.{weight-odd}
-
-weight-xor : (a b : Bool) → weight (a ⊕ b) ≡ (weight a + weight b) % 2
-unfolding weight
-weight-xor true true = refl
-weight-xor true false = refl
-weight-xor false true = refl
-weight-xor false false = refl
+use Rattle.g9932.proofs.Words.{weight-odd, weight-xor}
 
 pub next-number : (r : ℕ) → nextRegister r ≡ r / 2 + 4194304 * ((r % 2 + r / 32 % 2) % 2)
 unfolding nextRegister
@@ -31,9 +23,9 @@ even-above a w = omega arith
 low-two : (r : ℕ) → r % 4 ≡ r % 2 + 2 * (r / 2 % 2)
 low-two r = omega arith
 
-pub two-bits : (r : ℕ) → r % 4 ≡ num (drawn 2 r)
+pub two-drawn : (r : ℕ) → r % 4 ≡ num (drawn 2 r)
 unfolding num drawOf
-two-bits r =
+two-drawn r =
     let b : weight (odd (nextRegister r)) ≡ r / 2 % 2 = weight-odd (nextRegister r) ∙ rw next-number (even-above (r / 2) _) in
     low-two r ∙ rw (weight-odd r, b) (sum (r % 2) (r / 2 % 2))
   where

@@ -9,7 +9,7 @@ use g9932::FillerBit;
 use g9932::Refusal;
 
 // The next filler bit, and the register after it: bit 22 is old bit 0 xor old bit 5.
-pub fn next_bit(register: u32) -> FillerBit
+fn next_bit(register: u32) -> FillerBit
     ensures { λ r. ⌜ r ≡ drawOf register ⌝ }
 {
     let feed = (register % 2 + register / 32 % 2) % 2;

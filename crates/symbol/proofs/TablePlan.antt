@@ -127,7 +127,7 @@ module _ (T : Tables) (ok : tableVerdict T .number ≡ 0) where
               let s = plain-sum e in
               let b = bytes in
               let m = known .sizeMost in
-              record { same = placed .same; counts = plain-most e; places = placed .rising; bits = omega arith; small = omega arith }
+              record { same = placed .placesLength; counts = plain-most e; places = placed .rising; bits = omega arith; small = omega arith }
           go Coded e =
               let c = known .coded e in
               let b = bytes in
@@ -136,7 +136,7 @@ module _ (T : Tables) (ok : tableVerdict T .number ≡ 0) where
               let needs : FrameNeeds f 0 es =
               record {
                 wide = rw (coded-is e) (c .entriesRange);
-                few = rw (coded-is e) (c .fewEntries);
+                enough = rw (coded-is e) (c .fewEntries);
                 many = coded-many e;
                 bits = omega arith;
                 small = omega arith;

@@ -23,11 +23,13 @@ module _ (frame : List ℕ) (start : ℕ) (es labels : List ℕ) (needs : FrameN
     pub even-needs : CodeNeeds (firstCoder start) es 0 frame labels
     even-needs =
         record {
+          wide = needs .wide;
+          many = needs .many;
           inside = omega arith;
           even = omega (arith, even);
           bits = rw (← (whole-pairs es even)) (omega (arith, needs .bits));
           small = needs .small;
-          places = omega (arith, same);
+          labelsFit = omega (arith, same);
           within = λ k h. absurd (omega arith);
         }
 
@@ -38,24 +40,26 @@ module _ (frame : List ℕ) (start : ℕ) (es labels : List ℕ) (needs : FrameN
   module _ (y : ℕ) (odd : length es % 2 ≡ 1) (hy : y ≡ getD es 0 0) where
     pub first-needs : (2 ≤ y) × (y ≤ 15) × (start + y ≤ 8 * length frame + 1) × (length frame ≤ mostBytes)
     first-needs =
-        let a = needs .wide 0 (omega (arith, needs .few)) in
-        let t = padded-taken es y (needs .few) odd hy in
+        let a = needs .wide 0 (omega (arith, needs .enough)) in
+        let t = padded-taken es y (needs .enough) odd hy in
         let b = needs .bits in
         (rw hy (a .0), rw hy (a .1), omega arith, needs .small)
 
     module _ (p : PairCode) (first : CodesPair (firstCoder start) false (pair 0 y) frame p) where
       here : 0 < length labels
-      here = omega (arith, needs .few, same)
+      here = omega (arith, needs .enough, same)
 
       pub odd-needs : CodeNeeds (p .coder) es 1 frame (set labels 0 (p .w))
       odd-needs =
-          let t = padded-taken es y (needs .few) odd hy in
+          let t = padded-taken es y (needs .enough) odd hy in
           record {
-            inside = omega (arith, needs .few);
-            even = omega (arith, needs .few);
+            wide = needs .wide;
+            many = needs .many;
+            inside = omega (arith, needs .enough);
+            even = omega (arith, needs .enough);
             bits = rw (first .at) (omega (arith, needs .bits));
             small = needs .small;
-            places = rw (length-set labels 0 (p .w)) (omega (arith, same));
+            labelsFit = rw (length-set labels 0 (p .w)) (omega (arith, same));
             within = within-set es labels 0 (p .w) here (λ k h. absurd (omega arith)) (rw (← hy) (first .wSmall));
           }
 
@@ -64,10 +68,11 @@ module _ (frame : List ℕ) (start : ℕ) (es labels : List ℕ) (needs : FrameN
       odd-coded after g =
           let f : List Bool = drop start (unpack frame) in
           let n : bitsOfLabels (take 1 es) (take 1 (set labels 0 (p .w))) ≡ sentBits 0 (codedWord (firstCoder start) false (pair 0 y) frame) =
-          labels-set es labels 0 (p .w) (omega (arith, needs .few)) here ∙ rw (← hy) (first .sends) in
+          labels-set es labels 0 (p .w) (omega (arith, needs .enough)) here ∙ rw (← hy) (first .sends) in
+          let later = drop-drop (taken false (pair 0 y)) start (unpack frame) in
+          let step = encode-step false zeroState (pair 0 y) (inTwos (drop 1 es)) f (not-forced es (needs .enough) odd) in
           record {
             whole =
-                g .whole
-                ∙ rw (n, padded-pairs es y (needs .few) odd hy, first .state, first .at, ← (drop-drop (taken false (pair 0 y)) start (unpack frame)), encode-step false zeroState (pair 0 y) (inTwos (drop 1 es)) f (not-forced es (needs .few) odd));
+                g .whole ∙ rw (n, padded-pairs es y (needs .enough) odd hy, first .state, first .at, ← later, step);
             within = g .within;
           }

@@ -16,7 +16,7 @@ use Rattle.g9932.specs.Order.{Pair, pair, inTwos}
 use Rattle.g9932.specs.Sizes.{unpack}
 use Rattle.g9932.specs.Trellis.{lastTwo, taken, wordOf, sentBits, nextOf, encodePairs}
 use Rattle.g9932.specs.declared.TrellisState.{TrellisState}
-use Rattle.trellis.specs.Coding.{codedWord, CodePairNeeds, CodesPair, Wide, CodeNeeds, CodesFrom}
+use Rattle.trellis.specs.Coding.{codedWord, CodePairNeeds, CodesPair, CodeNeeds, CodesFrom}
 use Rattle.trellis.specs.declared.Coder.{Coder}
 use Rattle.trellis.specs.declared.PairCode.{PairCode}
 use Rattle.trellis.proofs.Entries.{cut-pair, pair-wide, inTwos-short, is-forced}
@@ -63,7 +63,6 @@ going-on g f = record { whole = f .whole ∙ g .whole; within = f .within }
 
 -- the pair at hand: x and y are the entries at i
 pub record AtPair (c k : Coder) (es frame labels₀ labels : List ℕ) (from i x y : ℕ) (forced : Bool) : Type 0 where
-  pub wide : Wide es
   pub upTo : CodesUpTo c k es frame labels₀ labels from i
   pub more : i + 1 < length es
   pub isX : x ≡ getD es i 0
@@ -74,14 +73,14 @@ module _ {c k : Coder} {es frame labels₀ labels : List ℕ} {from i x y : ℕ}
   cut : inTwos (drop i es) ≡ pair x y ∷ inTwos (drop (i + 2) es)
   cut = cut-pair es i x y (h .more) (h .isX) (h .isY)
 
-  pub at-wide : (2 ≤ x) × (x ≤ 15) × (2 ≤ y) × (y ≤ 15)
-  at-wide = pair-wide es i x y (h .wide) (h .more) (h .isX) (h .isY)
+  at-wide : (2 ≤ x) × (x ≤ 15) × (2 ≤ y) × (y ≤ 15)
+  at-wide = pair-wide es i x y (h .upTo .needs .wide) (h .more) (h .isX) (h .isY)
 
   pub pair-needs : CodePairNeeds k forced (pair x y) frame
   pair-needs =
       let r = h .upTo .needs in
       let b = rw cut at (r .bits) in
-      record { bits = rw (is-forced es i (h .more) (h .isForced)) (omega (arith, b)); small = r .small }
+      record { xRange = (at-wide .0, at-wide .1); yRange = (at-wide .2, at-wide .3); bits = rw (is-forced es i (h .more) (h .isForced)) (omega (arith, b)); small = r .small }
 
   -- the labels fit their places
   pub labels-fit : {p : PairCode} → CodesPair k forced (pair x y) frame p → (p .v < 65536) × (p .w < 65536)
@@ -98,10 +97,10 @@ module _ {c k : Coder} {es frame labels₀ labels : List ℕ} {from i x y : ℕ}
       let b = rw cut at (r .bits) in
       let l : length (set labels i (p .v)) ≡ length labels = length-set labels i (p .v) in
       let m : length (set (set labels i (p .v)) (i + 1) (p .w)) ≡ length labels = length-set (set labels i (p .v)) (i + 1) (p .w) ∙ l in
-      let s = labels-set es labels i (p .v) (omega arith) (omega (arith, r .places)) in
-      let t = labels-set es (set labels i (p .v)) (i + 1) (p .w) (h .more) (omega (arith, r .places)) in
-      let a = within-set es labels i (p .v) (omega (arith, r .places)) (r .within) (rw (← (h .isX)) (q .vSmall)) in
-      let d = within-set es (set labels i (p .v)) (i + 1) (p .w) (omega (arith, r .places)) a (rw (← (h .isY)) (q .wSmall)) in
+      let s = labels-set es labels i (p .v) (omega arith) (omega (arith, r .labelsFit)) in
+      let t = labels-set es (set labels i (p .v)) (i + 1) (p .w) (h .more) (omega (arith, r .labelsFit)) in
+      let a = within-set es labels i (p .v) (omega (arith, r .labelsFit)) (r .within) (rw (← (h .isX)) (q .vSmall)) in
+      let d = within-set es (set labels i (p .v)) (i + 1) (p .w) (omega (arith, r .labelsFit)) a (rw (← (h .isY)) (q .wSmall)) in
       let z : i + 1 + 1 ≡ i + 2 = omega arith in
       let w : List ℕ = set (set labels i (p .v)) (i + 1) (p .w) in
       let n : bitsOfLabels (take (i + 2) es) (take (i + 2) w) ≡ bitsOfLabels (take i es) (take i labels) ++ sentBits x (codedWord k forced (pair x y) frame) =
@@ -114,11 +113,13 @@ module _ {c k : Coder} {es frame labels₀ labels : List ℕ} {from i x y : ℕ}
         kept = m ∙ h .upTo .kept;
         needs =
             record {
+              wide = r .wide;
+              many = r .many;
               inside = omega arith;
               even = omega (arith, r .even);
               bits = rw (q .at) (omega arith);
               small = r .small;
-              places = omega (arith, r .places);
+              labelsFit = omega (arith, r .labelsFit);
               within = rw z at d;
             };
         whole = rw (n, q .state, q .at, ← (drop-drop (taken forced (pair x y)) (k .at) (unpack frame)), append-assoc) e;

@@ -2,36 +2,23 @@
 use mathlib.Core.Path.{_≡_, refl, sym, ap, _∙_}
 use mathlib.Core.Bool.{Bool, true, false}
 use mathlib.Core.List.{List, [], _∷_}
-use Prim.Native.Nat.{ℕ, suc, _+_, _-_, _%_, _^_, _≤_, _<_}
-use native.Mathlib.Numerals.{add-one, add-two}
+use Prim.Native.Nat.{ℕ, _+_, _-_, _%_, _^_, _≤_, _<_}
 use native.Mathlib.Omega.{arith}
 use borrow.Author.Tests.{lt-ltb, le-ltb, ltb-true, ltb-false, eq-eqb, ne-eqb}
 use lib.Dec.{ltb}
 use lib.ListN.{length, drop, getD, length-drop}
 use lib.Seq.{drop-cons}
 use Rattle.g9932.specs.Sizes.{mostTones}
-use Rattle.g9932.specs.Order.{pair, inTwos, pairsOf}
+use Rattle.g9932.specs.Order.{Wide, pair, inTwos, pairsOf}
 use Rattle.g9932.specs.Trellis.{lastTwo, taken, takenTotal}
-use Rattle.trellis.specs.Coding.{Wide}
-
-drop-two : (es : List ℕ) (i : ℕ) → i + 1 < length es → drop i es ≡ getD es i 0 ∷ getD es (i + 1) 0 ∷ drop (i + 2) es
-drop-two es i h =
-    let a : drop i es ≡ getD es i 0 ∷ drop (suc i) es = drop-cons es i 0 (omega arith) in
-    let b : drop (suc i) es ≡ getD es (suc i) 0 ∷ drop (suc (suc i)) es = drop-cons es (suc i) 0 (omega arith) in
-    rw (add-one, add-two, a, b)
+use Rattle.g9932.proofs.Formed.{lastTwo-length, three-pairs}
+use Rattle.g9932.proofs.Lists.{drop-two}
 
 -- none where fewer than two entries are left
 pub inTwos-short : (l : List ℕ) → length l ≤ 1 → inTwos l ≡ []
 inTwos-short [] h = refl
 inTwos-short (a ∷ []) h = refl
 inTwos-short (a ∷ b ∷ l) h = absurd (omega arith)
-
-lastTwo-length : (l : List ℕ) → lastTwo (inTwos l) ≡ ltb (length l) 4
-lastTwo-length [] = refl
-lastTwo-length (a ∷ []) = refl
-lastTwo-length (a ∷ b ∷ []) = refl
-lastTwo-length (a ∷ b ∷ c ∷ []) = refl
-lastTwo-length (a ∷ b ∷ c ∷ d ∷ l) = sym (le-ltb (length (a ∷ b ∷ c ∷ d ∷ l)) 4 (omega arith))
 
 ltb-shift : (n i : ℕ) → i + 2 ≤ n → ltb (n - i) 6 ≡ ltb (n - (i + 2)) 4
 ltb-shift n i h = go (ltb (n - (i + 2)) 4) refl
@@ -60,18 +47,18 @@ pub whole-pairs : (es : List ℕ) → (length es % 2 ≡ 1 → ⊥) → pairsOf 
 whole-pairs es even = rw (ne-eqb (length es % 2) 1 even)
 
 pub padded-pairs : (es : List ℕ) (y : ℕ) → 4 ≤ length es → length es % 2 ≡ 1 → y ≡ getD es 0 0 → pairsOf es ≡ pair 0 y ∷ inTwos (drop 1 es)
-padded-pairs es y few odd hy =
+padded-pairs es y enough odd hy =
     let d : drop 0 es ≡ getD es 0 0 ∷ drop 1 es = drop-cons es 0 0 (omega arith) in
     rw (eq-eqb (length es % 2) 1 odd) (ap (λ (l : List ℕ). inTwos (0 ∷ l)) d ∙ rw hy)
 
 -- the pair with the 0 is not among the last two
 pub not-forced : (es : List ℕ) → 4 ≤ length es → length es % 2 ≡ 1 → false ≡ lastTwo (inTwos (drop 1 es))
-not-forced es few odd = sym (lastTwo-length (drop 1 es) ∙ le-ltb (length (drop 1 es)) 4 (simp length-drop (omega arith)))
+not-forced es enough odd = sym (three-pairs (drop 1 es) (simp length-drop (omega arith)))
 
 -- and the bits that the pairs take, with the 0 in front
 pub padded-taken : (es : List ℕ) (y : ℕ) → 4 ≤ length es → length es % 2 ≡ 1 → y ≡ getD es 0 0
     → takenTotal (pairsOf es) ≡ taken false (pair 0 y) + takenTotal (inTwos (drop 1 es))
-padded-taken es y few odd hy = rw (padded-pairs es y few odd hy, ← (not-forced es few odd))
+padded-taken es y enough odd hy = rw (padded-pairs es y enough odd hy, ← (not-forced es enough odd))
 
 -- ---- a place among the entries, as the loops ask for it
 

@@ -6,7 +6,7 @@ use Prim.Native.Nat.{ℕ, _+_, _-_, _*_, _/_, _%_, _^_, _≤_}
 use native.Mathlib.Omega.{arith}
 use lib.ListN.{length, drop}
 use lib.Pow.{field, mod-mod-pow, shr-shr}
-use Rattle.frame.specs.Loads.{Ahead}
+use Rattle.frame.specs.BitsAhead.{Ahead}
 use Rattle.g9932.specs.Bits.{odd}
 use Rattle.g9932.specs.Order.{pair}
 use Rattle.g9932.specs.Sizes.{unpack}

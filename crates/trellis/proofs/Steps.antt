@@ -6,7 +6,7 @@ use Prim.Native.Nat.{ℕ, _+_, _*_, _/_, _%_, _<_}
 use lib.ListN.{getD}
 use lib.Pow.{field}
 use native.Mathlib.Omega.{arith}
-use Rattle.frame.proofs.Tables.{table-at}
+use Rattle.g9932.proofs.Lists.{table-at}
 use Rattle.g9932.proofs.Words.{weight-le, odd-weight}
 use Rattle.g9932.specs.Bits.{weight, odd}
 use Rattle.g9932.specs.Trellis.{lowBits, nextState}
@@ -60,7 +60,7 @@ state-back s =
     let p3 : odd (n / 8) ≡ s .s3 = ap odd e3 ∙ odd-weight (s .s3) 0 in
     λ i. record { s3 = p3 i; s2 = p2 i; s1 = p1 i; s0 = p0 i }
 
-pub state-lt : (s : TrellisState) → stateNumber s < 16
+state-lt : (s : TrellisState) → stateNumber s < 16
 unfolding stateNumber
 state-lt s = omega (arith, weight-le (s .s0), weight-le (s .s1), weight-le (s .s2), weight-le (s .s3))
 

@@ -3,10 +3,10 @@ use Prim.Native.Nat.{ℕ, _+_, _-_, _*_, _%_, _^_, _≤_, _<_}
 use mathlib.Core.Bool.{Bool}
 use mathlib.Core.List.{List, _++_}
 use mathlib.Core.Path.{_≡_}
-use lib.ListN.{length, take, drop, getD}
+use lib.ListN.{length, take, drop}
 use Rattle.frame.specs.Labels.{bitsOfLabels, Within}
 use Rattle.g9932.specs.Bits.{weight, bits}
-use Rattle.g9932.specs.Order.{inTwos, pairsOf, Pair}
+use Rattle.g9932.specs.Order.{EntryRange, Wide, inTwos, pairsOf, Pair}
 use Rattle.g9932.specs.Sizes.{unpack, mostBytes, mostTones}
 use Rattle.g9932.specs.Trellis.{Word, taken, wordOf, sentBits, nextOf, zeroState, encodePairs, takenTotal}
 use Rattle.trellis.specs.declared.Coder.{Coder}
@@ -22,6 +22,8 @@ abbrev pub codedWord : Coder → Bool → Pair → List ℕ → Word
 codedWord c forced p frame = wordOf forced (c .state) (p .x) (take (taken forced p) (drop (c .at) (unpack frame)))
 
 pub record CodePairNeeds (c : Coder) (forced : Bool) (p : Pair) (frame : List ℕ) : Type 0 where
+  pub xRange : EntryRange (p .x)
+  pub yRange : EntryRange (p .y)
   pub bits : c .at + taken forced p ≤ 8 * length frame
   pub small : length frame ≤ mostBytes
 
@@ -39,16 +41,14 @@ firstCoder start = record { state = zeroState; at = start }
 
 -- ---- the pairs from an entry on; the labels are those of the entries, in their order
 
--- every entry is 2 to 15
-abbrev pub Wide : List ℕ → Type 0
-Wide es = (k : ℕ) → k < length es → (2 ≤ getD es k 0) × (getD es k 0 ≤ 15)
-
 pub record CodeNeeds (c : Coder) (es : List ℕ) (i : ℕ) (frame labels : List ℕ) : Type 0 where
+  pub wide : Wide es
+  pub many : length es ≤ mostTones
   pub inside : i ≤ length es
   pub even : (length es - i) % 2 ≡ 0
   pub bits : c .at + takenTotal (inTwos (drop i es)) ≤ 8 * length frame
   pub small : length frame ≤ mostBytes
-  pub places : length es ≤ length labels
+  pub labelsFit : length es ≤ length labels
   pub within : Within es labels i
 
 pub record CodesFrom (c : Coder) (es : List ℕ) (i : ℕ) (frame labels after : List ℕ) : Type 0 where
@@ -64,7 +64,7 @@ pub record CodesFrame (frame : List ℕ) (start : ℕ) (es after : List ℕ) : T
 
 pub record FrameNeeds (frame : List ℕ) (start : ℕ) (es : List ℕ) : Type 0 where
   pub wide : Wide es
-  pub few : 4 ≤ length es
+  pub enough : 4 ≤ length es
   pub many : length es ≤ mostTones
   pub bits : start + takenTotal (pairsOf es) ≤ 8 * length frame
   pub small : length frame ≤ mostBytes

@@ -3,8 +3,7 @@ use mathlib.Core.Bool.{Bool, false}
 use mathlib.Core.List.{List}
 use mathlib.Core.Path.{_≡_}
 use Prim.Native.Nat.{ℕ, _+_, _-_, _*_, _/_, _%_, _<_}
-use Rattle.frame.specs.Masks.{valuesFrom}
-use Rattle.g9932.specs.Bits.{weight, odd}
+use Rattle.g9932.specs.Bits.{weight, odd, valuesFrom}
 use Rattle.g9932.specs.Order.{pair}
 use Rattle.g9932.specs.Trellis.{lowBits, nextState}
 use Rattle.g9932.specs.declared.LowBits.{LowBits}

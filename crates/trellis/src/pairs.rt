@@ -8,9 +8,8 @@ ghost use Rattle.frame.specs.Labels.{labelsAt, Rising, Placed};
 ghost use Rattle.frame.specs.Masks.{maskList};
 ghost use Rattle.g9932.specs.Bits.{_⊕_, odd};
 ghost use Rattle.g9932.specs.Order.{pair};
-ghost use Rattle.g9932.specs.Sizes.{mostTones};
 ghost use Rattle.g9932.specs.Trellis.{lowBits, nextState};
-ghost use Rattle.trellis.specs.Coding.{CodePairNeeds, CodesPair, CodeNeeds, CodesFrom, Wide};
+ghost use Rattle.trellis.specs.Coding.{CodePairNeeds, CodesPair, CodeNeeds, CodesFrom};
 ghost use Rattle.trellis.specs.Steps.{stateNumber, stateAt, stepNumber, stepList, coderAt, StepsBy, CodesFreePair};
 use super::Coder;
 use super::PairCode;
@@ -110,7 +109,7 @@ fn code_free_pair(
     steps: &[u8; 128],
     masks: &[u64; 16],
 ) -> FreePair
-    requires { ⌜ (now steps ≡ stepList) × (now masks ≡ maskList) × (state .0 < 16) × (2 ≤ x) × (x ≤ 15) × (2 ≤ y) × (y ≤ 15) × CodePairNeeds (coderAt (state .0) at) false (pair x y) (now frame) ⌝ }
+    requires { ⌜ (now steps ≡ stepList) × (now masks ≡ maskList) × (state .0 < 16) × CodePairNeeds (coderAt (state .0) at) false (pair x y) (now frame) ⌝ }
     ensures { λ r. ⌜ CodesFreePair (state .0) at x y (now (frame .entry)) r ⌝ }
 {
     let word = frame::ahead(frame, at);
@@ -149,7 +148,7 @@ fn forced_step(s: TrellisState, u3: bool) -> Stepped
 
 // Codes one of the last two pairs.
 fn code_forced_pair(c: Coder, frame: &[u8], x: usize, y: usize) -> PairCode
-    requires { ⌜ (2 ≤ x) × (x ≤ 15) × (2 ≤ y) × (y ≤ 15) × CodePairNeeds c true (pair x y) (now frame) ⌝ }
+    requires { ⌜ CodePairNeeds c true (pair x y) (now frame) ⌝ }
     ensures { λ r. ⌜ CodesPair c true (pair x y) (now (frame .entry)) r ⌝ }
 {
     let n = x + y - 3;
@@ -179,7 +178,7 @@ fn code_forced_pairs(
     from: usize,
     labels: &mut [u16],
 )
-    requires { ⌜ Wide (now entries) × (length (now entries) ≤ mostTones) × (length (now entries) ≤ from + 5) × Placed (now entries) (now places) (now labels) × CodeNeeds (coderAt (state .0) at) (now entries) from (now frame) (labelsAt (now places) (now labels)) ⌝ }
+    requires { ⌜ (length (now entries) ≤ from + 5) × Placed (now entries) (now places) (now labels) × CodeNeeds (coderAt (state .0) at) (now entries) from (now frame) (labelsAt (now places) (now labels)) ⌝ }
     ensures { λ _. ⌜ CodesFrom (coderAt (state .0) at) (now (entries .entry)) from (now (frame .entry)) (labelsAt (now (places .entry)) (now (labels .entry))) (labelsAt (now (places .entry)) (now (labels .exit))) ⌝ }
 {
     let mut k = Coder {
@@ -204,7 +203,7 @@ pub fn code_from(
     from: usize,
     labels: &mut [u16],
 )
-    requires { ⌜ Wide (now entries) × (length (now entries) ≤ mostTones) × Placed (now entries) (now places) (now labels) × CodeNeeds c (now entries) from (now frame) (labelsAt (now places) (now labels)) ⌝ }
+    requires { ⌜ Placed (now entries) (now places) (now labels) × CodeNeeds c (now entries) from (now frame) (labelsAt (now places) (now labels)) ⌝ }
     ensures { λ _. ⌜ CodesFrom c (now (entries .entry)) from (now (frame .entry)) (labelsAt (now (places .entry)) (now (labels .entry))) (labelsAt (now (places .entry)) (now (labels .exit))) ⌝ }
 {
     let steps = step_table();

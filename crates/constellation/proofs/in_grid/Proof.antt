@@ -4,7 +4,7 @@ use mathlib.Core.Path.{refl}
 use borrow.Author.Tests.{ne-eqb}
 use Prim.Native.Nat.{_%_}
 use Rattle.g9932.specs.Bits.{first}
-use Rattle.constellation.specs.Widened.{topFive, topFour, widened}
+use Rattle.constellation.specs.Widened.{topFive, topFour, widenedLabel}
 use Rattle.constellation.specs.Reading.{inGrid}
 use Rattle.constellation.proofs.Grid.{even-table, small-table, grid-table}
 use borrow.Author.Needs.{needs}
@@ -15,7 +15,7 @@ shr-result : tie.Need-shr-result
 shr-result c = search needs
 
 returns : tie.Need-returns
-unfolding first topFive topFour widened inGrid
+unfolding first topFive topFour widenedLabel inGrid
 returns c =
     let s = c .before in
     even-table _ refl refl (s .args .b) (s .args .six) (s .pre .0) (c .if1 .taken) (s .pre .1) (s .pre .2)
@@ -24,7 +24,7 @@ shr-result-2 : tie.Need-shr-result-2
 shr-result-2 c = search needs
 
 returns-2 : tie.Need-returns-2
-unfolding first topFive topFour widened inGrid
+unfolding first topFive topFour widenedLabel inGrid
 returns-2 c =
     let s = c .before .before in
     let e = c .if2 .taken in
@@ -34,7 +34,7 @@ shr-result-3 : tie.Need-shr-result-3
 shr-result-3 c = search needs
 
 returns-3 : tie.Need-returns-3
-unfolding first topFive topFour widened inGrid
+unfolding first topFive topFour widenedLabel inGrid
 returns-3 c =
     let s = c .before .before .before in
     let e = c .if3 .taken in

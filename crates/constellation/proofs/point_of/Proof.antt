@@ -7,72 +7,72 @@ use lib.Pow.{pow-mono, pow-pos}
 use mir.Syntax.{w16}
 use mir.ValLaws.{toZ-ofZ}
 use Rattle.g9932.specs.Sizes.{point}
-use Rattle.constellation.specs.Widened.{pairs as pairsOf, widened as widenedOf, wordOf, signWeight, axis as axisOf}
+use Rattle.constellation.specs.Widened.{plainPairs, widenedLabel, labelWord, signWeight, coordinateOf}
 use Rattle.constellation.proofs.Mapping.{point-word, Parts, parts-law}
 use Rattle.constellation.proofs.Sizes.{label-lt, word-lt, word-16, half-le}
 use borrow.Author.Needs.{needs}
 use Rattle.constellation.proofs.point_of.Statement.{statement}
 use Rattle.constellation.proofs.point_of.Tie as tie
 
-word : (c : tie.After-widened) → c .widened .result ≡ wordOf (c .before .before .before .args .b) (c .before .before .before .args .label)
-word c = c .widened .ensures ∙ ap₂ widenedOf (c .before .before .pairs .ensures) (c .before .mapping-label .ensures)
+word : (c : tie.After-widened-label) → c .widened-label .result ≡ labelWord (c .before .before .before .args .b) (c .before .before .before .args .label)
+word c = c .widened-label .ensures ∙ ap₂ widenedLabel (c .before .before .plain-pairs .ensures) (c .before .mapping-label .ensures)
 
 parts : (c : tie.After-deinterleave) → Parts (c .before .before .before .before .args .b) (c .before .before .before .before .args .label) (c .deinterleave .result)
 parts c =
     let s = c .before .before .before .before in
     parts-law (s .args .b) (s .args .label) (c .deinterleave .result) (s .pre .0) (s .pre .1) (s .pre .2) (rw (word (c .before)) at (c .deinterleave .ensures))
 
-sizes : (c : tie.After-sign-weight) → (1 ≤ c .sign-weight .result) × (c .sign-weight .result ≤ 256) × (c .sign-weight .result ≡ signWeight (pairsOf (c .before .before .before .before .before .args .b)))
+sizes : (c : tie.After-sign-weight) → (1 ≤ c .sign-weight .result) × (c .sign-weight .result ≤ 256) × (c .sign-weight .result ≡ signWeight (plainPairs (c .before .before .before .before .before .args .b)))
 sizes c =
-    let k = pairsOf (c .before .before .before .before .before .args .b) in
-    let e : c .sign-weight .result ≡ signWeight k = c .sign-weight .ensures ∙ ap signWeight (c .before .before .before .before .pairs .ensures) in
+    let k = plainPairs (c .before .before .before .before .before .args .b) in
+    let e : c .sign-weight .result ≡ signWeight k = c .sign-weight .ensures ∙ ap signWeight (c .before .before .before .before .plain-pairs .ensures) in
     (omega (arith, pow-pos k), omega (arith, half-le k (omega arith)), e)
 
-pairs-requires : tie.Need-pairs-requires
-pairs-requires c κs = search needs
+plain-pairs-requires : tie.Need-plain-pairs-requires
+plain-pairs-requires c κs = search needs
 
 mapping-label-requires : tie.Need-mapping-label-requires
 mapping-label-requires c κs = let s = c .before in lt-of-lt-of-le (s .pre .2) (pow-mono {i = s .args .b} {j = 15} (s .pre .1))
 
-widened-requires : tie.Need-widened-requires
-widened-requires c κs =
+widened-label-requires : tie.Need-widened-label-requires
+widened-label-requires c κs =
     let s = c .before .before in
-    (omega arith, rw (c .before .pairs .ensures, c .mapping-label .ensures) (label-lt (s .args .b) (s .args .label) (s .pre .0) (s .pre .2)))
+    (omega arith, rw (c .before .plain-pairs .ensures, c .mapping-label .ensures) (label-lt (s .args .b) (s .args .label) (s .pre .0) (s .pre .2)))
 
 deinterleave-requires : tie.Need-deinterleave-requires
 deinterleave-requires c κs =
     let s = c .before .before .before in
-    rw (word c) (word-16 (pairsOf (s .args .b)) (wordOf (s .args .b) (s .args .label)) (omega arith) (word-lt (s .args .b) (s .args .label) (s .pre .0) (s .pre .2)))
+    rw (word c) (word-16 (plainPairs (s .args .b)) (labelWord (s .args .b) (s .args .label)) (omega arith) (word-lt (s .args .b) (s .args .label) (s .pre .0) (s .pre .2)))
 
 sign-weight-requires : tie.Need-sign-weight-requires
 sign-weight-requires c κs = search needs
 
-axis-requires : tie.Need-axis-requires
-axis-requires c κs = (sizes c .0, sizes c .1, parts (c .before) .xSmall)
+coordinate-of-requires : tie.Need-coordinate-of-requires
+coordinate-of-requires c κs = (sizes c .0, sizes c .1, parts (c .before) .xSmall)
 
-axis-requires-2 : tie.Need-axis-requires-2
-axis-requires-2 c κs = (sizes (c .before) .0, sizes (c .before) .1, parts (c .before .before) .ySmall)
+coordinate-of-requires-2 : tie.Need-coordinate-of-requires-2
+coordinate-of-requires-2 c κs = (sizes (c .before) .0, sizes (c .before) .1, parts (c .before .before) .ySmall)
 
 returns : tie.Need-returns
 returns c =
     let h = c .before .before in
     let s = h .before .before .before .before .before in
-    let x = toZ-ofZ w16 (c .before .axis .result) (record { sfits = c .before .axis .ok }) in
-    let y = toZ-ofZ w16 (c .axis2 .result) (record { sfits = c .axis2 .ok }) in
+    let x = toZ-ofZ w16 (c .before .coordinate-of .result) (record { sfits = c .before .coordinate-of .ok }) in
+    let y = toZ-ofZ w16 (c .coordinate-of2 .result) (record { sfits = c .coordinate-of2 .ok }) in
     ap₂ point
-    (x ∙ c .before .axis .ensures ∙ ap₂ axisOf (sizes h .2) (parts (h .before) .x))
-    (y ∙ c .axis2 .ensures ∙ ap₂ axisOf (sizes h .2) (parts (h .before) .y))
+    (x ∙ c .before .coordinate-of .ensures ∙ ap₂ coordinateOf (sizes h .2) (parts (h .before) .x))
+    (y ∙ c .coordinate-of2 .ensures ∙ ap₂ coordinateOf (sizes h .2) (parts (h .before) .y))
     ∙ sym (point-word (s .args .b) (s .args .label) (s .pre .0) (s .pre .1) (s .pre .2))
 
 pub point-of-spec : {M : Type 1} → statement M
 point-of-spec =
     tie.close
     (tie.spec
-    pairs-requires
+    plain-pairs-requires
     mapping-label-requires
-    widened-requires
+    widened-label-requires
     deinterleave-requires
     sign-weight-requires
-    axis-requires
-    axis-requires-2
+    coordinate-of-requires
+    coordinate-of-requires-2
     returns)

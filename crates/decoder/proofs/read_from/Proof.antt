@@ -56,7 +56,7 @@ entry-requires-2 c κs = c .before .loop-test .taken
 entry-label-requires : tie.Need-entry-label-requires Inv-loop μ-loop
 entry-label-requires c κs =
     let s = c .before .before .before .before .before .before .before .before in
-    (rw (s .pre .2 .same) ((pair-inside (c .before .before .loop-test .taken) (c .before .before .before .before .before .before .before .before .pre .1)) .here), s .pre .2 .rising)
+    (rw (s .pre .2 .placesLength) ((pair-inside (c .before .before .loop-test .taken) (c .before .before .before .before .before .before .before .before .pre .1)) .here), s .pre .2 .rising)
 
 add-entry-label : tie.Need-add-entry-label Inv-loop μ-loop
 add-entry-label c = record { fits = (pair-inside (c .before .before .before .loop-test .taken) (c .before .before .before .before .before .before .before .before .before .pre .1)) .next }
@@ -64,7 +64,7 @@ add-entry-label c = record { fits = (pair-inside (c .before .before .before .loo
 entry-label-requires-2 : tie.Need-entry-label-requires-2 Inv-loop μ-loop
 entry-label-requires-2 c κs =
     let s = c .before .before .before .before .before .before .before .before .before in
-    (rw (s .pre .2 .same) (c .before .before .before .loop-test .taken), s .pre .2 .rising)
+    (rw (s .pre .2 .placesLength) (c .before .before .before .loop-test .taken), s .pre .2 .rising)
 
 read-pair-requires : tie.Need-read-pair-requires Inv-loop μ-loop
 read-pair-requires c κs =

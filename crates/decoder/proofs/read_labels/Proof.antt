@@ -15,7 +15,7 @@ entry-requires c κs = omega (arith, c .before .before .before .before .before .
 entry-label-requires : tie.Need-entry-label-requires
 entry-label-requires c κs =
     let start = c .before .before .before .before .before .before in
-    (omega (arith, start .pre .1 .enough, start .pre .0 .same), start .pre .0 .rising)
+    (omega (arith, start .pre .1 .enough, start .pre .0 .placesLength), start .pre .0 .rising)
 
 read-first-requires : tie.Need-read-first-requires
 read-first-requires c κs =

@@ -1,6 +1,6 @@
 -- `frame::ahead_inside` meets its contract: a shift of the eight bytes.
 use native.Mathlib.Omega.{arith}
-use Rattle.frame.proofs.Loads.{ahead-law}
+use Rattle.frame.proofs.BitsAhead.{ahead-law}
 use borrow.Author.Needs.{needs}
 use Rattle.frame.proofs.ahead_inside.Statement.{statement}
 use Rattle.frame.proofs.ahead_inside.Tie as tie

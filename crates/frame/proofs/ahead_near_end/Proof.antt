@@ -1,12 +1,12 @@
 -- `frame::ahead_near_end` meets its contract: a shift of the five bytes.
 use native.Mathlib.Omega.{arith}
-use Rattle.frame.proofs.Loads.{ahead-law}
+use Rattle.frame.proofs.BitsAhead.{ahead-law}
 use borrow.Author.Needs.{needs}
 use Rattle.frame.proofs.ahead_near_end.Statement.{statement}
 use Rattle.frame.proofs.ahead_near_end.Tie as tie
 
-word-at-requires : tie.Need-word-at-requires
-word-at-requires c κs = search needs
+word40-requires : tie.Need-word40-requires
+word40-requires c κs = search needs
 
 bit-in-byte-requires : tie.Need-bit-in-byte-requires
 bit-in-byte-requires c κs = search needs
@@ -17,7 +17,7 @@ shr-result c = search needs
 returns : tie.Need-returns
 returns c =
     let a = c .before .before .before .args in
-    rw (c .bit-in-byte .ensures) (ahead-law (a .bytes .now) (a .at) 40 (c .before .word-at .result) (omega arith) (c .before .word-at .ensures))
+    rw (c .bit-in-byte .ensures) (ahead-law (a .bytes .now) (a .at) 40 (c .before .word40 .result) (omega arith) (c .before .word40 .ensures))
 
 pub ahead-near-end-spec : {M : Type 1} → statement M
-ahead-near-end-spec = tie.close (tie.spec word-at-requires bit-in-byte-requires shr-result returns)
+ahead-near-end-spec = tie.close (tie.spec word40-requires bit-in-byte-requires shr-result returns)

@@ -2,7 +2,7 @@
 use Rattle.g9932.specs.Sizes.{unpack}
 use lib.ListN.{drop}
 use lib.Pow.{pow-pos}
-use Rattle.frame.proofs.Loads.{get-law, get-fits}
+use Rattle.frame.proofs.BitsAhead.{get-law, get-fits}
 use borrow.Author.Needs.{needs}
 use Rattle.frame.proofs.get.Statement.{statement}
 use Rattle.frame.proofs.get.Tie as tie

@@ -1,5 +1,5 @@
 -- `frame::word32` meets its contract: four bytes, the first lowest.
-use Rattle.frame.proofs.Loads.{num-word32, word32-lt}
+use Rattle.frame.proofs.BitsAhead.{num-word32, word32-lt}
 use borrow.Author.Needs.{needs}
 use Rattle.frame.proofs.word32.Statement.{statement}
 use Rattle.frame.proofs.word32.Tie as tie

@@ -1,5 +1,5 @@
 -- `frame::word64` meets its contract: two words of four bytes.
-use Rattle.frame.proofs.Loads.{num-word64}
+use Rattle.frame.proofs.BitsAhead.{num-word64}
 use borrow.Author.Needs.{needs}
 use Rattle.frame.proofs.word64.Statement.{statement}
 use Rattle.frame.proofs.word64.Tie as tie

@@ -1,5 +1,5 @@
 -- `prbs::filler_label` meets its contract: the two lowest bits of the register are the next two drawn.
-use Rattle.prbs.proofs.Draws.{two-bits}
+use Rattle.prbs.proofs.Draws.{two-drawn}
 use borrow.Author.Needs.{needs}
 use Rattle.prbs.proofs.filler_label.Statement.{statement}
 use Rattle.prbs.proofs.filler_label.Tie as tie
@@ -11,7 +11,7 @@ next-bit-requires-2 : tie.Need-next-bit-requires-2
 next-bit-requires-2 c κs = search needs
 
 returns : tie.Need-returns
-returns c = record { label = two-bits (c .before .before .args .register); register = rw (c .next-bit2 .ensures, c .before .next-bit .ensures) }
+returns c = record { label = two-drawn (c .before .before .args .register); register = rw (c .next-bit2 .ensures, c .before .next-bit .ensures) }
 
 pub filler-label-spec : {M : Type 1} → statement M
 filler-label-spec = tie.close (tie.spec next-bit-requires next-bit-requires-2 returns)

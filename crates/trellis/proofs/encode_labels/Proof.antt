@@ -12,7 +12,7 @@ use Rattle.trellis.proofs.encode_labels.Statement.{statement}
 use Rattle.trellis.proofs.encode_labels.Tie as tie
 
 entry-requires : tie.Need-entry-requires
-entry-requires c κs = omega (arith, c .before .before .before .before .before .pre .0 .few)
+entry-requires c κs = omega (arith, c .before .before .before .before .before .pre .0 .enough)
 
 code-first-requires : tie.Need-code-first-requires
 code-first-requires c κs =
@@ -29,7 +29,7 @@ put-entry-requires c κs =
     let a = s .args in
     let y = c .before .before .before .entry in
     let q = first-needs (a .frame .now) (a .start) (a .entries .now) (labelsAt (a .places .now) (a .labels .now)) (s .pre .0) (placed-length (s .pre .1)) (y .result) (if1 .taken) (y .ensures) in
-    (omega (arith, s .pre .0 .few, s .pre .1 .same), lt-of-lt-of-le (code-first .ensures .wSmall) (pow-mono {j = 16} (omega arith)), s .pre .1 .rising)
+    (omega (arith, s .pre .0 .enough, s .pre .1 .placesLength), lt-of-lt-of-le (code-first .ensures .wSmall) (pow-mono {j = 16} (omega arith)), s .pre .1 .rising)
 
 code-from-requires : tie.Need-code-from-requires
 code-from-requires c κs =
@@ -40,8 +40,8 @@ code-from-requires c κs =
     let p = c .before .before .before .before .before .before .code-first in
     let w = c .before .before .before .put-entry in
     let n = odd-needs (a .frame .now) (a .start) (a .entries .now) (labelsAt (a .places .now) (a .labels .now)) (s .pre .0) (placed-length (s .pre .1)) (y .result) (if1 .taken) (y .ensures) (p .result) (p .ensures) in
-    let placed : Placed (a .entries .now) (a .places .now) (w .last .0) = record { same = s .pre .1 .same; rising = rw (w .kept .0) (s .pre .1 .rising) } in
-    (s .pre .0 .wide, s .pre .0 .many, placed, rw (w .ensures) n)
+    let placed : Placed (a .entries .now) (a .places .now) (w .last .0) = record { placesLength = s .pre .1 .placesLength; rising = rw (w .kept .0) (s .pre .1 .rising) } in
+    (placed, rw (w .ensures) n)
 
 same-length : tie.Need-same-length
 same-length c = c .before .before .code-from .kept .1 .1 .1 .1 .1 .0 ∙ c .before .before .before .before .before .before .put-entry .kept .0
@@ -66,7 +66,7 @@ code-from-requires-2 c κs =
     let if1 = c .before .before .if1 in
     let s = c .before .before .before .before .before .before .before in
     let a = s .args in
-    (s .pre .0 .wide, s .pre .0 .many, s .pre .1, rw (c .before .zero-state .ensures) (even-needs (a .frame .now) (a .start) (a .entries .now) (labelsAt (a .places .now) (a .labels .now)) (s .pre .0) (placed-length (s .pre .1)) (if1 .left)))
+    (s .pre .1, rw (c .before .zero-state .ensures) (even-needs (a .frame .now) (a .start) (a .entries .now) (labelsAt (a .places .now) (a .labels .now)) (s .pre .0) (placed-length (s .pre .1)) (if1 .left)))
 
 same-length-2 : tie.Need-same-length-2
 same-length-2 c = c .before .before .code-from2 .kept .1 .1 .1 .1 .1 .0

@@ -12,16 +12,16 @@ axis-bits-requires c κs = search needs
 axis-bits-requires-2 : tie.Need-axis-bits-requires-2
 axis-bits-requires-2 c κs = search needs
 
-word-of-requires : tie.Need-word-of-requires
-word-of-requires c κs =
+lifted-word-requires : tie.Need-lifted-word-requires
+lifted-word-requires c κs =
     let s = c .before .before in
     (in-width (s .args .layout) _ _ _ (s .pre) (c .before .axis-bits .ensures), in-width (s .args .layout) _ _ _ (s .pre) (c .axis-bits2 .ensures))
 
 top-of-requires : tie.Need-top-of-requires
 top-of-requires c κs = search needs
 
-label-below-requires : tie.Need-label-below-requires
-label-below-requires c κs = search needs
+lowered-label-requires : tie.Need-lowered-label-requires
+lowered-label-requires c κs = search needs
 
 is-origin-requires : tie.Need-is-origin-requires
 is-origin-requires c κs = search needs
@@ -33,9 +33,9 @@ returns : tie.Need-returns
 returns c =
     let axis-bits = c .before .before .before .before .before .before .before .before .before .axis-bits in
     let axis-bits2 = c .before .before .before .before .before .before .before .before .axis-bits2 in
-    let word-of = c .before .before .before .before .before .before .before .word-of in
+    let word-of = c .before .before .before .before .before .before .before .lifted-word in
     let top-of = c .before .before .before .before .before .before .top-of in
-    let label-below = c .before .before .before .before .before .label-below in
+    let label-below = c .before .before .before .before .before .lowered-label in
     let s = c .before .before .before .before .before .before .before .before .before .before in
     let x = s .args .x in
     let y = s .args .y in
@@ -54,9 +54,9 @@ label-by-spec =
     (tie.spec
     axis-bits-requires
     axis-bits-requires-2
-    word-of-requires
+    lifted-word-requires
     top-of-requires
-    label-below-requires
+    lowered-label-requires
     is-origin-requires
     pick-requires
     returns)

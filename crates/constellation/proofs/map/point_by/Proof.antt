@@ -7,8 +7,8 @@ use Rattle.constellation.proofs.map.point_by.Tie as tie
 fits : (c : tie.Start) → StepsFit (c .args .layout) (c .args .label)
 fits c = mappable-fits (c .args .layout) (c .args .label) (omega arith) (omega arith) (c .pre)
 
-sub-live : tie.Need-sub-live
-sub-live c = omega (arith, fits c .both)
+sub-not-silent : tie.Need-sub-not-silent
+sub-not-silent c = omega (arith, fits c .both)
 
 mul-own : tie.Need-mul-own
 mul-own c = omega (arith, fits c .ownFits)
@@ -35,7 +35,7 @@ pub point-by-spec : {M : Type 1} → statement M
 point-by-spec =
     tie.close
     (tie.spec
-    sub-live
+    sub-not-silent
     mul-own
     mul-widened-point
     mul-widened-point-2

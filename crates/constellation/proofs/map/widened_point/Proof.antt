@@ -5,33 +5,34 @@ use mathlib.Core.Path.{ap, ap₂, _∙_}
 use mir.Syntax.{w16}
 use mir.ValLaws.{toZ-ofZ}
 use Rattle.g9932.specs.Sizes.{point}
-use Rattle.constellation.specs.MapByLayout.{spreadWord, upper, scaled}
+use Rattle.constellation.specs.Layouts.{upper}
+use Rattle.constellation.specs.MapByLayout.{widenedLifted, scaledCoordinate}
 use Rattle.constellation.proofs.MapByLayout.{bits-256, liftable-label, liftable-upper, liftable-point}
 use borrow.Author.Needs.{needs}
 use Rattle.constellation.proofs.map.widened_point.Statement.{statement}
 use Rattle.constellation.proofs.map.widened_point.Tie as tie
 
-lifted-requires : tie.Need-lifted-requires
-lifted-requires c κs = liftable-label (c .args .layout) (c .args .label) (c .pre)
+lifted-label-requires : tie.Need-lifted-label-requires
+lifted-label-requires c κs = liftable-label (c .args .layout) (c .args .label) (c .pre)
 
-spread-requires : tie.Need-spread-requires
-spread-requires c κs = search needs
+widened-lifted-requires : tie.Need-widened-lifted-requires
+widened-lifted-requires c κs = search needs
 
 evens-requires : tie.Need-evens-requires
 evens-requires c κs = search needs
 
-coordinate-requires : tie.Need-coordinate-requires
-coordinate-requires c κs =
+scaled-coordinate-requires : tie.Need-scaled-coordinate-requires
+scaled-coordinate-requires c κs =
     let s = c .before .before .before in
-    (rw (c .evens .ensures) (bits-256 (c .before .spread .result / 2)), liftable-upper (s .args .layout) (s .args .label) (s .pre))
+    (rw (c .evens .ensures) (bits-256 (c .before .widened-lifted .result / 2)), liftable-upper (s .args .layout) (s .args .label) (s .pre))
 
 evens-requires-2 : tie.Need-evens-requires-2
 evens-requires-2 c κs = search needs
 
-coordinate-requires-2 : tie.Need-coordinate-requires-2
-coordinate-requires-2 c κs =
+scaled-coordinate-requires-2 : tie.Need-scaled-coordinate-requires-2
+scaled-coordinate-requires-2 c κs =
     let s = c .before .before .before .before .before in
-    (rw (c .evens2 .ensures) (bits-256 (c .before .before .before .spread .result)), liftable-upper (s .args .layout) (s .args .label) (s .pre))
+    (rw (c .evens2 .ensures) (bits-256 (c .before .before .before .widened-lifted .result)), liftable-upper (s .args .layout) (s .args .label) (s .pre))
 
 returns : tie.Need-returns
 returns c =
@@ -41,19 +42,19 @@ returns c =
     let sp = e1 .before in
     let s = sp .before .before in
     let m = upper (s .args .layout) in
-    let x = toZ-ofZ w16 (c1 .coordinate .result) (record { sfits = c1 .coordinate .ok }) ∙ c1 .coordinate .ensures ∙ ap (scaled m) (e1 .evens .ensures) in
-    let y = toZ-ofZ w16 (c .coordinate2 .result) (record { sfits = c .coordinate2 .ok }) ∙ c .coordinate2 .ensures ∙ ap (scaled m) (e2 .evens2 .ensures) in
+    let x = toZ-ofZ w16 (c1 .scaled-coordinate .result) (record { sfits = c1 .scaled-coordinate .ok }) ∙ c1 .scaled-coordinate .ensures ∙ ap (scaledCoordinate m) (e1 .evens .ensures) in
+    let y = toZ-ofZ w16 (c .scaled-coordinate2 .result) (record { sfits = c .scaled-coordinate2 .ok }) ∙ c .scaled-coordinate2 .ensures ∙ ap (scaledCoordinate m) (e2 .evens2 .ensures) in
     ap₂ point x y
-    ∙ liftable-point (s .args .layout) (s .args .label) (sp .spread .result) (s .pre) (omega arith) (sp .spread .ensures ∙ ap (λ (a : ℕ). spreadWord a) (sp .before .lifted .ensures))
+    ∙ liftable-point (s .args .layout) (s .args .label) (sp .widened-lifted .result) (s .pre) (omega arith) (sp .widened-lifted .ensures ∙ ap (λ (a : ℕ). widenedLifted a) (sp .before .lifted-label .ensures))
 
 pub widened-point-spec : {M : Type 1} → statement M
 widened-point-spec =
     tie.close
     (tie.spec
-    lifted-requires
-    spread-requires
+    lifted-label-requires
+    widened-lifted-requires
     evens-requires
-    coordinate-requires
+    scaled-coordinate-requires
     evens-requires-2
-    coordinate-requires-2
+    scaled-coordinate-requires-2
     returns)

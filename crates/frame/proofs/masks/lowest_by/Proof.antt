@@ -1,5 +1,5 @@
 -- `frame::masks::lowest_by` meets its contract: a mask of k ones is the remainder by 2 to the k.
-use Rattle.frame.proofs.Tables.{mask-found}
+use Rattle.frame.proofs.Lowest.{mask-found}
 use native.Mathlib.Omega.{arith}
 use borrow.Author.Needs.{needs}
 use Rattle.frame.proofs.masks.lowest_by.Statement.{statement}

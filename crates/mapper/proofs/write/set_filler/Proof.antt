@@ -3,7 +3,7 @@
 use native.Mathlib.Omega.{arith}
 use Prim.Native.Nat.{_-_}
 use lib.ListN.{length}
-use Rattle.mapper.proofs.FillerLoop.{two-bits, Filling, fill-start, fill-step, fill-end}
+use Rattle.mapper.proofs.FillerLoop.{drawn-small, Filling, fill-start, fill-step, fill-end}
 use borrow.Author.Needs.{needs}
 use Rattle.mapper.proofs.write.set_filler.Statement.{statement}
 use Rattle.mapper.proofs.write.set_filler.Tie as tie
@@ -28,7 +28,7 @@ place-at-requires c κs = search needs
 cast-put-label : tie.Need-cast-put-label Inv-loop μ-loop
 cast-put-label c =
     let f = c .before .before .before .filler-label in
-    omega (arith, f .ensures .label, two-bits (c .before .before .before .before .before .loop .next))
+    omega (arith, f .ensures .label, drawn-small (c .before .before .before .before .before .loop .next))
 
 put-label-requires : tie.Need-put-label-requires Inv-loop μ-loop
 put-label-requires c κs =

@@ -1,6 +1,6 @@
 -- `trellis::pairs::code_forced_pair` meets its contract: the bits got are u3 upward, and the pair's labels are v and w.
 use Rattle.trellis.proofs.OnePair.{got-high, got-pair}
-use Rattle.trellis.proofs.Numbers.{inputsOf}
+use Rattle.trellis.proofs.Numbers.{Inputs, inputsOf}
 use Rattle.g9932.specs.Bits.{odd}
 use mathlib.Core.Path.{refl, _∙_}
 use mathlib.Core.Bool.{true}
@@ -17,7 +17,11 @@ unfolding inputsOf
 high c =
     let s = c .before .before in
     let a = s .args in
-    let h = got-high true (a .c .state) (a .x) (a .y) (a .frame .now) (a .c .at) _ (c .get .result) (inputsOf true (a .c .state) (c .get .result)) (s .pre .0) (s .pre .2) (s .pre .4 .bits) refl (c .get .ensures) refl (s .pre .1) (s .pre .3) in
+    let n = s .pre in
+    let g = c .get in
+    let i : Inputs = inputsOf true (a .c .state) (g .result) in
+    let h =
+    got-high true (a .c .state) (a .x) (a .y) (a .frame .now) (a .c .at) _ (g .result) i (n .xRange .0) (n .yRange .0) (n .bits) refl (g .ensures) refl (n .xRange .1) (n .yRange .1) in
     omega (arith, h)
 
 add-n : tie.Need-add-n
@@ -72,7 +76,11 @@ returns c =
     let g = c .before .before .before .before .before .before .before .before .get in
     let t = c .before .before .before .before .before .before .forced-step in
     let l = c .before .label in
-    let p = got-pair true (a .c .state) (a .x) (a .y) (a .frame .now) (a .c .at) _ (g .result) (inputsOf true (a .c .state) (g .result)) (s .pre .0) (s .pre .2) (s .pre .4 .bits) refl (g .ensures) refl (t .result .low) (l .result) (c .label2 .result) (t .ensures .1) (l .ensures ∙ rw (lowest .ensures)) (c .label2 .ensures) in
+    let n = s .pre in
+    let i : Inputs = inputsOf true (a .c .state) (g .result) in
+    let p =
+    got-pair true (a .c .state) (a .x) (a .y) (a .frame .now) (a .c .at) _ (g .result) i (n .xRange .0) (n .yRange .0) (n .bits) refl (g .ensures) refl
+    (t .result .low) (l .result) (c .label2 .result) (t .ensures .1) (l .ensures ∙ rw (lowest .ensures)) (c .label2 .ensures) in
     record { state = t .ensures .0 ∙ p .next; at = refl; sends = p .sends; vSmall = p .vSmall; wSmall = p .wSmall }
 
 pub code-forced-pair-spec : {M : Type 1} → statement M

@@ -1,7 +1,7 @@
 -- `trellis::pairs::code_forced_pairs` meets its contract. The invariant: the bits of the labels so far, with what the pairs left send from
 -- the state and the frame bits left, are the whole, and fewer than six entries are left. The measure is the entries left.
 use Rattle.trellis.proofs.Entries.{pair-inside}
-use Rattle.trellis.proofs.CodeLoop.{CodesUpTo, going-start, going-end, AtPair, at-wide, pair-needs, labels-fit, going-step}
+use Rattle.trellis.proofs.CodeLoop.{CodesUpTo, going-start, going-end, AtPair, pair-needs, labels-fit, going-step}
 use Rattle.frame.specs.Labels.{labelsAt}
 use lib.ListN.{length}
 use borrow.Author.Tests.{lt-ltb}
@@ -30,7 +30,6 @@ at-pair c =
     let s = c .before .before .before .before .before .before .before .before .before in
     let l = c .before .before .before .loop in
     record {
-      wide = s .pre .0;
       upTo = l .inv .0;
       more = c .before .before .loop-test .taken;
       isX = c .before .entry .ensures;
@@ -44,43 +43,40 @@ state-of-requires c κs = search needs
 loop-holds : tie.Need-loop-holds Inv-loop μ-loop
 loop-holds c =
     let s = c .before .before .before .before .before in
-    (going-start (rw (c .state-of .ensures) (s .pre .4)), refl, s .pre .2)
+    (going-start (rw (c .state-of .ensures) (s .pre .2)), refl, s .pre .0)
 
 add-loop : tie.Need-add-loop Inv-loop μ-loop
-add-loop c = omega (arith, c .loop .inv .0 .needs .inside, c .before .before .before .before .before .before .pre .1)
+add-loop c = omega (arith, c .loop .inv .0 .needs .inside, c .before .before .before .before .before .before .pre .2 .many)
 
 entry-requires : tie.Need-entry-requires Inv-loop μ-loop
-entry-requires c κs = (pair-inside (c .loop-test .taken) (c .before .before .before .before .before .before .before .pre .1)) .here
+entry-requires c κs = (pair-inside (c .loop-test .taken) (c .before .before .before .before .before .before .before .pre .2 .many)) .here
 
 add-entry : tie.Need-add-entry Inv-loop μ-loop
-add-entry c = record { fits = (pair-inside (c .before .loop-test .taken) (c .before .before .before .before .before .before .before .before .pre .1)) .next }
+add-entry c = record { fits = (pair-inside (c .before .loop-test .taken) (c .before .before .before .before .before .before .before .before .pre .2 .many)) .next }
 
 entry-requires-2 : tie.Need-entry-requires-2 Inv-loop μ-loop
 entry-requires-2 c κs = c .before .loop-test .taken
 
 code-forced-pair-requires : tie.Need-code-forced-pair-requires Inv-loop μ-loop
-code-forced-pair-requires c κs =
-    let h = at-pair c in
-    let q = at-wide h in
-    (q .0, q .1, q .2, q .3, pair-needs h)
+code-forced-pair-requires c κs = pair-needs (at-pair c)
 
 put-pair-requires : tie.Need-put-pair-requires Inv-loop μ-loop
 put-pair-requires c κs =
     let s = c .before .before .before .before .before .before .before .before .before .before .before in
     let q = labels-fit (at-pair (c .before .before)) (c .before .code-forced-pair .ensures) in
-    (omega (arith, s .pre .3 .same), q .0, q .1, rw (c .before .before .before .before .before .loop .inv .1) (s .pre .3 .rising))
+    (omega (arith, s .pre .1 .placesLength), q .0, q .1, rw (c .before .before .before .before .before .loop .inv .1) (s .pre .1 .rising))
 
 add-i : tie.Need-add-i Inv-loop μ-loop
 add-i c =
     let start = c .before .before .before .before .before .before .before .before .before .before .before .before .before .before .before in
     let loop-test = c .before .before .before .before .before .before .before .before .loop-test in
-    record { fits = (pair-inside (loop-test .taken) (start .pre .1)) .after }
+    record { fits = (pair-inside (loop-test .taken) (start .pre .2 .many)) .after }
 
 loop-less : tie.Need-loop-less Inv-loop μ-loop
 loop-less c =
     let start = c .before .before .before .before .before .before .before .before .before .before .before .before .before .before .before in
     let loop-test = c .before .before .before .before .before .before .before .before .loop-test in
-    (pair-inside (loop-test .taken) (start .pre .1)) .less
+    (pair-inside (loop-test .taken) (start .pre .2 .many)) .less
 
 loop-again : tie.Need-loop-again Inv-loop μ-loop
 loop-again c =

@@ -49,12 +49,13 @@ returns : tie.Need-returns
 returns c =
     let s = c .before .before .before .before .before .before .before .before in
     let a = s .args in
-    let p = s .pre in
-    let word = c .before .before .before .before .before .before .ahead .result in
+    let n = s .pre .3 in
+    let ahead = c .before .before .before .before .before .before .ahead in
+    let word = ahead .result in
     let t = c .before .before .before .before .before .step .ensures in
-    let n : ℕ = stepNumber (stateAt (a .state .0)) (odd word) (odd (word / 2)) (odd (word / 4)) in
+    let number : ℕ = stepNumber (stateAt (a .state .0)) (odd word) (odd (word / 2)) (odd (word / 4)) in
     let codes =
-    free-coded (a .frame .now) (a .state .0) (a .at) (a .x) (a .y) word n (p .3) (p .4) (p .5) (p .6) (p .7 .bits) (c .before .before .before .before .before .before .ahead .ensures) refl _ _
+    free-coded (a .frame .now) (a .state .0) (a .at) (a .x) (a .y) word number (n .xRange .0) (n .xRange .1) (n .yRange .0) (n .yRange .1) (n .bits) (ahead .ensures) refl _ _
     (ap₂ (λ (v k : ℕ). v + 4 * k) (t .vIs) (c .before .before .before .lowest-by .ensures .0)) (ap₂ (λ (w k : ℕ). w + 4 * k) (t .wIs) (c .before .lowest-by2 .ensures .0)) in
     record { small = omega (arith, t .nextIs, t .small); codes = rw (t .nextIs) codes }
 

@@ -1,7 +1,7 @@
 -- `trellis::pairs::code_from` meets its contract. The invariant: as of `code_forced_pairs`, with a coder whose state is a number below 16.
 -- The measure is the entries left.
 use Rattle.trellis.proofs.Steps.{coder-back}
-use Rattle.trellis.proofs.CodeLoop.{CodesUpTo, going-start, going-on, AtPair, at-wide, pair-needs, labels-fit, going-step}
+use Rattle.trellis.proofs.CodeLoop.{CodesUpTo, going-start, going-on, AtPair, pair-needs, labels-fit, going-step}
 use Rattle.trellis.specs.Steps.{coderAt}
 use Rattle.trellis.proofs.Entries.{pair-inside, free-inside}
 use Rattle.frame.specs.Labels.{labelsAt, Placed}
@@ -32,7 +32,6 @@ at-pair c =
     let s = c .before .before .before .before .before .before .before .before .before .before .before in
     let l = c .before .before .before .loop in
     record {
-      wide = s .pre .0;
       upTo = l .inv .0;
       more = free-inside (c .before .before .loop-test .taken) .more;
       isX = c .before .entry .ensures;
@@ -53,16 +52,16 @@ loop-holds : tie.Need-loop-holds Inv-loop μ-loop
 loop-holds c =
     let s = c .before .before .before .before .before .before .before in
     let n = c .state-number in
-    (going-start (rw (coder-back (s .args .c) (n .result) (n .ensures .0)) (s .pre .3)), refl, n .ensures .1)
+    (going-start (rw (coder-back (s .args .c) (n .result) (n .ensures .0)) (s .pre .1)), refl, n .ensures .1)
 
 add-loop : tie.Need-add-loop Inv-loop μ-loop
-add-loop c = omega (arith, c .loop .inv .0 .needs .inside, c .before .before .before .before .before .before .before .before .pre .1)
+add-loop c = omega (arith, c .loop .inv .0 .needs .inside, c .before .before .before .before .before .before .before .before .pre .1 .many)
 
 entry-requires : tie.Need-entry-requires Inv-loop μ-loop
-entry-requires c κs = (pair-inside (free-inside (c .loop-test .taken) .more) (c .before .before .before .before .before .before .before .before .before .pre .1)) .here
+entry-requires c κs = (pair-inside (free-inside (c .loop-test .taken) .more) (c .before .before .before .before .before .before .before .before .before .pre .1 .many)) .here
 
 add-entry : tie.Need-add-entry Inv-loop μ-loop
-add-entry c = record { fits = (pair-inside (free-inside (c .before .loop-test .taken) .more) (c .before .before .before .before .before .before .before .before .before .before .pre .1)) .next }
+add-entry c = record { fits = (pair-inside (free-inside (c .before .loop-test .taken) .more) (c .before .before .before .before .before .before .before .before .before .before .pre .1 .many)) .next }
 
 entry-requires-2 : tie.Need-entry-requires-2 Inv-loop μ-loop
 entry-requires-2 c κs = free-inside (c .before .loop-test .taken) .more
@@ -72,21 +71,23 @@ code-free-pair-requires c κs =
     let step-table = c .before .before .before .before .before .before .before .before .step-table in
     let mask-table = c .before .before .before .before .before .before .before .mask-table in
     let loop = c .before .before .before .before .before .loop in
-    let h = at-pair (c .before .before) in
-    let q = at-wide h in
-    (step-table .ensures, mask-table .ensures, loop .inv .2, q .0, q .1, q .2, q .3, pair-needs h)
+    (step-table .ensures, mask-table .ensures, loop .inv .2, pair-needs (at-pair (c .before .before)))
 
 put-pair-requires : tie.Need-put-pair-requires Inv-loop μ-loop
 put-pair-requires c κs =
     let s = c .before .before .before .before .before .before .before .before .before .before .before .before .before .before .before in
     let q = labels-fit (at-pair (c .before .before .before .before)) (c .before .code-free-pair .ensures .codes) in
-    (omega (arith, s .pre .2 .same), q .0, q .1, rw (c .before .before .before .before .before .before .before .loop .inv .1) (s .pre .2 .rising))
+    (omega (arith, s .pre .0 .placesLength), q .0, q .1, rw (c .before .before .before .before .before .before .before .loop .inv .1) (s .pre .0 .rising))
 
 add-at : tie.Need-add-at Inv-loop μ-loop
-add-at c = omega (arith, at-wide (at-pair (c .before .before .before .before .before .before .before .before)))
+add-at c =
+    let n = pair-needs (at-pair (c .before .before .before .before .before .before .before .before)) in
+    omega (arith, n .xRange, n .yRange)
 
 sub-at : tie.Need-sub-at Inv-loop μ-loop
-sub-at c = omega (arith, at-wide (at-pair (c .before .before .before .before .before .before .before .before)))
+sub-at c =
+    let n = pair-needs (at-pair (c .before .before .before .before .before .before .before .before)) in
+    omega (arith, n .xRange, n .yRange)
 
 add-at-2 : tie.Need-add-at-2 Inv-loop μ-loop
 add-at-2 c =
@@ -97,13 +98,13 @@ add-i : tie.Need-add-i Inv-loop μ-loop
 add-i c =
     let start = c .before .before .before .before .before .before .before .before .before .before .before .before .before .before .before .before .before .before .before in
     let loop-test = c .before .before .before .before .before .before .before .before .before .before .loop-test in
-    record { fits = (pair-inside (free-inside (loop-test .taken) .more) (start .pre .1)) .after }
+    record { fits = (pair-inside (free-inside (loop-test .taken) .more) (start .pre .1 .many)) .after }
 
 loop-less : tie.Need-loop-less Inv-loop μ-loop
 loop-less c =
     let start = c .before .before .before .before .before .before .before .before .before .before .before .before .before .before .before .before .before .before .before in
     let loop-test = c .before .before .before .before .before .before .before .before .before .before .loop-test in
-    (pair-inside (free-inside (loop-test .taken) .more) (start .pre .1)) .less
+    (pair-inside (free-inside (loop-test .taken) .more) (start .pre .1 .many)) .less
 
 loop-again : tie.Need-loop-again Inv-loop μ-loop
 loop-again c =
@@ -118,8 +119,8 @@ code-forced-pairs-requires c κs =
     let s = c .before .before .before .before .before .before .before .before .before .before in
     let a = s .args in
     let l = c .before .before .loop in
-    let placed : Placed (a .entries .now) (a .places .now) (l .labels) = record { same = s .pre .2 .same; rising = rw (l .inv .1) (s .pre .2 .rising) } in
-    (s .pre .0, s .pre .1, omega arith, placed, l .inv .0 .needs)
+    let placed : Placed (a .entries .now) (a .places .now) (l .labels) = record { placesLength = s .pre .0 .placesLength; rising = rw (l .inv .1) (s .pre .0 .rising) } in
+    (omega arith, placed, l .inv .0 .needs)
 
 same-length : tie.Need-same-length Inv-loop μ-loop
 same-length c = c .before .before .code-forced-pairs .kept .1 .1 .1 .1 .1 .1 .0 ∙ c .before .before .before .before .before .loop .inv .1

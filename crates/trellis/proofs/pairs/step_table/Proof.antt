@@ -1,5 +1,4 @@
 -- `trellis::pairs::step_table` meets its contract: the steps of all states, computed.
-use Rattle.frame.specs.Masks.{valuesFrom}
 use Rattle.trellis.specs.Steps.{stateNumber, stateAt, lowNumber, stepNumber, stepAt, stepList}
 use Rattle.g9932.specs.Bits.{weight, odd}
 use mathlib.Core.Path.{refl}
@@ -7,7 +6,7 @@ use Rattle.trellis.proofs.pairs.step_table.Statement.{statement}
 use Rattle.trellis.proofs.pairs.step_table.Tie as tie
 
 returns : tie.Need-returns
-unfolding weight odd stateNumber stateAt lowNumber stepNumber valuesFrom stepAt stepList
+unfolding weight odd stateNumber stateAt lowNumber stepNumber stepAt stepList
 returns c = refl
 
 pub step-table-spec : {M : Type 1} → statement M

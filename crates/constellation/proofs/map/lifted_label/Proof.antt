@@ -1,10 +1,10 @@
--- `constellation::map::lifted` meets its contract: no product is too large.
+-- `constellation::map::lifted_label` meets its contract: no product is too large.
 use native.Mathlib.Omega.{arith}
 use Prim.Native.Nat.{_-_, _%_, _≤_}
 use native.Mathlib.Nat.{mul-le-mul}
 use borrow.Author.Needs.{needs}
-use Rattle.constellation.proofs.map.lifted.Statement.{statement}
-use Rattle.constellation.proofs.map.lifted.Tie as tie
+use Rattle.constellation.proofs.map.lifted_label.Statement.{statement}
+use Rattle.constellation.proofs.map.lifted_label.Tie as tie
 
 mul-m : tie.Need-mul-m
 mul-m c = record { fits = omega (arith, mul-le-mul (c .pre .0) (c .pre .0)) }
@@ -29,6 +29,6 @@ add-result c = search needs
 returns : tie.Need-returns
 returns c = search needs
 
-pub lifted-spec : {M : Type 1} → statement M
-lifted-spec =
+pub lifted-label-spec : {M : Type 1} → statement M
+lifted-label-spec =
     tie.close (tie.spec mul-m mul-result mul-result-2 sub-result mul-result-3 add-result returns)

@@ -1,13 +1,13 @@
--- `constellation::map::coordinate` meets its contract: no bit is lost, and a silent tone has 0.
+-- `constellation::map::scaled_coordinate` meets its contract: no bit is lost, and a silent tone has 0.
 use native.Mathlib.Omega.{arith}
 use mathlib.Core.Logic.{⊎-elim}
 use mir.Syntax.{w16}
 use mir.ValLaws.{toZ-ofZ}
-use Rattle.constellation.specs.MapByLayout.{scaled}
+use Rattle.constellation.specs.MapByLayout.{scaledCoordinate}
 use Rattle.constellation.proofs.Signed.{ScaledIs, scaled-silent, scaled-tone}
 use borrow.Author.Needs.{needs}
-use Rattle.constellation.proofs.map.coordinate.Statement.{statement}
-use Rattle.constellation.proofs.map.coordinate.Tie as tie
+use Rattle.constellation.proofs.map.scaled_coordinate.Statement.{statement}
+use Rattle.constellation.proofs.map.scaled_coordinate.Tie as tie
 
 both : (c : tie.Joined1) → ScaledIs (c .before .args .m) (c .before .args .e) (c .if1 .one)
 both c =
@@ -39,10 +39,10 @@ returns : tie.Need-returns
 returns c =
     let r = both (c .before) in
     let a = c .before .before .args in
-    rw (r .is) (toZ-ofZ w16 (scaled (a .m) (a .e)) (r .fits))
+    rw (r .is) (toZ-ofZ w16 (scaledCoordinate (a .m) (a .e)) (r .fits))
 
-pub coordinate-spec : {M : Type 1} → statement M
-coordinate-spec =
+pub scaled-coordinate-spec : {M : Type 1} → statement M
+scaled-coordinate-spec =
     tie.close
     (tie.spec
     mul-result

@@ -1,10 +1,10 @@
--- `constellation::map::spread` meets its contract.
+-- `constellation::map::widened_lifted` meets its contract.
 use native.Mathlib.Omega.{arith}
 use Prim.Native.Nat.{_/_}
 use Rattle.constellation.proofs.Sizes.{four-lt}
 use borrow.Author.Needs.{needs}
-use Rattle.constellation.proofs.map.spread.Statement.{statement}
-use Rattle.constellation.proofs.map.spread.Tie as tie
+use Rattle.constellation.proofs.map.widened_lifted.Statement.{statement}
+use Rattle.constellation.proofs.map.widened_lifted.Tie as tie
 
 top-four-requires : tie.Need-top-four-requires
 top-four-requires c κs = search needs
@@ -18,5 +18,5 @@ add-result c = record { fits = omega (arith, c .top-four .ensures, four-lt (c .b
 returns : tie.Need-returns
 returns c = search needs
 
-pub spread-spec : {M : Type 1} → statement M
-spread-spec = tie.close (tie.spec top-four-requires mul-result add-result returns)
+pub widened-lifted-spec : {M : Type 1} → statement M
+widened-lifted-spec = tie.close (tie.spec top-four-requires mul-result add-result returns)

@@ -10,7 +10,7 @@ use lib.Bits.{bitAnd, and-mask, mask-lt}
 use lib.Pow.{pow-mono}
 use lib.ListN.{length, take, drop, getD, length-drop}
 use lib.Seq.{drop-drop, take-add, length-take-le}
-use Rattle.frame.specs.Loads.{Ahead}
+use Rattle.frame.specs.BitsAhead.{Ahead}
 use Rattle.g9932.specs.Bits.{num}
 use Rattle.g9932.specs.Sizes.{unpack}
 use Rattle.g9932.proofs.Words.{num-append, num-take, num-drop}

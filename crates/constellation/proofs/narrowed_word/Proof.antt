@@ -1,11 +1,11 @@
--- `constellation::narrowed` meets its contract: the table undoes what widens each of the 32 top fives.
+-- `constellation::narrowed_word` meets its contract: the table undoes what widens each of the 32 top fives.
 use mathlib.Core.Path.{refl}
 use Rattle.g9932.specs.Bits.{first}
 use Rattle.constellation.specs.Widened.{topFour}
 use Rattle.constellation.proofs.Tops.{narrowed-law}
 use borrow.Author.Needs.{needs}
-use Rattle.constellation.proofs.narrowed.Statement.{statement}
-use Rattle.constellation.proofs.narrowed.Tie as tie
+use Rattle.constellation.proofs.narrowed_word.Statement.{statement}
+use Rattle.constellation.proofs.narrowed_word.Tie as tie
 
 mul-narrowing : tie.Need-mul-narrowing
 mul-narrowing c = search needs
@@ -29,8 +29,8 @@ returns : tie.Need-returns
 unfolding first topFour
 returns c = narrowed-law _ refl (c .args .k) (c .args .word) (c .args .six) (c .pre .0) (c .pre .2)
 
-pub narrowed-spec : {M : Type 1} → statement M
-narrowed-spec =
+pub narrowed-word-spec : {M : Type 1} → statement M
+narrowed-word-spec =
     tie.close
     (tie.spec
     mul-narrowing

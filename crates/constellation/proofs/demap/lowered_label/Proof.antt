@@ -1,9 +1,9 @@
--- `constellation::demap::label_below` meets its contract: one product, whose upper half is the label.
+-- `constellation::demap::lowered_label` meets its contract: one product, whose upper half is the label.
 use Rattle.constellation.proofs.DemapByLayout.{square-le, product-le, down-law}
 use native.Mathlib.Omega.{arith}
 use borrow.Author.Needs.{needs}
-use Rattle.constellation.proofs.demap.label_below.Statement.{statement}
-use Rattle.constellation.proofs.demap.label_below.Tie as tie
+use Rattle.constellation.proofs.demap.lowered_label.Statement.{statement}
+use Rattle.constellation.proofs.demap.lowered_label.Tie as tie
 
 mul-lifted : tie.Need-mul-lifted
 mul-lifted c = search needs
@@ -35,8 +35,8 @@ cast-result-3 c = record { fits = omega (arith, product-le (c .args .m) (c .args
 returns : tie.Need-returns
 returns c = down-law (c .args .m) (c .args .three) (c .args .word)
 
-pub label-below-spec : {M : Type 1} → statement M
-label-below-spec =
+pub lowered-label-spec : {M : Type 1} → statement M
+lowered-label-spec =
     tie.close
     (tie.spec
     mul-lifted

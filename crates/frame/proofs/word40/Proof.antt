@@ -1,8 +1,8 @@
--- `frame::word_at` meets its contract: five bytes, those past the end 0.
-use Rattle.frame.proofs.Loads.{num-word40}
+-- `frame::word40` meets its contract: five bytes, those past the end 0.
+use Rattle.frame.proofs.BitsAhead.{num-word40}
 use borrow.Author.Needs.{needs}
-use Rattle.frame.proofs.word_at.Statement.{statement}
-use Rattle.frame.proofs.word_at.Tie as tie
+use Rattle.frame.proofs.word40.Statement.{statement}
+use Rattle.frame.proofs.word40.Tie as tie
 
 byte-at-requires : tie.Need-byte-at-requires
 byte-at-requires c κs = search needs
@@ -63,8 +63,8 @@ returns c =
     let byte-at3 = c .before .before .byte-at3 in
     num-word40 (start .args .bytes .now) (start .args .i) _ _ _ _ (byte-at .ensures) (byte-at2 .ensures) (byte-at3 .ensures) (c .before .byte-at4 .ensures) _ (c .byte-at5 .ensures)
 
-pub word-at-spec : {M : Type 1} → statement M
-word-at-spec =
+pub word40-spec : {M : Type 1} → statement M
+word40-spec =
     tie.close
     (tie.spec
     byte-at-requires
