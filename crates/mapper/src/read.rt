@@ -110,12 +110,12 @@ pub fn check_filler(monitored: &[u16], register: u32, labels: &[u16]) -> FillerR
     }
 }
 
-// From place `from` on, two tones of 1 bit share a label: both bits go to the first one's place. Called by proved code only.
-pub fn join_shared(labels: &mut [u16], from: usize)
-    requires { ⌜ JoinNeeds (now labels) from ⌝ }
-    ensures { λ _. ⌜ now (labels .exit) ≡ take from (now (labels .entry)) ++ joinOnes (drop from (now (labels .entry))) ⌝ }
+// From place `shared_from` on, two tones of 1 bit share a label: both bits go to the first one's place. Called by proved code only.
+pub fn join_shared(labels: &mut [u16], shared_from: Place)
+    requires { ⌜ JoinNeeds (now labels) («shared_from» .0) ⌝ }
+    ensures { λ _. ⌜ now (labels .exit) ≡ take («shared_from» .0) (now (labels .entry)) ++ joinOnes (drop («shared_from» .0) (now (labels .entry))) ⌝ }
 {
-    let mut i = from;
+    let mut i = shared_from.0;
     while i + 1 < labels.len() {
         labels[i] = labels[i] + 2 * labels[i + 1];
         i += 2;

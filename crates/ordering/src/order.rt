@@ -24,6 +24,15 @@ fn put_tone(reordered_tones: &mut [u16], p: Place, k: Subcarrier)
     reordered_tones[at] = k.0 as u16;
 }
 
+// Writes the bits of the tone at a place: uncoded, b' lists them by place.
+fn put_bits(reordered_bits: &mut [u8], p: Place, b: u8)
+    requires { ⌜ p .0 < length (now «reordered_bits») ⌝ }
+    ensures { λ _. ⌜ now («reordered_bits» .exit) ≡ set (now («reordered_bits» .entry)) (p .0) b ⌝ }
+{
+    let at = p.0;
+    reordered_bits[at] = b;
+}
+
 // Uncoded: t' is t, and b' lists the bits in t order.
 fn write_uncoded(bits: &[u8], tones: &[u16], reordered_tones: &mut [u16], reordered_bits: &mut [u8])
     requires room { ⌜ OrderNeeds (now tones) (now «reordered_tones») (now «reordered_bits») ⌝ }
@@ -34,7 +43,7 @@ fn write_uncoded(bits: &[u8], tones: &[u16], reordered_tones: &mut [u16], reorde
     while i < tones.len() {
         let k = tone_at(tones, Place(i));
         put_tone(reordered_tones, Place(i), k);
-        reordered_bits[i] = bits_of(bits, k);
+        put_bits(reordered_bits, Place(i), bits_of(bits, k));
         i += 1;
     }
 }

@@ -117,7 +117,7 @@ pub record ReadOf (T : Tables) (m : Mode) (from size : ℕ) (es ps ms layouts : 
 
 abbrev pub ReadBy : Tables → Mode → PlanSizes → ℕ → List ℕ → List ℕ → List ℕ → List ℕ → List ℤ → List ℤ → List ℕ → List ℕ → List ℕ → Type 0
 ReadBy T m p n layouts entries places monitored xs ys labels held f =
-    ReadOf T m (p .shared) (p .size) (take (p .entries) entries) (take (p .entries) places) (take (p .monitored) monitored) (take n layouts) xs ys (take n labels) held f
+    ReadOf T m (p .«shared_from» .0) (p .size) (take (p .«entry_count») entries) (take (p .«entry_count») places) (take (p .«monitored_count») monitored) (take n layouts) xs ys (take n labels) held f
 
 -- the arrays begin with the lists of some tables' plan
 pub record ReadSymbolNeeds (m : Mode) (p : PlanSizes) (n : ℕ) (layouts entries places monitored : List ℕ) (xs ys : List ℤ) (labels held f : List ℕ) : Type 0 where

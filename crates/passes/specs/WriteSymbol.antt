@@ -72,7 +72,7 @@ pub record SymbolOf (T : Tables) (m : Mode) (from : ℕ) (f es ps ms layouts lab
 
 abbrev pub SymbolBy : Tables → Mode → PlanSizes → ℕ → List ℕ → List ℕ → List ℕ → List ℕ → List ℕ → List ℕ → List ℤ → List ℤ → Type 0
 SymbolBy T m p n f layouts entries places monitored labels xs ys =
-    SymbolOf T m (p .shared) f (take (p .entries) entries) (take (p .entries) places) (take (p .monitored) monitored) (take n layouts) (take n labels) xs ys
+    SymbolOf T m (p .«shared_from» .0) f (take (p .«entry_count») entries) (take (p .«entry_count») places) (take (p .«monitored_count») monitored) (take n layouts) (take n labels) xs ys
 
 -- the arrays begin with the lists of some tables' plan
 pub record SymbolNeeds (m : Mode) (p : PlanSizes) (n : ℕ) (f layouts entries places monitored labels : List ℕ) (xs ys : List ℤ) : Type 0 where

@@ -42,7 +42,7 @@ class-carries b g (a ∷ t) most (suc k) h = class-carries b g t most k (omega a
 
 pub plan-of : (T : Tables) (p : PlanSizes) {layouts entries places monitored : List ℕ} → ((k : ℕ) → entry (T .bits) k ≤ 15) → sharing (T .mode) (T .bits) (T .tones) % 2 ≡ 0
     → PlanIs T p layouts entries places monitored
-    → PlanOf (classesOf T) (p .shared) (take (p .entries) entries) (take (p .entries) places) (take (p .monitored) monitored) (take (length (T .tones)) layouts)
+    → PlanOf (classesOf T) (p .«shared_from» .0) (take (p .«entry_count») entries) (take (p .«entry_count») places) (take (p .«monitored_count») monitored) (take (length (T .tones)) layouts)
 plan-of T p most even is =
     let m = T .mode in
     let b = T .bits in
@@ -52,7 +52,7 @@ plan-of T p most even is =
     let two : 2 * (sharing m b t / 2) ≡ sharing m b t = omega arith in
     record {
       own = only (isPlaced (leastOwn m)) (classesBy b g t);
-      shared = sharing m b t / 2;
+      sharedCount = sharing m b t / 2;
       least = leastOwn m;
       classes = classes-plan m b g t ∙ ap (λ (k : ℕ). only (isPlaced (leastOwn m)) (classesBy b g t) ++ replicate k (Data 1)) (sym two);
       fromIs = is .sharedIs ∙ omega arith;

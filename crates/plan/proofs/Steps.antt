@@ -69,18 +69,18 @@ no-more l e = sym (append-nil (take e l))
 -- ---- what one tone adds
 
 module _ (least : ℕ) (at : Cursors) (layouts entries places monitored : List ℕ) where
-  pub files-data : (b x : ℕ) → leb least b ≡ true → x ≡ classLayout (Data b) → at .place < length layouts → at .entry < length entries → at .entry < length places
-      → FilesTone least (Data b) at layouts entries places monitored (record { place = at .place + 1; entry = at .entry + 1; monitored = at .monitored })
-      (set layouts (at .place) x) (set entries (at .entry) b) (set places (at .entry) (at .place)) monitored
+  pub files-data : (b x : ℕ) → leb least b ≡ true → x ≡ classLayout (Data b) → at .place .0 < length layouts → at .entry < length entries → at .entry < length places
+      → FilesTone least (Data b) at layouts entries places monitored (record { place = record { 0 = at .place .0 + 1 }; entry = at .entry + 1; monitored = at .monitored })
+      (set layouts (at .place .0) x) (set entries (at .entry) b) (set places (at .entry) (at .place .0)) monitored
   unfolding weight
   files-data b x own is lt et pt =
       record {
         placeIs = rw own;
         entryIs = rw own;
         monitoredIs = omega arith;
-        layoutsAre = rw (own, is) (more layouts (at .place) (classLayout (Data b)) lt);
+        layoutsAre = rw (own, is) (more layouts (at .place .0) (classLayout (Data b)) lt);
         entriesAre = rw own (more entries (at .entry) b et);
-        placesAre = rw own (more places (at .entry) (at .place) pt);
+        placesAre = rw own (more places (at .entry) (at .place .0) pt);
         monitoredAre = no-more monitored (at .monitored);
       }
 
@@ -92,36 +92,36 @@ module _ (least : ℕ) (at : Cursors) (layouts entries places monitored : List �
         placeIs = rw not (omega arith);
         entryIs = rw not (omega arith);
         monitoredIs = omega arith;
-        layoutsAre = rw not (no-more layouts (at .place));
+        layoutsAre = rw not (no-more layouts (at .place .0));
         entriesAre = rw not (no-more entries (at .entry));
         placesAre = rw not (no-more places (at .entry));
         monitoredAre = no-more monitored (at .monitored);
       }
 
-  pub files-monitored : (x : ℕ) → leb least 0 ≡ false → x ≡ classLayout Monitored → at .place < length layouts → at .monitored < length monitored
-      → FilesTone least Monitored at layouts entries places monitored (record { place = at .place + 1; entry = at .entry; monitored = at .monitored + 1 })
-      (set layouts (at .place) x) entries places (set monitored (at .monitored) (at .place))
+  pub files-monitored : (x : ℕ) → leb least 0 ≡ false → x ≡ classLayout Monitored → at .place .0 < length layouts → at .monitored < length monitored
+      → FilesTone least Monitored at layouts entries places monitored (record { place = record { 0 = at .place .0 + 1 }; entry = at .entry; monitored = at .monitored + 1 })
+      (set layouts (at .place .0) x) entries places (set monitored (at .monitored) (at .place .0))
   unfolding weight
   files-monitored x not is lt mt =
       record {
         placeIs = refl;
         entryIs = rw not (omega arith);
         monitoredIs = refl;
-        layoutsAre = rw is (more layouts (at .place) (classLayout Monitored) lt);
+        layoutsAre = rw is (more layouts (at .place .0) (classLayout Monitored) lt);
         entriesAre = rw not (no-more entries (at .entry));
         placesAre = rw not (no-more places (at .entry));
-        monitoredAre = more monitored (at .monitored) (at .place) mt;
+        monitoredAre = more monitored (at .monitored) (at .place .0) mt;
       }
 
-  pub files-silent : (x : ℕ) → leb least 0 ≡ false → x ≡ classLayout Silent → at .place < length layouts
-      → FilesTone least Silent at layouts entries places monitored (record { place = at .place + 1; entry = at .entry; monitored = at .monitored }) (set layouts (at .place) x) entries places monitored
+  pub files-silent : (x : ℕ) → leb least 0 ≡ false → x ≡ classLayout Silent → at .place .0 < length layouts
+      → FilesTone least Silent at layouts entries places monitored (record { place = record { 0 = at .place .0 + 1 }; entry = at .entry; monitored = at .monitored }) (set layouts (at .place .0) x) entries places monitored
   unfolding weight
   files-silent x not is lt =
       record {
         placeIs = refl;
         entryIs = rw not (omega arith);
         monitoredIs = omega arith;
-        layoutsAre = rw is (more layouts (at .place) (classLayout Silent) lt);
+        layoutsAre = rw is (more layouts (at .place .0) (classLayout Silent) lt);
         entriesAre = rw not (no-more entries (at .entry));
         placesAre = rw not (no-more places (at .entry));
         monitoredAre = no-more monitored (at .monitored);
@@ -136,9 +136,9 @@ module _ (least : ℕ) (cs : List Class) {at r : Cursors} {layouts entries place
   placed : isPlaced least c ≡ true → Filing least (cs ++ (c ∷ [])) r layoutsAfter entriesAfter placesAfter monitoredAfter
   unfolding weight
   placed here =
-      let one : r .place ≡ at .place + 1 = w .placeIs ∙ ap (λ (b : Bool). at .place + weight b) here in
-      let n : 0 + length (map load cs) ≡ at .place = omega (arith, length-map cs load, f .placeIs) in
-      let m : 0 + length cs ≡ at .place = omega (arith, f .placeIs) in
+      let one : r .place .0 ≡ at .place .0 + 1 = w .placeIs ∙ ap (λ (b : Bool). at .place .0 + weight b) here in
+      let n : 0 + length (map load cs) ≡ at .place .0 = omega (arith, length-map cs load, f .placeIs) in
+      let m : 0 + length cs ≡ at .place .0 = omega (arith, f .placeIs) in
       let z : map load (cs ++ (c ∷ [])) ≡ map load cs ++ (load c ∷ []) = map-append load cs (c ∷ []) in
       record {
         placeIs = sym (length-append cs (c ∷ []) ∙ omega (arith, f .placeIs));
@@ -149,11 +149,11 @@ module _ (least : ℕ) (cs : List Class) {at r : Cursors} {layouts entries place
             ∙ sym (ap (filter (leb least)) z ∙ filter-append (leb least) (map load cs) (load c ∷ []));
         placesAre =
             w .placesAre
-            ∙ ap (λ (l : List ℕ). l ++ consIf (leb least (load c)) (at .place) []) (f .placesAre)
+            ∙ ap (λ (l : List ℕ). l ++ consIf (leb least (load c)) (at .place .0) []) (f .placesAre)
             ∙ sym (ap (placesWhere (leb least) 0) z ∙ places-append (leb least) 0 (map load cs) (load c ∷ []) ∙ rw n);
         monitoredAre =
             w .monitoredAre
-            ∙ ap (λ (l : List ℕ). l ++ consIf (isMonitored c) (at .place) []) (f .monitoredAre)
+            ∙ ap (λ (l : List ℕ). l ++ consIf (isMonitored c) (at .place .0) []) (f .monitoredAre)
             ∙ sym (places-append isMonitored 0 cs (c ∷ []) ∙ rw m);
         entryMost = omega (arith, f .entryMost, w .entryIs, weight-le (leb least (load c)));
         monitoredMost = omega (arith, f .monitoredMost, w .monitoredIs, weight-le (isMonitored c));
@@ -169,12 +169,12 @@ module _ (least : ℕ) (cs : List Class) {at r : Cursors} {layouts entries place
   unfolding weight
   skipped not =
       let q = passed c not in
-      let a : r .place ≡ at .place + 0 = w .placeIs ∙ ap (λ (b : Bool). at .place + weight b) not in
+      let a : r .place .0 ≡ at .place .0 + 0 = w .placeIs ∙ ap (λ (b : Bool). at .place .0 + weight b) not in
       let b : r .entry ≡ at .entry + 0 = w .entryIs ∙ ap (λ (b : Bool). at .entry + weight b) (q .0) in
       let d : r .monitored ≡ at .monitored + 0 = w .monitoredIs ∙ ap (λ (b : Bool). at .monitored + weight b) (q .1) in
       record {
         placeIs = omega (arith, f .placeIs);
-        layoutsAre = w .layoutsAre ∙ rw not (append-nil (take (at .place) layouts)) ∙ f .layoutsAre;
+        layoutsAre = w .layoutsAre ∙ rw not (append-nil (take (at .place .0) layouts)) ∙ f .layoutsAre;
         entriesAre = w .entriesAre ∙ rw (q .0) (append-nil (take (at .entry) entries)) ∙ f .entriesAre;
         placesAre = w .placesAre ∙ rw (q .0) (append-nil (take (at .entry) places)) ∙ f .placesAre;
         monitoredAre = w .monitoredAre ∙ rw (q .1) (append-nil (take (at .monitored) monitored)) ∙ f .monitoredAre;
@@ -190,7 +190,7 @@ module _ (least : ℕ) (cs : List Class) {at r : Cursors} {layouts entries place
       go false e = rw (append-nil cs) (skipped e)
 
   -- each tone adds at most one place
-  pub one-place : r .place ≤ at .place + 1
+  pub one-place : r .place .0 ≤ at .place .0 + 1
   one-place = omega (arith, w .placeIs, weight-le (isPlaced least c))
 
 -- the tones before place i of t, and the one there

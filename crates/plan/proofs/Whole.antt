@@ -149,13 +149,13 @@ module _ (m : Mode) (b g t : List ℕ) where
   -- the lists as filed, with the shared entries behind them
   pub plan-is : (sharers size : ℕ) (at : Cursors) (layouts entries places monitored layoutsAfter entriesAfter placesAfter : List ℕ)
       → sharers ≡ sharing m b t → sharers % 2 ≡ 0 → Filing (leastOwn m) cs at layouts entries places monitored
-      → Shares (layoutOf 1) (at .place) (sharers / 2) (at .entry) layouts entries places layoutsAfter entriesAfter placesAfter
-      → PlanIs (tables m b g t) (record { size = size; entries = at .entry + sharers / 2; shared = at .place; monitored = at .monitored }) layoutsAfter entriesAfter placesAfter monitored
+      → Shares (layoutOf 1) (at .place .0) (sharers / 2) (at .entry) layouts entries places layoutsAfter entriesAfter placesAfter
+      → PlanIs (tables m b g t) (record { size = size; «entry_count» = at .entry + sharers / 2; «shared_from» = at .place; «monitored_count» = at .monitored }) layoutsAfter entriesAfter placesAfter monitored
   plan-is sharers size at layouts entries places monitored layoutsAfter entriesAfter placesAfter o even f s =
       let n = placed-count in
       let two : 2 * (sharers / 2) ≡ sharing m b t = omega arith in
-      let all : at .place + 2 * (sharers / 2) ≡ length t = omega (arith, f .placeIs) in
-      let from : at .place ≡ sharedFrom (tables m b g t) = omega (arith, f .placeIs) in
+      let all : at .place .0 + 2 * (sharers / 2) ≡ length t = omega (arith, f .placeIs) in
+      let from : at .place .0 ≡ sharedFrom (tables m b g t) = omega (arith, f .placeIs) in
       record {
         layoutsAre = ap (λ (n : ℕ). take n layoutsAfter) (sym all) ∙ s .layoutsAre ∙ ap₂ (λ (k l : List ℕ). k ++ l) (f .layoutsAre) (ap (λ (n : ℕ). replicate n (layoutOf 1)) two) ∙ sym plan-layouts;
         sharedIs = from;

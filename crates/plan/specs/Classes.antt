@@ -16,14 +16,14 @@ use Rattle.plan.specs.Plan.{Carries, placesWhere, everySecond}
 -- two share one.
 pub record PlanOf (cs : List Class) (from : ℕ) (es ps ms layouts : List ℕ) : Type 0 where
   pub own : List Class
-  pub shared : ℕ
+  pub sharedCount : ℕ
   pub least : ℕ
-  pub classes : cs ≡ own ++ replicate (2 * shared) (Data 1)
+  pub classes : cs ≡ own ++ replicate (2 * sharedCount) (Data 1)
   pub fromIs : from ≡ length own
   pub leastIs : 1 ≤ least
   pub ownBits : (k : ℕ) → entry (map load own) k < least → entry (map load own) k ≡ 0
   pub carries : (k : ℕ) → k < length cs → Carries (getD cs k Silent)
-  pub entriesAre : es ≡ filter (leb least) (map load own) ++ replicate shared 2
-  pub placesAre : ps ≡ placesWhere (leb least) 0 (map load own) ++ everySecond from shared
+  pub entriesAre : es ≡ filter (leb least) (map load own) ++ replicate sharedCount 2
+  pub placesAre : ps ≡ placesWhere (leb least) 0 (map load own) ++ everySecond from sharedCount
   pub monitoredAre : ms ≡ placesWhere isMonitored 0 cs
   pub layoutsAre : layouts ≡ map classLayout cs

@@ -66,12 +66,12 @@ plannedVerdict (Refused x) = refused (numberOf x) (placeOf x)
 
 pub record PlanIs (T : Tables) (p : PlanSizes) (layouts entries places monitored : List ℕ) : Type 0 where
   pub layoutsAre : take (length (T .tones)) layouts ≡ layoutsIn T
-  pub sharedIs : p .shared ≡ sharedFrom T
-  pub entriesAre : take (p .entries) entries ≡ entriesIn T
-  pub placesAre : take (p .entries) places ≡ placesIn T
-  pub monitoredAre : take (p .monitored) monitored ≡ monitoredIn T
-  pub entriesMost : p .entries ≤ length (T .tones)
-  pub monitoredMost : p .monitored ≤ length (T .tones)
+  pub sharedIs : p .«shared_from» .0 ≡ sharedFrom T
+  pub entriesAre : take (p .«entry_count») entries ≡ entriesIn T
+  pub placesAre : take (p .«entry_count») places ≡ placesIn T
+  pub monitoredAre : take (p .«monitored_count») monitored ≡ monitoredIn T
+  pub entriesMost : p .«entry_count» ≤ length (T .tones)
+  pub monitoredMost : p .«monitored_count» ≤ length (T .tones)
 
 abbrev pub Made : Tables → Planned → List ℕ → List ℕ → List ℕ → List ℕ → Type 0
 Made T (Lists p) layouts entries places monitored = PlanIs T p layouts entries places monitored
@@ -125,30 +125,30 @@ pub record ToneNeeds (c : Class) (least : ℕ) (at : Cursors) (layouts entries p
   pub arrays : Arrays layouts entries places monitored
   pub carries : Carries c
   pub leastIs : 1 ≤ least
-  pub placeMost : at .place < mostTones
-  pub entryMost : at .entry ≤ at .place
-  pub monitoredMost : at .monitored ≤ at .place
+  pub placeMost : at .place .0 < mostTones
+  pub entryMost : at .entry ≤ at .place .0
+  pub monitoredMost : at .monitored ≤ at .place .0
 
 -- what one tone adds to the lists, up to the cursors
 pub record FilesTone (least : ℕ) (c : Class) (at : Cursors) (layouts entries places monitored : List ℕ)
     (r : Cursors) (layoutsAfter entriesAfter placesAfter monitoredAfter : List ℕ) : Type 0 where
-  pub placeIs : r .place ≡ at .place + weight (isPlaced least c)
+  pub placeIs : r .place .0 ≡ at .place .0 + weight (isPlaced least c)
   pub entryIs : r .entry ≡ at .entry + weight (leb least (load c))
   pub monitoredIs : r .monitored ≡ at .monitored + weight (isMonitored c)
-  pub layoutsAre : take (r .place) layoutsAfter ≡ take (at .place) layouts ++ consIf (isPlaced least c) (classLayout c) []
+  pub layoutsAre : take (r .place .0) layoutsAfter ≡ take (at .place .0) layouts ++ consIf (isPlaced least c) (classLayout c) []
   pub entriesAre : take (r .entry) entriesAfter ≡ take (at .entry) entries ++ consIf (leb least (load c)) (load c) []
-  pub placesAre : take (r .entry) placesAfter ≡ take (at .entry) places ++ consIf (leb least (load c)) (at .place) []
-  pub monitoredAre : take (r .monitored) monitoredAfter ≡ take (at .monitored) monitored ++ consIf (isMonitored c) (at .place) []
+  pub placesAre : take (r .entry) placesAfter ≡ take (at .entry) places ++ consIf (leb least (load c)) (at .place .0) []
+  pub monitoredAre : take (r .monitored) monitoredAfter ≡ take (at .monitored) monitored ++ consIf (isMonitored c) (at .place .0) []
 
 -- the lists of classes in the order of their places, up to the cursors
 pub record Filing (least : ℕ) (cs : List Class) (at : Cursors) (layouts entries places monitored : List ℕ) : Type 0 where
-  pub placeIs : at .place ≡ length cs
-  pub layoutsAre : take (at .place) layouts ≡ map classLayout cs
+  pub placeIs : at .place .0 ≡ length cs
+  pub layoutsAre : take (at .place .0) layouts ≡ map classLayout cs
   pub entriesAre : take (at .entry) entries ≡ filter (leb least) (map load cs)
   pub placesAre : take (at .entry) places ≡ placesWhere (leb least) 0 (map load cs)
   pub monitoredAre : take (at .monitored) monitored ≡ placesWhere isMonitored 0 cs
-  pub entryMost : at .entry ≤ at .place
-  pub monitoredMost : at .monitored ≤ at .place
+  pub entryMost : at .entry ≤ at .place .0
+  pub monitoredMost : at .monitored ≤ at .place .0
 
 pub record FileNeeds (least : ℕ) (b g t layouts entries places monitored : List ℕ) : Type 0 where
   pub arrays : Arrays layouts entries places monitored

@@ -68,12 +68,12 @@ module _ (T : Tables) (ok : tableVerdict T .number ≡ 0) where
 
   module _ (p : PlanSizes) {layouts entries places monitored : List ℕ} (is : PlanIs T p layouts entries places monitored) where
     abbrev es : List ℕ
-    es = take (p .entries) entries
+    es = take (p .«entry_count») entries
 
     abbrev ps : List ℕ
-    ps = take (p .entries) places
+    ps = take (p .«entry_count») places
 
-    pub the-plan : PlanOf (classesOf T) (p .shared) es ps (take (p .monitored) monitored) (take (length (T .tones)) layouts)
+    pub the-plan : PlanOf (classesOf T) (p .«shared_from» .0) es ps (take (p .«monitored_count») monitored) (take (length (T .tones)) layouts)
     the-plan = plan-of T p (known .bitsMost) sharing-even is
 
     -- the entries, by the mode
@@ -102,7 +102,7 @@ module _ (T : Tables) (ok : tableVerdict T .number ≡ 0) where
     coded-is e = entries-by Coded e
 
     coded-many : T .mode ≡ Coded → length es ≤ mostTones
-    coded-many e = omega (arith, is .entriesMost, tones-most, length-take-most (p .entries) entries)
+    coded-many e = omega (arith, is .entriesMost, tones-most, length-take-most (p .«entry_count») entries)
 
     -- ---- writing
 

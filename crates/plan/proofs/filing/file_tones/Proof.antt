@@ -16,7 +16,7 @@ use Rattle.plan.proofs.filing.file_tones.Tie as tie
 
 abbrev Inv-loop : tie.InvT-loop
 Inv-loop least bits gains tones table layouts₀ entries₀ places₀ monitored₀ at₀ i₀ layouts entries places monitored at i =
-    (at .place ≤ i) × (i ≤ length tones) × Arrays layouts entries places monitored
+    (at .place .0 ≤ i) × (i ≤ length tones) × Arrays layouts entries places monitored
     × Filing least (only (isPlaced least) (classesBy bits gains (take i tones))) at layouts entries places monitored
 
 abbrev μ-loop : tie.MeasureT-loop
