@@ -10,6 +10,7 @@ use lib.ListN.{length, take, drop, replicate, length-append, length-drop, length
 use lib.Seq.{length-take-le, take-at, drop-at, getD-take, getD-drop, getD-append-add}
 use Rattle.frame.proofs.Labels.{length-at}
 use Rattle.frame.specs.Labels.{bitsOfLabels, Within, labelsAt, Placed}
+use Rattle.g9932.proofs.Counts.{map-replicate}
 use Rattle.g9932.specs.Order.{consIf, filter}
 use Rattle.g9932.specs.Sizes.{entry}
 use Rattle.g9932.specs.Symbol.{load}
@@ -92,12 +93,8 @@ module _ {cs : List Class} {from : ℕ} {es ps ms layouts : List ℕ} (p : PlanO
       let e = ap length (p .classes) in
       omega (arith, e, p .fromIs, length-append (p .own) (replicate (2 * h) (Data 1)), length-replicate (2 * h) (Data 1))
 
-  ones-are : (n : ℕ) → map load (replicate n (Data 1)) ≡ replicate n 1
-  ones-are zero = refl
-  ones-are (suc n) = ap (λ (l : List ℕ). 1 ∷ l) (ones-are n)
-
   pub loads-are : map load cs ≡ bs ++ replicate (2 * h) 1
-  loads-are = ap (map load) (p .classes) ∙ map-append load (p .own) (replicate (2 * h) (Data 1)) ∙ ap (λ (l : List ℕ). bs ++ l) (ones-are (2 * h))
+  loads-are = ap (map load) (p .classes) ∙ map-append load (p .own) (replicate (2 * h) (Data 1)) ∙ ap (λ (l : List ℕ). bs ++ l) (map-replicate load (2 * h) (Data 1))
 
   ones-at : (n k : ℕ) → k < n → entry (replicate n 1) k ≡ 1
   ones-at zero k l = absurd (omega arith)

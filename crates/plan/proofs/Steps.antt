@@ -1,12 +1,12 @@
 -- Filing tone by tone: what a tone adds to the lists, and what a shared entry adds.
-use mathlib.Core.Bool.{Bool, true, false, cond}
+use mathlib.Core.Bool.{Bool, true, false}
 use mathlib.Core.List.{List, [], _∷_, _++_, map, map-append, append-nil, append-assoc}
 use mathlib.Core.Path.{_≡_, refl, sym, ap, _∙_}
 use Prim.Native.Nat.{ℕ, zero, suc, _+_, _*_, _≤_, _<_}
 use lib.Dec.{ltb, leb}
 use lib.ListN.{length, take, set, replicate, length-set, length-append, length-map}
 use lib.Seq.{take-suc, take-suc-set}
-use borrow.Author.Tests.{ltb-true, ltb-false}
+use borrow.Author.Tests.{ltb-true}
 use native.Mathlib.Numerals.{add-one}
 use native.Mathlib.Omega.{arith}
 use Rattle.constellation.specs.Layouts.{classLayout}
@@ -15,10 +15,10 @@ use Rattle.g9932.proofs.Words.{weight-le}
 use Rattle.g9932.specs.Bits.{weight}
 use Rattle.g9932.specs.Order.{consIf, filter}
 use Rattle.g9932.specs.Sizes.{entry, toneOf, classBy}
-use Rattle.g9932.specs.Symbol.{load, isMonitored}
+use Rattle.g9932.specs.Symbol.{load, isMonitored, classAt, classesBy}
 use Rattle.g9932.specs.declared.Class.the-variants.{Data, Monitored, Silent}
 use Rattle.g9932.specs.declared.Class.{Class}
-use Rattle.plan.specs.Plan.{Carries, classesBy, isPlaced, only, placesWhere, everySecond, FilesTone, Filing, Shares}
+use Rattle.plan.specs.Plan.{Carries, isPlaced, placesWhere, everySecond, FilesTone, Filing, Shares}
 use Rattle.plan.specs.declared.filing.Cursors.{Cursors}
 
 -- the class of a tone, by its bits
@@ -29,14 +29,6 @@ carried b g h = go (ltb 0 b) (ltb 0 g) refl
     go true q e = (ltb-true 0 b e, h)
     go false true e = tt
     go false false e = tt
-
-pub load-class : (b g : ℕ) → load (toneOf b g .class) ≡ b
-load-class b g = go (ltb 0 b) (ltb 0 g) refl
-  where
-    go : (p q : Bool) → ltb 0 b ≡ p → load (classBy p (Data b) (classBy q Monitored Silent)) ≡ b
-    go true q e = refl
-    go false true e = omega (arith, ltb-false 0 b e)
-    go false false e = omega (arith, ltb-false 0 b e)
 
 -- ---- lists in two parts
 
@@ -49,14 +41,6 @@ places-append p i [] m = let e : i ≡ i + 0 = omega arith in ap (λ (n : ℕ). 
 places-append p i (a ∷ l) m =
     let e : suc i + length l ≡ i + suc (length l) = omega arith in
     cons-append (p a) i (placesWhere p (suc i) (l ++ m)) (placesWhere p (suc i) l) (placesWhere p (suc i + length l) m) (places-append p (suc i) l m) ∙ rw e
-
-pub only-append : {A : Type 0} (p : A → Bool) (l m : List A) → only p (l ++ m) ≡ only p l ++ only p m
-only-append p [] m = refl
-only-append p (a ∷ l) m = go (p a) (only-append p l m)
-  where
-    go : (b : Bool) → only p (l ++ m) ≡ only p l ++ only p m → cond b (a ∷ only p (l ++ m)) (only p (l ++ m)) ≡ cond b (a ∷ only p l) (only p l) ++ only p m
-    go true e = ap (λ z. a ∷ z) e
-    go false e = e
 
 -- ---- a list that is filled up to a cursor
 
@@ -182,10 +166,10 @@ module _ (least : ℕ) (cs : List Class) {at r : Cursors} {layouts entries place
         monitoredMost = omega (arith, f .monitoredMost);
       }
 
-  pub tone-more : Filing least (cs ++ only (isPlaced least) (c ∷ [])) r layoutsAfter entriesAfter placesAfter monitoredAfter
+  pub tone-more : Filing least (cs ++ filter (isPlaced least) (c ∷ [])) r layoutsAfter entriesAfter placesAfter monitoredAfter
   tone-more = go (isPlaced least c) refl
     where
-      go : (b : Bool) → isPlaced least c ≡ b → Filing least (cs ++ cond b (c ∷ []) []) r layoutsAfter entriesAfter placesAfter monitoredAfter
+      go : (b : Bool) → isPlaced least c ≡ b → Filing least (cs ++ consIf b c []) r layoutsAfter entriesAfter placesAfter monitoredAfter
       go true e = placed e
       go false e = rw (append-nil cs) (skipped e)
 
@@ -195,14 +179,14 @@ module _ (least : ℕ) (cs : List Class) {at r : Cursors} {layouts entries place
 
 -- the tones before place i of t, and the one there
 pub classes-more : (least : ℕ) (b g t : List ℕ) (i : ℕ) → i < length t
-    → only (isPlaced least) (classesBy b g (take (i + 1) t))
-    ≡ only (isPlaced least) (classesBy b g (take i t)) ++ only (isPlaced least) (toneOf (entry b (entry t i)) (entry g (entry t i)) .class ∷ [])
+    → filter (isPlaced least) (classesBy b g (take (i + 1) t))
+    ≡ filter (isPlaced least) (classesBy b g (take i t)) ++ filter (isPlaced least) (classAt b g (entry t i) ∷ [])
 classes-more least b g t i h =
     let k : List ℕ = entry t i ∷ [] in
-    ap (λ (n : ℕ). only (isPlaced least) (classesBy b g (take n t))) (add-one i)
-    ∙ ap (λ (l : List ℕ). only (isPlaced least) (classesBy b g l)) (take-suc t i 0 h)
-    ∙ ap (only (isPlaced least)) (map-append (λ (j : ℕ). toneOf (entry b j) (entry g j) .class) (take i t) k)
-    ∙ only-append (isPlaced least) (classesBy b g (take i t)) (classesBy b g k)
+    ap (λ (n : ℕ). filter (isPlaced least) (classesBy b g (take n t))) (add-one i)
+    ∙ ap (λ (l : List ℕ). filter (isPlaced least) (classesBy b g l)) (take-suc t i 0 h)
+    ∙ ap (filter (isPlaced least)) (map-append (classAt b g) (take i t) k)
+    ∙ filter-append (isPlaced least) (classesBy b g (take i t)) (classesBy b g k)
 
 -- ---- a shared entry more
 

@@ -1,6 +1,6 @@
 -- The plan of a symbol: what its passes need of the tables, by place in t' and by entry of b'.
 use Prim.Native.Nat.{ℕ, zero, suc, _+_, _-_, _*_, _/_, _%_, _≤_, _<_}
-use mathlib.Core.Bool.{Bool, true, cond}
+use mathlib.Core.Bool.{Bool, true}
 use mathlib.Core.List.{List, [], _∷_, _++_, map}
 use mathlib.Core.Path.{_≡_}
 use lib.Dec.{leb}
@@ -9,7 +9,7 @@ use Rattle.constellation.specs.Layouts.{classLayout}
 use Rattle.g9932.specs.Bits.{weight}
 use Rattle.g9932.specs.Order.{consIf, filter}
 use Rattle.g9932.specs.Refusals.{numberOf, placeOf, Verdict, refused, accepted, tableVerdict}
-use Rattle.g9932.specs.Sizes.{Tables, entry, toneOf, mostTones}
+use Rattle.g9932.specs.Sizes.{Tables, entry, mostTones}
 use Rattle.g9932.specs.Symbol.{load, isMonitored, classesOf}
 use Rattle.g9932.specs.declared.Class.{Class}
 use Rattle.g9932.specs.declared.Class.the-variants.{Data, Monitored, Silent}
@@ -100,10 +100,6 @@ pub record PlanNeeds (m : Mode) (sharers : ℕ) (b g t layouts entries places mo
   pub sharersAre : sharers ≡ sharing m b t
   pub even : sharers % 2 ≡ 0
 
--- the classes of a list of tones
-abbrev pub classesBy : List ℕ → List ℕ → List ℕ → List Class
-classesBy b g t = map (λ k. toneOf (entry b k) (entry g k) .class) t
-
 -- a class that a tone of accepted tables has: 1 to 15 bits where it has data
 abbrev pub Carries : Class → Type 0
 Carries (Data n) = (1 ≤ n) × (n ≤ 15)
@@ -115,10 +111,6 @@ abbrev pub isPlaced : ℕ → Class → Bool
 isPlaced least (Data b) = leb least b
 isPlaced least Monitored = true
 isPlaced least Silent = true
-
-abbrev pub only : {A : Type 0} → (A → Bool) → List A → List A
-only p [] = []
-only p (a ∷ l) = cond (p a) (a ∷ only p l) (only p l)
 
 -- what filing one tone asks: the lists have room for it
 pub record ToneNeeds (c : Class) (least : ℕ) (at : Cursors) (layouts entries places monitored : List ℕ) : Type 0 where

@@ -1,7 +1,9 @@
 // Filing the tones of t by place and by entry. Called by proved code only.
 ghost use mathlib.Core.Path.{_≡_};
 ghost use Rattle.constellation.specs.Layouts.{layoutList};
-ghost use Rattle.plan.specs.Plan.{classesBy, isPlaced, only, ToneNeeds, FilesTone, Filing, FileNeeds, ShareNeeds, Shares};
+ghost use Rattle.g9932.specs.Order.{filter};
+ghost use Rattle.g9932.specs.Symbol.{classesBy};
+ghost use Rattle.plan.specs.Plan.{isPlaced, ToneNeeds, FilesTone, Filing, FileNeeds, ShareNeeds, Shares};
 use g9932::Class;
 use g9932::Place;
 use g9932::Tone;
@@ -80,7 +82,7 @@ pub fn file_tones(
     monitored: &mut [u16],
 ) -> Cursors
     requires { ⌜ FileNeeds least (now bits) (now gains) (now tones) (now layouts) (now entries) (now places) (now monitored) × (now table ≡ layoutList) ⌝ }
-    ensures { λ r. ⌜ Filing least (only (isPlaced least) (classesBy (now (bits .entry)) (now (gains .entry)) (now (tones .entry)))) r (now (layouts .exit)) (now (entries .exit)) (now (places .exit)) (now (monitored .exit)) ⌝ }
+    ensures { λ r. ⌜ Filing least (filter (isPlaced least) (classesBy (now (bits .entry)) (now (gains .entry)) (now (tones .entry)))) r (now (layouts .exit)) (now (entries .exit)) (now (places .exit)) (now (monitored .exit)) ⌝ }
 {
     let mut at = Cursors {
         place: Place(0),

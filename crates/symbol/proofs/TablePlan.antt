@@ -80,7 +80,7 @@ module _ (T : Tables) (ok : tableVerdict T .number ≡ 0) where
     entries-by : (m : Mode) → T .mode ≡ m → es ≡ filter (leb (leastOwn m)) (bitsOf (T .bits) (reorderedTones m (T .bits) (T .tones))) ++ replicate (sharing m (T .bits) (T .tones) / 2) 2
     entries-by m e =
         is .entriesAre
-        ∙ ap (λ (l : List ℕ). filter (leb (leastOwn (T .mode))) l ++ replicate (sharing (T .mode) (T .bits) (T .tones) / 2) 2) (load-classes T (reorderedTones (T .mode) (T .bits) (T .tones)))
+        ∙ ap (λ (l : List ℕ). filter (leb (leastOwn (T .mode))) l ++ replicate (sharing (T .mode) (T .bits) (T .tones) / 2) 2) (load-classes (T .bits) (T .gains) (reorderedTones (T .mode) (T .bits) (T .tones)))
         ∙ ap (λ (m : Mode). filter (leb (leastOwn m)) (bitsOf (T .bits) (reorderedTones m (T .bits) (T .tones))) ++ replicate (sharing m (T .bits) (T .tones) / 2) 2) e
 
     plain-entries : T .mode ≡ Uncoded → es ≡ filter (leb 1) (bitsOf (T .bits) (T .tones))
