@@ -35,7 +35,7 @@ fn put_bits(reordered_bits: &mut [u8], p: Place, b: u8)
 
 // Uncoded: t' is t, and b' lists the bits in t order.
 fn write_uncoded(bits: &[u8], tones: &[u16], reordered_tones: &mut [u16], reordered_bits: &mut [u8])
-    requires room { ⌜ OrderNeeds (now tones) (now «reordered_tones») (now «reordered_bits») ⌝ }
+    requires fits { ⌜ OrderNeeds (now tones) (now «reordered_tones») (now «reordered_bits») ⌝ }
     requires below { ⌜ Below (length (now bits)) (now tones) ⌝ }
     ensures { λ _. ⌜ Written Uncoded (now (bits .entry)) (now (tones .entry)) (now («reordered_tones» .exit)) (now («reordered_bits» .exit)) ⌝ }
 {
@@ -121,7 +121,7 @@ fn write_coded(
     reordered_bits: &mut [u8],
 )
     requires ready { ⌜ CodedNeeds (now bits) (now tones) ones zeros ⌝ }
-    requires room { ⌜ OrderNeeds (now tones) (now «reordered_tones») (now «reordered_bits») ⌝ }
+    requires fits { ⌜ OrderNeeds (now tones) (now «reordered_tones») (now «reordered_bits») ⌝ }
     ensures { λ _. ⌜ Written Coded (now (bits .entry)) (now (tones .entry)) (now («reordered_tones» .exit)) (now («reordered_bits» .exit)) ⌝ }
 {
     let half = ones / 2;

@@ -12,10 +12,10 @@ use Rattle.g9932.specs.Symbol.{load, classesBy, classesOf}
 use Rattle.g9932.specs.declared.Class.{Class}
 use Rattle.g9932.specs.declared.Class.the-variants.{Data, Monitored, Silent}
 use Rattle.plan.specs.Classes.{PlanOf}
-use Rattle.plan.specs.Plan.{Carries, leastOwn, everySecond, PlanIs, isPlaced}
+use Rattle.plan.specs.Plan.{ClassBits, leastOwn, everySecond, PlanIs, isPlaced}
 use Rattle.tables.specs.Modes.{sharing}
 use Rattle.plan.specs.declared.PlanSizes.{PlanSizes}
-use Rattle.plan.proofs.Steps.{carried}
+use Rattle.plan.proofs.Steps.{class-bits}
 use Rattle.plan.proofs.Whole.{least-own, classes-plan, placed-count, plan-entries, plan-places}
 
 -- a tone that does not share has no bits below the least
@@ -35,10 +35,10 @@ placed-loads least (c ∷ cs) k h = go (isPlaced least c) refl k h (placed-loads
     go true e (suc k) h rest = rest k h
     go false e k h rest = rest k h
 
-pub class-carries : (b g t : List ℕ) → ((k : ℕ) → entry b k ≤ 15) → (k : ℕ) → k < length (classesBy b g t) → Carries (getD (classesBy b g t) k Silent)
-class-carries b g [] most k h = absurd (omega arith)
-class-carries b g (a ∷ t) most zero h = carried (entry b a) (entry g a) (most a)
-class-carries b g (a ∷ t) most (suc k) h = class-carries b g t most k (omega arith)
+classes-bits : (b g t : List ℕ) → ((k : ℕ) → entry b k ≤ 15) → (k : ℕ) → k < length (classesBy b g t) → ClassBits (getD (classesBy b g t) k Silent)
+classes-bits b g [] most k h = absurd (omega arith)
+classes-bits b g (a ∷ t) most zero h = class-bits (entry b a) (entry g a) (most a)
+classes-bits b g (a ∷ t) most (suc k) h = classes-bits b g t most k (omega arith)
 
 pub plan-of : (T : Tables) (p : PlanSizes) {layouts entries places monitored : List ℕ} → ((k : ℕ) → entry (T .bits) k ≤ 15) → sharing (T .mode) (T .bits) (T .tones) % 2 ≡ 0
     → PlanIs T p layouts entries places monitored
@@ -58,7 +58,7 @@ plan-of T p most even is =
       fromIs = is .sharedIs ∙ omega arith;
       leastIs = least-own m;
       ownBits = placed-loads (leastOwn m) (classesBy b g t);
-      carries = class-carries b g (reorderedTones m b t) most;
+      carries = classes-bits b g (reorderedTones m b t) most;
       entriesAre = is .entriesAre ∙ ap (λ (l : List ℕ). l ++ replicate (sharing m b t / 2) 2) (plan-entries m b g t);
       placesAre = is .placesAre ∙ ap₂ (λ (l : List ℕ) (k : ℕ). l ++ everySecond k (sharing m b t / 2)) (plan-places m b g t) (sym (is .sharedIs));
       monitoredAre = is .monitoredAre;

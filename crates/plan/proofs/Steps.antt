@@ -18,14 +18,14 @@ use Rattle.g9932.specs.Sizes.{entry, toneOf, classBy}
 use Rattle.g9932.specs.Symbol.{load, isMonitored, classAt, classesBy}
 use Rattle.g9932.specs.declared.Class.the-variants.{Data, Monitored, Silent}
 use Rattle.g9932.specs.declared.Class.{Class}
-use Rattle.plan.specs.Plan.{Carries, isPlaced, placesWhere, everySecond, FilesTone, Filing, Shares}
+use Rattle.plan.specs.Plan.{ClassBits, isPlaced, placesWhere, everySecond, FilesTone, Filing, Shares}
 use Rattle.plan.specs.declared.filing.Cursors.{Cursors}
 
 -- the class of a tone, by its bits
-pub carried : (b g : ℕ) → b ≤ 15 → Carries (toneOf b g .class)
-carried b g h = go (ltb 0 b) (ltb 0 g) refl
+pub class-bits : (b g : ℕ) → b ≤ 15 → ClassBits (toneOf b g .class)
+class-bits b g h = go (ltb 0 b) (ltb 0 g) refl
   where
-    go : (p q : Bool) → ltb 0 b ≡ p → Carries (classBy p (Data b) (classBy q Monitored Silent))
+    go : (p q : Bool) → ltb 0 b ≡ p → ClassBits (classBy p (Data b) (classBy q Monitored Silent))
     go true q e = (ltb-true 0 b e, h)
     go false true e = tt
     go false false e = tt
@@ -44,10 +44,10 @@ places-append p i (a ∷ l) m =
 
 -- ---- a list that is filled up to a cursor
 
-pub more : (l : List ℕ) (e x : ℕ) → e < length l → take (e + 1) (set l e x) ≡ take e l ++ (x ∷ [])
+more : (l : List ℕ) (e x : ℕ) → e < length l → take (e + 1) (set l e x) ≡ take e l ++ (x ∷ [])
 more l e x h = rw add-one (take-suc-set l e x h)
 
-pub no-more : (l : List ℕ) (e : ℕ) → take e l ≡ take e l ++ []
+no-more : (l : List ℕ) (e : ℕ) → take e l ≡ take e l ++ []
 no-more l e = sym (append-nil (take e l))
 
 -- ---- what one tone adds

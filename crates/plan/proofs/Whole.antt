@@ -96,7 +96,7 @@ module _ (m : Mode) (b g t : List ℕ) where
       by Uncoded = refl
       by Coded = ap (placesWhere (leb 2) i) (map-replicate load (ones b t) (Data 1)) ∙ places-tail (leb 2) 1 refl (ones b t) i
 
-  pub plan-layouts : map classLayout (classesBy b g (reorderedTones m b t)) ≡ map classLayout cs ++ replicate (sharing m b t) (layoutOf 1)
+  plan-layouts : map classLayout (classesBy b g (reorderedTones m b t)) ≡ map classLayout cs ++ replicate (sharing m b t) (layoutOf 1)
   plan-layouts =
       ap (map classLayout) (classes-plan m b g t) ∙ map-append classLayout cs ends
       ∙ ap (λ (l : List ℕ). map classLayout cs ++ l) (map-replicate classLayout (sharing m b t) (Data 1))
@@ -114,7 +114,7 @@ module _ (m : Mode) (b g t : List ℕ) where
       ap (placesWhere (leb (leastOwn m)) 0) plan-loads ∙ places-append (leb (leastOwn m)) 0 (map load cs) (map load ends)
       ∙ rw (entry-places-tail (0 + length (map load cs))) (append-nil (placesWhere (leb (leastOwn m)) 0 (map load cs)))
 
-  pub plan-monitored : placesWhere isMonitored 0 (classesBy b g (reorderedTones m b t)) ≡ placesWhere isMonitored 0 cs
+  plan-monitored : placesWhere isMonitored 0 (classesBy b g (reorderedTones m b t)) ≡ placesWhere isMonitored 0 cs
   plan-monitored =
       ap (placesWhere isMonitored 0) (classes-plan m b g t) ∙ places-append isMonitored 0 cs ends
       ∙ rw (places-tail isMonitored (Data 1) refl (sharing m b t) (0 + length cs)) (append-nil (placesWhere isMonitored 0 cs))

@@ -101,10 +101,10 @@ pub record PlanNeeds (m : Mode) (sharers : ℕ) (b g t layouts entries places mo
   pub even : sharers % 2 ≡ 0
 
 -- a class that a tone of accepted tables has: 1 to 15 bits where it has data
-abbrev pub Carries : Class → Type 0
-Carries (Data n) = (1 ≤ n) × (n ≤ 15)
-Carries Monitored = Unit {0}
-Carries Silent = Unit {0}
+abbrev pub ClassBits : Class → Type 0
+ClassBits (Data n) = (1 ≤ n) × (n ≤ 15)
+ClassBits Monitored = Unit {0}
+ClassBits Silent = Unit {0}
 
 -- whether a tone comes before those that share
 abbrev pub isPlaced : ℕ → Class → Bool
@@ -112,10 +112,10 @@ isPlaced least (Data b) = leb least b
 isPlaced least Monitored = true
 isPlaced least Silent = true
 
--- what filing one tone asks: the lists have room for it
+-- what filing one tone asks: it fits the lists
 pub record ToneNeeds (c : Class) (least : ℕ) (at : Cursors) (layouts entries places monitored : List ℕ) : Type 0 where
   pub arrays : Arrays layouts entries places monitored
-  pub carries : Carries c
+  pub carries : ClassBits c
   pub leastIs : 1 ≤ least
   pub placeMost : at .place .0 < mostTones
   pub entryMost : at .entry ≤ at .place .0

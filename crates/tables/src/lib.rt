@@ -8,9 +8,9 @@ ghost use Prim.Native.Nat.{_≤_, _<_};
 ghost use lib.ListN.{length};
 ghost use Rattle.g9932.specs.Bits.{weight};
 ghost use Rattle.g9932.specs.Sizes.{entry, toneOf};
-ghost use Rattle.tables.specs.Counted.{CountsAre, Medley};
+ghost use Rattle.tables.specs.Counted.{CountsAre, ListsPass};
 
-pub mod lists; // refusals 1 to 6
+mod lists; // refusals 1 to 6
 pub mod sizes; // refusals 1 to 9 and L
 
 // The sub-carrier at a place of a tone table; 0 past its end.
@@ -89,7 +89,7 @@ fn one_if(test: bool) -> u16
 }
 
 // Sums over the tones: of the bits, of the loaded tones, and of the 1-bit tones.
-pub struct Counts {
+struct Counts {
     pub sum: usize,
     pub loaded: usize,
     pub ones: usize,
@@ -98,7 +98,7 @@ pub struct Counts {
 // The counts over all tones. Only tones have bits, so that they are the counts over the bit table. The sums fit 16 bits, and there
 // is no `if`, so that the compiler takes many entries at a time. Called by proved code only.
 fn count_tones(bits: &[u8], tones: &[u16]) -> Counts
-    requires { ⌜ Medley (now bits) (now tones) ⌝ }
+    requires { ⌜ ListsPass (now bits) (now tones) ⌝ }
     ensures { λ r. ⌜ CountsAre r (now (bits .entry)) (now (tones .entry)) ⌝ }
 {
     let mut sum: u16 = 0;

@@ -8,7 +8,7 @@ use lib.ListN.{length}
 use denote.Ref.{now}
 use native.Mathlib.Omega.{arith}
 use Rattle.ordering.proofs.Written.{tones-written, bits-written}
-use Rattle.tables.proofs.Counting.{Fits, entries-fit}
+use Rattle.g9932.proofs.Reordering.{Fits, entries-fit}
 use Rattle.ordering.proofs.Placing.{length-singles}
 use Rattle.g9932.proofs.Counts.{length-parts}
 use Rattle.g9932.specs.Order.{oneBit, singles, others}

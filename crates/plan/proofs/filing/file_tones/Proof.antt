@@ -10,7 +10,7 @@ use Rattle.g9932.specs.Order.{filter}
 use Rattle.g9932.specs.Sizes.{entry}
 use Rattle.g9932.specs.Symbol.{classAt, classesBy}
 use Rattle.g9932.specs.declared.Class.{Class}
-use Rattle.plan.proofs.Steps.{carried, tone-more, one-place, classes-more}
+use Rattle.plan.proofs.Steps.{class-bits, tone-more, one-place, classes-more}
 use Rattle.plan.specs.Plan.{Arrays, Filing, isPlaced}
 use borrow.Author.Needs.{needs}
 use Rattle.plan.proofs.filing.file_tones.Statement.{statement}
@@ -54,7 +54,7 @@ file-tone-requires c κs =
     let l = c .before .before .before .before .before .before .before .before .before .loop in (
       record {
         arrays = l .inv .2;
-        carries = rw (tone-of .ensures) (carried (bits-of .result) (gain-of .result) (rw (bits-of .ensures) (s .pre .0 .bitsMost _)));
+        carries = rw (tone-of .ensures) (class-bits (bits-of .result) (gain-of .result) (rw (bits-of .ensures) (s .pre .0 .bitsMost _)));
         leastIs = s .pre .0 .leastIs;
         placeMost = omega (arith, l .inv .0, s .pre .0 .most);
         entryMost = l .inv .3 .entryMost;
