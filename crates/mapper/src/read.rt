@@ -32,13 +32,14 @@ fn demap_all(layouts: &[u16], xs: &[i16], ys: &[i16], labels: &mut [u16]) -> boo
 }
 
 // Whether the point at a place is in its constellation.
-fn on_grid(layouts: &[u16], xs: &[i16], ys: &[i16], i: usize) -> bool
-    requires { ⌜ DemapNeeds (now layouts) (now xs) (now ys) × (i < length (now xs)) ⌝ }
-    ensures { λ r. ⌜ OnOrOff (entry (now (layouts .entry)) i) (pointAt (now (xs .entry)) (now (ys .entry)) i) r ⌝ }
+fn on_grid(layouts: &[u16], xs: &[i16], ys: &[i16], p: Place) -> bool
+    requires { ⌜ DemapNeeds (now layouts) (now xs) (now ys) × (p .0 < length (now xs)) ⌝ }
+    ensures { λ r. ⌜ OnOrOff (entry (now (layouts .entry)) (p .0)) (pointAt (now (xs .entry)) (now (ys .entry)) (p .0)) r ⌝ }
 {
-    let end = i + 1;
+    let at = p.0;
+    let end = at + 1;
     let mut label = [0u16; 1];
-    demap_all(&layouts[i..end], &xs[i..end], &ys[i..end], &mut label)
+    demap_all(&layouts[at..end], &xs[at..end], &ys[at..end], &mut label)
 }
 
 // The first place whose point is off its constellation. It takes one place at a time through `demap_all`, so that the loop there is the
@@ -49,7 +50,7 @@ fn first_offgrid(layouts: &[u16], xs: &[i16], ys: &[i16]) -> Found
 {
     let mut i = 0;
     while i < xs.len() {
-        if !on_grid(layouts, xs, ys, i) {
+        if !on_grid(layouts, xs, ys, Place(i)) {
             return Found::At(i);
         }
         i += 1;

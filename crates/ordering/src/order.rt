@@ -93,12 +93,12 @@ fn place_others(
     }
 }
 
-// Coded: writes the 1-bit tones in t' from `behind` on, in t order.
-fn place_ones(bits: &[u8], tones: &[u16], behind: usize, reordered_tones: &mut [u16])
-    requires { ⌜ behind + length (singles (now bits) (now tones)) ≤ length (now «reordered_tones») ⌝ }
-    ensures { λ _. ⌜ now («reordered_tones» .exit) ≡ sets (now («reordered_tones» .entry)) behind (singles (now (bits .entry)) (now (tones .entry))) ⌝ }
+// Coded: writes the 1-bit tones in t' from place `behind` on, in t order.
+fn place_ones(bits: &[u8], tones: &[u16], behind: Place, reordered_tones: &mut [u16])
+    requires { ⌜ behind .0 + length (singles (now bits) (now tones)) ≤ length (now «reordered_tones») ⌝ }
+    ensures { λ _. ⌜ now («reordered_tones» .exit) ≡ sets (now («reordered_tones» .entry)) (behind .0) (singles (now (bits .entry)) (now (tones .entry))) ⌝ }
 {
-    let mut one = behind;
+    let mut one = behind.0;
     let mut i = 0;
     while i < tones.len() {
         let tone = tone_at(tones, Place(i));
@@ -127,7 +127,8 @@ fn write_coded(
     let half = ones / 2;
     fill(reordered_bits, 0, zeros, 0);
     place_others(bits, tones, zeros, reordered_tones, reordered_bits);
-    place_ones(bits, tones, tones.len() - ones, reordered_tones);
+    let behind = Place(tones.len() - ones);
+    place_ones(bits, tones, behind, reordered_tones);
     fill(reordered_bits, tones.len() - half, half, 2);
 }
 

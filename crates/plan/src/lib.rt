@@ -10,7 +10,7 @@ use g9932::Place;
 use g9932::Refusal;
 use tables::sizes::Sized;
 
-// How far the lists of a plan reach: L, the entries, the first of the places that share entries, and the monitored places.
+// L, and how far the lists of a plan reach: its entries, the first of the places that share entries, and its monitored places.
 pub struct PlanSizes {
     pub size: usize,
     pub entry_count: usize,

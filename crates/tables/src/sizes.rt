@@ -19,8 +19,8 @@ pub enum Sized {
     Refused(Refusal),
 }
 
-// Refusals 7 and 8, and L. Re-ordering leaves no entry of 1, so that 9 never applies (this crate's proofs/Pairs). Its caller shows that refusals 1 to
-// 6 do not apply.
+// Refusals 7 and 8, and L. Re-ordering leaves no entry of 1, so that 9 never applies (this crate's proofs/Pairs). Its caller shows that
+// refusals 1 to 6 do not apply.
 fn size_frame(mode: Mode, bits: &[u8], tones: &[u16]) -> Sized
     requires { ⌜ ListsPass (now bits) (now tones) ⌝ }
     ensures { λ r. ⌜ SizedBy (modeVerdict mode (now (bits .entry)) (now (tones .entry))) mode (now (bits .entry)) (now (tones .entry)) r ⌝ }

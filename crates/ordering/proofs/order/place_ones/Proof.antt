@@ -11,10 +11,10 @@ use Rattle.ordering.proofs.order.place_ones.Statement.{statement}
 use Rattle.ordering.proofs.order.place_ones.Tie as tie
 
 abbrev Inv-loop : tie.InvT-loop
-Inv-loop bits tones behind reordered-tones₀ one₀ i₀ reordered-tones one i = (length reordered-tones ≡ length reordered-tones₀) × OnesLeft bits tones behind reordered-tones₀ reordered-tones one i
+Inv-loop bits tones reordered-tones₀ one₀ i₀ reordered-tones one i = (length reordered-tones ≡ length reordered-tones₀) × OnesLeft bits tones one₀ reordered-tones₀ reordered-tones one i
 
 abbrev μ-loop : tie.MeasureT-loop
-μ-loop bits tones behind reordered-tones₀ one₀ i₀ reordered-tones one i = length tones - i
+μ-loop bits tones reordered-tones₀ one₀ i₀ reordered-tones one i = length tones - i
 
 -- a 1-bit tone at place i fits
 fits : (c : tie.After-bits-at Inv-loop μ-loop) → c .bits-at .result ≡ 1 → c .before .before .before .loop .one < length (now (c .before .before .before .before .before .before .before .args .reordered-tones))
