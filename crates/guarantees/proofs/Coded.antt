@@ -4,20 +4,17 @@ use Prim.Native.Nat.{ℕ, zero, suc, _+_, _*_, _-_, _/_, _≤_, _<_}
 use mathlib.Core.Bool.{Bool, true, false, not}
 use mathlib.Core.List.{List, [], _∷_, _++_, map, map-append}
 use mathlib.Core.Path.{_≡_, refl, sym, ap, ap₂, _∙_}
-use native.Mathlib.Nat.{zero-add}
-use native.Mathlib.Numerals.{one-add}
 use native.Mathlib.Omega.{arith}
-use borrow.Author.Tests.{eqb-true}
 use lib.Dec.{ltb, leb}
 use lib.ListN.{length, take, drop, getD, replicate, length-append, length-replicate, length-drop, length-map}
 use lib.Seq.{getD-append-add}
 use Rattle.g9932.specs.Bits.{_⊕_, bit, bits, num, odd, weight}
 use Rattle.g9932.specs.Sizes.{Tables, entry, frameBits, Point, origin}
-use Rattle.g9932.specs.Order.{Pair, sum, count, consIf, filter, isOne, bitsOf, oneBit, singles, others, ones, reorderedTones, reorderedBits, entries}
+use Rattle.g9932.specs.Order.{Pair, sum, count, filter, isOne, bitsOf, singles, others, reorderedTones, reorderedBits, entries}
 use Rattle.g9932.specs.Trellis.{zeroState, taken, takenTotal, lowBits, wordOf, nextOf, wordAt, encodePairs, sentOf}
 use Rattle.g9932.specs.Points.{pointOf}
 use Rattle.g9932.specs.Filler.{registerAfter}
-use Rattle.g9932.specs.Symbol.{classAt, orderOf, classesOf, pairsIn, sizeOf, sentIn, writePoints, writtenPoints}
+use Rattle.g9932.specs.Symbol.{classAt, classesBy, orderOf, classesOf, pairsIn, sizeOf, sentIn, writePoints, writtenPoints}
 use Rattle.g9932.specs.declared.Class.{Class}
 use Rattle.g9932.specs.declared.Class.the-variants.{Data}
 use Rattle.g9932.specs.declared.Mode.{Mode}
@@ -31,24 +28,12 @@ use Rattle.g9932.proofs.OnePair.{Fit, both}
 use Rattle.g9932.proofs.Packed.{length-frame}
 use Rattle.g9932.proofs.Pairs.{Ok}
 use Rattle.g9932.proofs.Reordering.{entries-law, allTwo-entries, nonzero-entries, length-order}
-use Rattle.g9932.proofs.Sent.{load-classes, length-taken, length-sentOf}
+use Rattle.g9932.proofs.Sent.{load-classes, single-classes, length-taken, length-sentOf}
 use Rattle.g9932.proofs.Symbols.{loads, length-write, write-append}
 use Rattle.guarantees.specs.Words.{AcceptedTables, AcceptedFrame, nonZero, wordsOf, stateAfter, wordsIn, labelsOf, lowest, lowestAt, oneBitTones, firstOfTwo, sharedEntry, table10-2}
 use Rattle.guarantees.proofs.EntryBits.{pairs-low, labels-append, length-labels, twos-bit}
 
 -- ---- 1-bit tones
-
-singles-classes : (T : Tables) (t : List ℕ) → map (classAt T) (singles (T .bits) t) ≡ replicate (ones (T .bits) t) (Data 1)
-unfolding weight
-singles-classes T [] = refl
-singles-classes T (k ∷ t) = go (oneBit (T .bits) k) refl (singles-classes T t)
-  where
-    go : (c : Bool) → oneBit (T .bits) k ≡ c → map (classAt T) (singles (T .bits) t) ≡ replicate (ones (T .bits) t) (Data 1)
-        → map (classAt T) (consIf c k (singles (T .bits) t)) ≡ replicate (weight c + ones (T .bits) t) (Data 1)
-    go true e ih =
-        let is : entry (T .bits) k ≡ 1 = eqb-true (entry (T .bits) k) 1 e in
-        rw (one-add, is) (ap (λ (l : List Class). Data 1 ∷ l) ih)
-    go false e ih = rw zero-add ih
 
 ones-point : (n r i : ℕ) (d : List Bool) → i < n → n ≤ length d → getD (writePoints r (replicate n (Data 1)) d) i origin ≡ pointOf 1 (bit d i ∷ [])
 unfolding writePoints
@@ -151,19 +136,19 @@ module _ (T : Tables) (ok : AcceptedTables T) (m : T .mode ≡ Coded) (f : List 
 
   -- the classes in t' order: of the other tones, then of the 1-bit ones
   abbrev before : List Class
-  before = map (classAt T) (others (T .bits) (T .tones))
+  before = classesBy (T .bits) (T .gains) (others (T .bits) (T .tones))
 
   classes-coded : classesOf T ≡ before ++ replicate (oneBitTones T) (Data 1)
   unfolding reorderedTones
   classes-coded =
-      ap (λ (n : Mode). map (classAt T) (reorderedTones n (T .bits) (T .tones))) m
-      ∙ map-append (classAt T) (others (T .bits) (T .tones)) (singles (T .bits) (T .tones))
-      ∙ ap (λ (l : List Class). before ++ l) (singles-classes T (T .tones))
+      ap (λ (n : Mode). classesBy (T .bits) (T .gains) (reorderedTones n (T .bits) (T .tones))) m
+      ∙ map-append (classAt (T .bits) (T .gains)) (others (T .bits) (T .tones)) (singles (T .bits) (T .tones))
+      ∙ ap (λ (l : List Class). before ++ l) (single-classes (T .bits) (T .gains) (T .tones))
 
   loads-before : loads before ≡ sum big
   loads-before =
       let ns : List ℕ = bitsOf (T .bits) (T .tones) in
-      ap sum (load-classes T (others (T .bits) (T .tones)) ∙ map-filter (entry (T .bits)) (λ n. not (isOne n)) (T .tones))
+      ap sum (load-classes (T .bits) (T .gains) (others (T .bits) (T .tones)) ∙ map-filter (entry (T .bits)) (λ n. not (isOne n)) (T .tones))
       ∙ omega (arith, sum-parts isOne ns, ap sum (filter-ones ns), sum-replicate (count isOne ns) 1, sum-big ns)
 
   length-before : length before ≡ length (T .tones) - oneBitTones T
@@ -171,7 +156,7 @@ module _ (T : Tables) (ok : AcceptedTables T) (m : T .mode ≡ Coded) (f : List 
       omega (
         arith,
         length-order (T .bits) (T .tones) (T .mode),
-        length-map (orderOf T) (classAt T),
+        length-map (orderOf T) (classAt (T .bits) (T .gains)),
         ap length classes-coded,
         length-append before (replicate (oneBitTones T) (Data 1)),
         length-replicate {A = Class} (oneBitTones T) (Data 1),

@@ -79,7 +79,7 @@ module _ (T : Tables) (a : Accepted T) (m : T .mode ≡ Coded) (r : ℕ) (f : Li
   g = frameBits (sizeOf T) f
 
   none : (k : ℕ) → k < length (classesOf T) → leaves halfPoint (getD (classesOf T) k Silent) ≡ false
-  none = none-leaves (classesOf T) (loaded-classes T (orderOf T))
+  none = none-leaves (classesOf T) (loaded-classes (T .bits) (T .gains) (orderOf T))
 
   no-13 : (k : ℕ) → k < length (classesOf T) → offgridTest (classesOf T) q k ≡ false
   no-13 k h = off-13 halfPoint T a m r f ok k h ∙ none k h

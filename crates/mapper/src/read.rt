@@ -32,13 +32,14 @@ fn demap_all(layouts: &[u16], xs: &[i16], ys: &[i16], labels: &mut [u16]) -> boo
 }
 
 // Whether the point at a place is in its constellation.
-fn on_grid(layouts: &[u16], xs: &[i16], ys: &[i16], i: usize) -> bool
-    requires { ⌜ DemapNeeds (now layouts) (now xs) (now ys) × (i < length (now xs)) ⌝ }
-    ensures { λ r. ⌜ OnOrOff (entry (now (layouts .entry)) i) (pointAt (now (xs .entry)) (now (ys .entry)) i) r ⌝ }
+fn on_grid(layouts: &[u16], xs: &[i16], ys: &[i16], p: Place) -> bool
+    requires { ⌜ DemapNeeds (now layouts) (now xs) (now ys) × (p .0 < length (now xs)) ⌝ }
+    ensures { λ r. ⌜ OnOrOff (entry (now (layouts .entry)) (p .0)) (pointAt (now (xs .entry)) (now (ys .entry)) (p .0)) r ⌝ }
 {
-    let end = i + 1;
+    let at = p.0;
+    let end = at + 1;
     let mut label = [0u16; 1];
-    demap_all(&layouts[i..end], &xs[i..end], &ys[i..end], &mut label)
+    demap_all(&layouts[at..end], &xs[at..end], &ys[at..end], &mut label)
 }
 
 // The first place whose point is off its constellation. It takes one place at a time through `demap_all`, so that the loop there is the
@@ -49,7 +50,7 @@ fn first_offgrid(layouts: &[u16], xs: &[i16], ys: &[i16]) -> Found
 {
     let mut i = 0;
     while i < xs.len() {
-        if !on_grid(layouts, xs, ys, i) {
+        if !on_grid(layouts, xs, ys, Place(i)) {
             return Found::At(i);
         }
         i += 1;
@@ -110,12 +111,12 @@ pub fn check_filler(monitored: &[u16], register: u32, labels: &[u16]) -> FillerR
     }
 }
 
-// From place `from` on, two tones of 1 bit share a label: both bits go to the first one's place. Called by proved code only.
-pub fn join_shared(labels: &mut [u16], from: usize)
-    requires { ⌜ JoinNeeds (now labels) from ⌝ }
-    ensures { λ _. ⌜ now (labels .exit) ≡ take from (now (labels .entry)) ++ joinOnes (drop from (now (labels .entry))) ⌝ }
+// From place `shared_from` on, two tones of 1 bit share a label: both bits go to the first one's place. Called by proved code only.
+pub fn join_shared(labels: &mut [u16], shared_from: Place)
+    requires { ⌜ JoinNeeds (now labels) («shared_from» .0) ⌝ }
+    ensures { λ _. ⌜ now (labels .exit) ≡ take («shared_from» .0) (now (labels .entry)) ++ joinOnes (drop («shared_from» .0) (now (labels .entry))) ⌝ }
 {
-    let mut i = from;
+    let mut i = shared_from.0;
     while i + 1 < labels.len() {
         labels[i] = labels[i] + 2 * labels[i + 1];
         i += 2;

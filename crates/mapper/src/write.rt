@@ -8,6 +8,7 @@ use frame::by_place::place_at;
 use frame::by_place::put_label;
 use frame::masks::lowest_by;
 use frame::masks::mask_table;
+use g9932::Place;
 
 // Cuts a frame's bits, from bit `start` on, into the labels of the entries, each at its place. Called by proved code only.
 pub fn cut_labels(frame: &[u8], start: usize, entries: &[u8], places: &[u16], labels: &mut [u16])
@@ -26,13 +27,13 @@ pub fn cut_labels(frame: &[u8], start: usize, entries: &[u8], places: &[u16], la
     }
 }
 
-// From place `from` on, two tones of 1 bit share a label, which stands at the first one's place: it keeps the lower bit, and the
+// From place `shared_from` on, two tones of 1 bit share a label, which stands at the first one's place: it keeps the lower bit, and the
 // second one gets the upper. Called by proved code only.
-pub fn split_shared(labels: &mut [u16], from: usize)
-    requires { ⌜ from ≤ length (now labels) ⌝ }
-    ensures { λ _. ⌜ now (labels .exit) ≡ take from (now (labels .entry)) ++ splitOnes (drop from (now (labels .entry))) ⌝ }
+pub fn split_shared(labels: &mut [u16], shared_from: Place)
+    requires { ⌜ «shared_from» .0 ≤ length (now labels) ⌝ }
+    ensures { λ _. ⌜ now (labels .exit) ≡ take («shared_from» .0) (now (labels .entry)) ++ splitOnes (drop («shared_from» .0) (now (labels .entry))) ⌝ }
 {
-    let mut i = from;
+    let mut i = shared_from.0;
     while i + 1 < labels.len() {
         let both = labels[i];
         labels[i] = both % 2;

@@ -60,28 +60,28 @@ module _ (b t : List ℕ) (i : ℕ) {k v : ℕ} (x : k ≡ entry t i) (y : v ≡
 -- ---- what is left to write from place i on, each list from its cursor, gives what the whole gives from the start
 
 -- the tones but the 1-bit ones, and the counts of at least 2
-pub record Ahead (b t : List ℕ) (from : ℕ) (ts₀ bs₀ ts bs : List ℕ) (other at i : ℕ) : Type 0 where
+pub record OthersLeft (b t : List ℕ) (from : ℕ) (ts₀ bs₀ ts bs : List ℕ) (other at i : ℕ) : Type 0 where
   pub within : i ≤ length t
   pub tones : Left ts other (others b (drop i t)) (length (others b t)) (sets ts₀ 0 (others b t))
   pub bits : Left bs at (bigs b (drop i t)) (from + length (bigs b t)) (sets bs₀ from (bigs b t))
 
-pub ahead-start : {b t ts bs : List ℕ} {from : ℕ} → Ahead b t from ts bs ts bs 0 from 0
-ahead-start = record { within = omega arith; tones = record { room = omega arith; gives = refl }; bits = record { room = refl; gives = refl } }
+pub others-start : {b t ts bs : List ℕ} {from : ℕ} → OthersLeft b t from ts bs ts bs 0 from 0
+others-start = record { within = omega arith; tones = record { fits = omega arith; gives = refl }; bits = record { fits = refl; gives = refl } }
 
-module _ {b t ts₀ bs₀ ts bs : List ℕ} {from other at i : ℕ} (a : Ahead b t from ts₀ bs₀ ts bs other at i) where
-  pub ahead-end : length t ≤ i → Placing b t from ts₀ bs₀ ts bs
-  ahead-end h = let d : drop i t ≡ [] = drop-of-length-le t h in record { tones = rw d at (a .tones .gives); bits = rw d at (a .bits .gives) }
+module _ {b t ts₀ bs₀ ts bs : List ℕ} {from other at i : ℕ} (a : OthersLeft b t from ts₀ bs₀ ts bs other at i) where
+  pub others-end : length t ≤ i → Placing b t from ts₀ bs₀ ts bs
+  others-end h = let d : drop i t ≡ [] = drop-of-length-le t h in record { tones = rw d at (a .tones .gives); bits = rw d at (a .bits .gives) }
 
   -- one tone more: k, with v bits
   module _ {k v : ℕ} (x : k ≡ entry t i) (y : v ≡ entry b k) (h : i < length t) where
-    pub other-room : (v ≡ 1 → ⊥) → other < length (others b t)
-    other-room e = omega (arith, a .tones .room, ap length (other-here b t i x y h e))
+    pub other-fits : (v ≡ 1 → ⊥) → other < length (others b t)
+    other-fits e = omega (arith, a .tones .fits, ap length (other-here b t i x y h e))
 
-    pub big-room : 2 ≤ v → at < from + length (bigs b t)
-    big-room e = omega (arith, a .bits .room, ap length (big-here b t i x y h e))
+    pub big-fits : 2 ≤ v → at < from + length (bigs b t)
+    big-fits e = omega (arith, a .bits .fits, ap length (big-here b t i x y h e))
 
-    pub ahead-one : v ≡ 1 → Ahead b t from ts₀ bs₀ ts bs other at (i + 1)
-    ahead-one e =
+    pub others-past : v ≡ 1 → OthersLeft b t from ts₀ bs₀ ts bs other at (i + 1)
+    others-past e =
         record {
           within = omega arith;
           tones = left-same (other-past b t i x y h e) (a .tones);
@@ -89,11 +89,11 @@ module _ {b t ts₀ bs₀ ts bs : List ℕ} {from other at i : ℕ} (a : Ahead b
         }
 
     module _ {after : List ℕ} (e : v ≡ 1 → ⊥) (w : after ≡ set ts other k) where
-      pub ahead-big : 2 ≤ v → Ahead b t from ts₀ bs₀ after (set bs at v) (other + 1) (at + 1) (i + 1)
-      ahead-big f = record { within = omega arith; tones = left-step w (other-here b t i x y h e) (a .tones); bits = left-step refl (big-here b t i x y h f) (a .bits) }
+      pub others-big : 2 ≤ v → OthersLeft b t from ts₀ bs₀ after (set bs at v) (other + 1) (at + 1) (i + 1)
+      others-big f = record { within = omega arith; tones = left-step w (other-here b t i x y h e) (a .tones); bits = left-step refl (big-here b t i x y h f) (a .bits) }
 
-      pub ahead-zero : v < 2 → Ahead b t from ts₀ bs₀ after bs (other + 1) at (i + 1)
-      ahead-zero f = record { within = omega arith; tones = left-step w (other-here b t i x y h e) (a .tones); bits = left-same (big-past b t i x y h f) (a .bits) }
+      pub others-zero : v < 2 → OthersLeft b t from ts₀ bs₀ after bs (other + 1) at (i + 1)
+      others-zero f = record { within = omega arith; tones = left-step w (other-here b t i x y h e) (a .tones); bits = left-same (big-past b t i x y h f) (a .bits) }
 
 -- the 1-bit tones
 pub record OnesLeft (b t : List ℕ) (behind : ℕ) (ts₀ ts : List ℕ) (one i : ℕ) : Type 0 where
@@ -101,15 +101,15 @@ pub record OnesLeft (b t : List ℕ) (behind : ℕ) (ts₀ ts : List ℕ) (one i
   pub tones : Left ts one (singles b (drop i t)) (behind + length (singles b t)) (sets ts₀ behind (singles b t))
 
 pub ones-start : {b t ts : List ℕ} {behind : ℕ} → OnesLeft b t behind ts ts behind 0
-ones-start = record { within = omega arith; tones = record { room = refl; gives = refl } }
+ones-start = record { within = omega arith; tones = record { fits = refl; gives = refl } }
 
 module _ {b t ts₀ ts : List ℕ} {behind one i : ℕ} (a : OnesLeft b t behind ts₀ ts one i) where
   pub ones-end : length t ≤ i → ts ≡ sets ts₀ behind (singles b t)
   ones-end h = let d : drop i t ≡ [] = drop-of-length-le t h in rw d at (a .tones .gives)
 
   module _ {k v : ℕ} (x : k ≡ entry t i) (y : v ≡ entry b k) (h : i < length t) where
-    pub one-room : v ≡ 1 → one < behind + length (singles b t)
-    one-room e = omega (arith, a .tones .room, ap length (single-here b t i x y h e))
+    pub one-fits : v ≡ 1 → one < behind + length (singles b t)
+    one-fits e = omega (arith, a .tones .fits, ap length (single-here b t i x y h e))
 
     pub one-more : {after : List ℕ} → v ≡ 1 → after ≡ set ts one k → OnesLeft b t behind ts₀ after (one + 1) (i + 1)
     one-more e w = record { within = omega arith; tones = left-step w (single-here b t i x y h e) (a .tones) }

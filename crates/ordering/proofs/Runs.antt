@@ -16,13 +16,13 @@ sets-done out n e q = sym (ap (sets out n) e) ∙ q
 
 -- a run still to be written: xs from place n on, as far as `end`, gives `goal`
 pub record Left (out : List ℕ) (n : ℕ) (xs : List ℕ) (end : ℕ) (goal : List ℕ) : Type 0 where
-  pub room : n + length xs ≡ end
+  pub fits : n + length xs ≡ end
   pub gives : sets out n xs ≡ goal
 
 -- a store more, and none
 module _ {out : List ℕ} {n end : ℕ} {xs ys goal : List ℕ} where
   pub left-step : {after : List ℕ} {x : ℕ} → after ≡ set out n x → xs ≡ x ∷ ys → Left out n xs end goal → Left after (n + 1) ys end goal
-  left-step {x = x} w e l = record { room = omega (arith, l .room, ap length e); gives = rw w (sets-step out n x e (l .gives)) }
+  left-step {x = x} w e l = record { fits = omega (arith, l .fits, ap length e); gives = rw w (sets-step out n x e (l .gives)) }
 
   pub left-same : xs ≡ ys → Left out n xs end goal → Left out n ys end goal
   left-same e l = rw e at l

@@ -10,7 +10,7 @@ use Rattle.g9932.specs.declared.Mode.{Mode}
 use Rattle.tables.specs.Checks.{Below}
 use Rattle.tables.specs.Modes.{sharing}
 
--- room for t' and b'
+-- t' and b' fit their buffers
 pub record OrderNeeds (t ts bs : List ℕ) : Type 0 where
   pub tonesFit : length t ≤ length ts
   pub bitsFit : length t ≤ length bs
@@ -27,7 +27,7 @@ pub record CodedNeeds (b t : List ℕ) (one zeros : ℕ) : Type 0 where
   pub zerosIs : zeros ≡ length t - entryCount b t
   pub below : Below (length b) t
 
--- what placing the tones but the 1-bit ones asks: there is room for all
+-- what placing the tones but the 1-bit ones asks: all fit
 pub record PlaceNeeds (b t : List ℕ) (from tonesLength bitsLength : ℕ) : Type 0 where
   pub tonesFit : length (others b t) ≤ tonesLength
   pub bitsFit : from + length (filter (leb 2) (bitsOf b t)) ≤ bitsLength
@@ -38,9 +38,9 @@ pub record Placing (b t : List ℕ) (from : ℕ) (ts bs tsAfter bsAfter : List �
   pub tones : tsAfter ≡ sets ts 0 (others b t)
   pub bits : bsAfter ≡ sets bs from (filter (leb 2) (bitsOf b t))
 
--- what writing t' and b' asks in either mode: what refusals 1 to 9 leave of the tables, and room
+-- what writing t' and b' asks in either mode: what refusals 1 to 9 leave of the tables, and that t' and b' fit
 pub record WriteNeeds (m : Mode) (entries sharers : ℕ) (b t ts bs : List ℕ) : Type 0 where
-  pub room : OrderNeeds t ts bs
+  pub fits : OrderNeeds t ts bs
   pub below : Below (length b) t
   pub entriesAre : entries ≡ loaded b t - sharing m b t / 2
   pub sharersAre : sharers ≡ sharing m b t

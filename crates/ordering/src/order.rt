@@ -24,9 +24,18 @@ fn put_tone(reordered_tones: &mut [u16], p: Place, k: Subcarrier)
     reordered_tones[at] = k.0 as u16;
 }
 
+// Writes the bits of the tone at a place: uncoded, b' lists them by place.
+fn put_bits(reordered_bits: &mut [u8], p: Place, b: u8)
+    requires { ⌜ p .0 < length (now «reordered_bits») ⌝ }
+    ensures { λ _. ⌜ now («reordered_bits» .exit) ≡ set (now («reordered_bits» .entry)) (p .0) b ⌝ }
+{
+    let at = p.0;
+    reordered_bits[at] = b;
+}
+
 // Uncoded: t' is t, and b' lists the bits in t order.
 fn write_uncoded(bits: &[u8], tones: &[u16], reordered_tones: &mut [u16], reordered_bits: &mut [u8])
-    requires room { ⌜ OrderNeeds (now tones) (now «reordered_tones») (now «reordered_bits») ⌝ }
+    requires fits { ⌜ OrderNeeds (now tones) (now «reordered_tones») (now «reordered_bits») ⌝ }
     requires below { ⌜ Below (length (now bits)) (now tones) ⌝ }
     ensures { λ _. ⌜ Written Uncoded (now (bits .entry)) (now (tones .entry)) (now («reordered_tones» .exit)) (now («reordered_bits» .exit)) ⌝ }
 {
@@ -34,7 +43,7 @@ fn write_uncoded(bits: &[u8], tones: &[u16], reordered_tones: &mut [u16], reorde
     while i < tones.len() {
         let k = tone_at(tones, Place(i));
         put_tone(reordered_tones, Place(i), k);
-        reordered_bits[i] = bits_of(bits, k);
+        put_bits(reordered_bits, Place(i), bits_of(bits, k));
         i += 1;
     }
 }
@@ -84,12 +93,12 @@ fn place_others(
     }
 }
 
-// Coded: writes the 1-bit tones in t' from `behind` on, in t order.
-fn place_ones(bits: &[u8], tones: &[u16], behind: usize, reordered_tones: &mut [u16])
-    requires { ⌜ behind + length (singles (now bits) (now tones)) ≤ length (now «reordered_tones») ⌝ }
-    ensures { λ _. ⌜ now («reordered_tones» .exit) ≡ sets (now («reordered_tones» .entry)) behind (singles (now (bits .entry)) (now (tones .entry))) ⌝ }
+// Coded: writes the 1-bit tones in t' from place `behind` on, in t order.
+fn place_ones(bits: &[u8], tones: &[u16], behind: Place, reordered_tones: &mut [u16])
+    requires { ⌜ behind .0 + length (singles (now bits) (now tones)) ≤ length (now «reordered_tones») ⌝ }
+    ensures { λ _. ⌜ now («reordered_tones» .exit) ≡ sets (now («reordered_tones» .entry)) (behind .0) (singles (now (bits .entry)) (now (tones .entry))) ⌝ }
 {
-    let mut one = behind;
+    let mut one = behind.0;
     let mut i = 0;
     while i < tones.len() {
         let tone = tone_at(tones, Place(i));
@@ -112,13 +121,14 @@ fn write_coded(
     reordered_bits: &mut [u8],
 )
     requires ready { ⌜ CodedNeeds (now bits) (now tones) ones zeros ⌝ }
-    requires room { ⌜ OrderNeeds (now tones) (now «reordered_tones») (now «reordered_bits») ⌝ }
+    requires fits { ⌜ OrderNeeds (now tones) (now «reordered_tones») (now «reordered_bits») ⌝ }
     ensures { λ _. ⌜ Written Coded (now (bits .entry)) (now (tones .entry)) (now («reordered_tones» .exit)) (now («reordered_bits» .exit)) ⌝ }
 {
     let half = ones / 2;
     fill(reordered_bits, 0, zeros, 0);
     place_others(bits, tones, zeros, reordered_tones, reordered_bits);
-    place_ones(bits, tones, tones.len() - ones, reordered_tones);
+    let behind = Place(tones.len() - ones);
+    place_ones(bits, tones, behind, reordered_tones);
     fill(reordered_bits, tones.len() - half, half, 2);
 }
 

@@ -10,6 +10,7 @@ use lib.ListN.{length, take, drop, replicate, length-append, length-drop, length
 use lib.Seq.{length-take-le, take-at, drop-at, getD-take, getD-drop, getD-append-add}
 use Rattle.frame.proofs.Labels.{length-at}
 use Rattle.frame.specs.Labels.{bitsOfLabels, Within, labelsAt, Placed}
+use Rattle.g9932.proofs.Counts.{map-replicate}
 use Rattle.g9932.specs.Order.{consIf, filter}
 use Rattle.g9932.specs.Sizes.{entry}
 use Rattle.g9932.specs.Symbol.{load}
@@ -83,7 +84,7 @@ module _ {cs : List Class} {from : ℕ} {es ps ms layouts : List ℕ} (p : PlanO
   bs = map load (p .own)
 
   abbrev h : ℕ
-  h = p .shared
+  h = p .sharedCount
 
   own-count : length bs ≡ from
   own-count = length-map (p .own) load ∙ sym (p .fromIs)
@@ -93,12 +94,8 @@ module _ {cs : List Class} {from : ℕ} {es ps ms layouts : List ℕ} (p : PlanO
       let e = ap length (p .classes) in
       omega (arith, e, p .fromIs, length-append (p .own) (replicate (2 * h) (Data 1)), length-replicate (2 * h) (Data 1))
 
-  ones-are : (n : ℕ) → map load (replicate n (Data 1)) ≡ replicate n 1
-  ones-are zero = refl
-  ones-are (suc n) = ap (λ (l : List ℕ). 1 ∷ l) (ones-are n)
-
   pub loads-are : map load cs ≡ bs ++ replicate (2 * h) 1
-  loads-are = ap (map load) (p .classes) ∙ map-append load (p .own) (replicate (2 * h) (Data 1)) ∙ ap (λ (l : List ℕ). bs ++ l) (ones-are (2 * h))
+  loads-are = ap (map load) (p .classes) ∙ map-append load (p .own) (replicate (2 * h) (Data 1)) ∙ ap (λ (l : List ℕ). bs ++ l) (map-replicate load (2 * h) (Data 1))
 
   ones-at : (n k : ℕ) → k < n → entry (replicate n 1) k ≡ 1
   ones-at zero k l = absurd (omega arith)
@@ -233,18 +230,18 @@ module _ {cs : List Class} {from : ℕ} {es ps ms layouts : List ℕ} (p : PlanO
       by-place p (joined p ls n) (joined-count p ls n)
       ∙ ap (bitsOfLabels (map load cs))
       (ap₂ (λ (a b : List ℕ). a ++ splitOnes b) (take-joined p ls n small) (drop-joined p ls n small)
-      ∙ ap (λ (l : List ℕ). take from ls ++ l) (split-joined (p .shared) (drop from ls) (behind-count p ls n) (ones-small p ls n small))
+      ∙ ap (λ (l : List ℕ). take from ls ++ l) (split-joined (p .sharedCount) (drop from ls) (behind-count p ls n) (ones-small p ls n small))
       ∙ take-append-drop from ls)
 
   pub joined-within : Within es (labelsAt ps (joined p ls n)) (length es)
   joined-within =
       let j : List ℕ = joined p ls n in
       let a = within-own (p .least) (map load (p .own)) j 0 (own-small p ls n small) in
-      let b = within-shared (p .shared) from j four in
+      let b = within-shared (p .sharedCount) from j four in
       rw (p .entriesAre, parts p j (joined-count p ls n))
-      (within-append (filter (leb (p .least)) (map load (p .own))) (replicate (p .shared) 2) (firsts p j (joined-count p ls n)) (lasts p j (joined-count p ls n)) (firsts-count p j (joined-count p ls n)) a b)
+      (within-append (filter (leb (p .least)) (map load (p .own))) (replicate (p .sharedCount) 2) (firsts p j (joined-count p ls n)) (lasts p j (joined-count p ls n)) (firsts-count p j (joined-count p ls n)) a b)
     where
-      four : (i : ℕ) → i < p .shared → entry (joined p ls n) (from + 2 * i) < 4
+      four : (i : ℕ) → i < p .sharedCount → entry (joined p ls n) (from + 2 * i) < 4
       four i l =
           let e : from + 2 * i ≡ length (take from ls) + 2 * i = omega (arith, front-count p ls n) in
           rw (e, getD-append-add (take from ls) (joinOnes (drop from ls)) (2 * i) 0) (join-four (drop from ls) i (ones-small p ls n small) (omega (arith, behind-count p ls n)))

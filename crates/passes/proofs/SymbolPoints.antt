@@ -25,7 +25,7 @@ use Rattle.g9932.specs.declared.Class.the-variants.{Data, Monitored, Silent}
 use Rattle.g9932.specs.declared.Found.{Found}
 use Rattle.g9932.specs.declared.Found.the-variants.{At, Nothing}
 use Rattle.mapper.specs.Reading.{pointAt, LabelIs, OffAt}
-use Rattle.plan.specs.Plan.{Carries}
+use Rattle.plan.specs.Plan.{ClassBits}
 use Rattle.passes.proofs.FillerPlaces.{filled}
 use Rattle.passes.proofs.OneTone.{label-read, filler-read}
 
@@ -50,13 +50,13 @@ write-at (c ∷ cs) r (l ∷ ls) n (suc k) h =
     rw (drop-at (bits (load c) l) (bitsOfLabels (map load cs) ls) (load c) (length-bits (load c) l)) (write-at cs (afterDraws (draws c) r) ls (omega arith) k (omega arith))
 
 -- a label that a tone's layout can map
-pub mappable : (c : Class) (r l : ℕ) → Carries c → (1 ≤ load c → l < 2 ^ load c) → Mappable (classLayout c) (filled c r l)
+pub mappable : (c : Class) (r l : ℕ) → ClassBits c → (1 ≤ load c → l < 2 ^ load c) → Mappable (classLayout c) (filled c r l)
 mappable (Data n) r l h s = label n (h .0) (h .1) refl (s (h .0))
 mappable Monitored r l h s = label 2 (omega arith) (omega arith) refl (num-lt (drawn 2 r))
 mappable Silent r l h s = silent refl
 
 -- and its point
-pub mapped : (c : Class) (r l : ℕ) (p : Point) → Carries c → (1 ≤ load c → l < 2 ^ load c) → MapsTo (classLayout c) (filled c r l) p → p ≡ tonePoint r c (bits (load c) l)
+pub mapped : (c : Class) (r l : ℕ) (p : Point) → ClassBits c → (1 ≤ load c → l < 2 ^ load c) → MapsTo (classLayout c) (filled c r l) p → p ≡ tonePoint r c (bits (load c) l)
 mapped (Data n) r l p h s m = m .tone n (h .0) (h .1) refl (s (h .0)) ∙ ap (pointOf n) (sym (own-bits n l))
 mapped Monitored r l p h s m = m .tone 2 (omega arith) (omega arith) refl (num-lt (drawn 2 r)) ∙ ap (pointOf 2) (bits-num (drawn 2 r))
 mapped Silent r l p h s m = m .silent refl
@@ -67,13 +67,13 @@ sought-on : (n : ℕ) (p : Point) (l : ℕ) → 1 ≤ n → n ≤ 15 → LabelIs
 sought-on n p l h k d = d .sought n h k refl
 
 -- the label of a point in a tone's constellation has the tone's bits
-pub carried : (c : Class) (p : Point) (l : ℕ) → Carries c → LabelIs (classLayout c) p l → bits (load c) l ≡ toneBits c p
+pub carried : (c : Class) (p : Point) (l : ℕ) → ClassBits c → LabelIs (classLayout c) p l → bits (load c) l ≡ toneBits c p
 unfolding bits
 carried (Data n) p l h d = let is = sought-on n p l (h .0) (h .1) d in label-read n p (record { found = true; label = l }) is (sym (is .found)) .0
 carried Monitored p l h d = refl
 carried Silent p l h d = refl
 
-pub label-small : (c : Class) (p : Point) (l : ℕ) → Carries c → LabelIs (classLayout c) p l → 1 ≤ load c → l < 2 ^ load c
+pub label-small : (c : Class) (p : Point) (l : ℕ) → ClassBits c → LabelIs (classLayout c) p l → 1 ≤ load c → l < 2 ^ load c
 label-small (Data n) p l h d m = let is = sought-on n p l (h .0) (h .1) d in label-read n p (record { found = true; label = l }) is (sym (is .found)) .1
 label-small Monitored p l h d m = absurd (omega arith)
 label-small Silent p l h d m = absurd (omega arith)
@@ -84,12 +84,12 @@ tells-filler p l d s =
     filler-read s (num (drawn 2 s)) p (record { found = true; label = l }) is refl
 
 -- a point is in a tone's constellation exactly where it has a label by the tone's layout
-on-by : (c : Class) (p : Point) (o : Bool) (l : ℕ) → Carries c → Demaps (classLayout c) p (record { on = o; label = l }) → o ≡ inConstellation c p
+on-by : (c : Class) (p : Point) (o : Bool) (l : ℕ) → ClassBits c → Demaps (classLayout c) p (record { on = o; label = l }) → o ≡ inConstellation c p
 on-by (Data n) p o l h d = d .sought n (h .0) (h .1) refl .found
 on-by Monitored p o l h d = d .sought 2 (omega arith) (omega arith) refl .found
 on-by Silent p o l h d = d .silent refl
 
-pub tone-layout : (c : Class) → Carries c → ToneLayout (classLayout c)
+pub tone-layout : (c : Class) → ClassBits c → ToneLayout (classLayout c)
 tone-layout (Data n) h = carries n (h .0) (h .1) refl
 tone-layout Monitored h = carries 2 (omega arith) (omega arith) refl
 tone-layout Silent h = nothing refl
@@ -114,7 +114,7 @@ load-at [] k h = absurd (omega arith)
 load-at (c ∷ cs) zero h = refl
 load-at (c ∷ cs) (suc k) h = load-at cs k (omega arith)
 
-module _ (cs : List Class) (all : (k : ℕ) → k < length cs → Carries (getD cs k Silent)) (xs ys : List ℤ) (nx : length xs ≡ length cs) (ny : length ys ≡ length xs) where
+module _ (cs : List Class) (all : (k : ℕ) → k < length cs → ClassBits (getD cs k Silent)) (xs ys : List ℤ) (nx : length xs ≡ length cs) (ny : length ys ≡ length xs) where
   abbrev q : List Point
   q = points xs ys
 

@@ -109,7 +109,7 @@ pub record ReadSymbolSupposes (T : Tables) (m : Mode) (from size : ℕ) (es ps m
 -- the same, of arrays that begin with the lists of the plan
 abbrev pub ReadSymbolBy : Tables → Mode → PlanSizes → ℕ → List ℕ → List ℕ → List ℕ → List ℕ → List ℤ → List ℤ → List ℕ → List ℕ → List ℕ → Type 0
 ReadSymbolBy T m p n layouts entries places monitored xs ys labels held f =
-    ReadSymbolSupposes T m (p .shared) (p .size) (take (p .entries) entries) (take (p .entries) places) (take (p .monitored) monitored) (take n layouts) xs ys (take n labels) held f
+    ReadSymbolSupposes T m (p .«shared_from» .0) (p .size) (take (p .«entry_count») entries) (take (p .«entry_count») places) (take (p .«monitored_count») monitored) (take n layouts) xs ys (take n labels) held f
 
 pub record ReadSymbolNeeds (m : Mode) (p : PlanSizes) (n : ℕ) (layouts entries places monitored : List ℕ) (xs ys : List ℤ) (labels held f : List ℕ) : Type 0 where
   pub fits : PlanFits p n layouts entries places monitored labels

@@ -75,7 +75,7 @@ pub record WriteSymbolSupposes (T : Tables) (m : Mode) (from : ℕ) (f es ps ms 
 -- the same, of arrays that begin with the lists of the plan
 abbrev pub WriteSymbolBy : Tables → Mode → PlanSizes → ℕ → List ℕ → List ℕ → List ℕ → List ℕ → List ℕ → List ℕ → List ℤ → List ℤ → Type 0
 WriteSymbolBy T m p n f layouts entries places monitored labels xs ys =
-    WriteSymbolSupposes T m (p .shared) f (take (p .entries) entries) (take (p .entries) places) (take (p .monitored) monitored) (take n layouts) (take n labels) xs ys
+    WriteSymbolSupposes T m (p .«shared_from» .0) f (take (p .«entry_count») entries) (take (p .«entry_count») places) (take (p .«monitored_count») monitored) (take n layouts) (take n labels) xs ys
 
 pub record WriteSymbolNeeds (m : Mode) (p : PlanSizes) (n : ℕ) (f layouts entries places monitored labels : List ℕ) (xs ys : List ℤ) : Type 0 where
   pub fits : PlanFits p n layouts entries places monitored labels

@@ -39,20 +39,20 @@ fn read_places(
     PlacesRead::Done(f.register)
 }
 
-// The frame of labels by place, at the start of a buffer, or else the first pair that breaks the code. From place `shared` on two
+// The frame of labels by place, at the start of a buffer, or else the first pair that breaks the code. From place `shared_from` on two
 // tones share a label.
 fn read_frame(
     mode: Mode,
-    shared: usize,
+    shared_from: Place,
     entries: &[u8],
     places: &[u16],
     labels: &mut [u16],
     held: &mut [u8],
 ) -> Found
-    requires { ⌜ ReadFrameNeeds mode shared (now entries) (now places) (now labels) (now held) ⌝ }
-    ensures { λ r. ⌜ ReadsAnyFrame mode shared (now (entries .entry)) (now (places .entry)) (now (labels .entry)) (now (held .entry)) r (now (held .exit)) ⌝ }
+    requires { ⌜ ReadFrameNeeds mode («shared_from» .0) (now entries) (now places) (now labels) (now held) ⌝ }
+    ensures { λ r. ⌜ ReadsAnyFrame mode («shared_from» .0) (now (entries .entry)) (now (places .entry)) (now (labels .entry)) (now (held .entry)) r (now (held .exit)) ⌝ }
 {
-    mapper::read::join_shared(labels, shared);
+    mapper::read::join_shared(labels, shared_from);
     match mode {
         Mode::Uncoded => {
             let w = mapper::read::collect_labels(BitWriter::new(), entries, places, labels, held);
@@ -93,8 +93,8 @@ pub fn read_symbol(
     ensures { λ r. ⌜ ReadsAnySymbol mode p n (now (layouts .entry)) (now (entries .entry)) (now (places .entry)) (now (monitored .entry))
         (now (xs .entry)) (now (ys .entry)) (now (labels .entry)) (now (held .entry)) (now (frame .entry)) register r (now (frame .exit)) ⌝ }
 {
-    let e = p.entries;
-    let m = p.monitored;
+    let e = p.entry_count;
+    let m = p.monitored_count;
     let t = read_places(
         &monitored[..m],
         &layouts[..n],
@@ -110,7 +110,7 @@ pub fn read_symbol(
         PlacesRead::Done(after) => {
             let broken = read_frame(
                 mode,
-                p.shared,
+                p.shared_from,
                 &entries[..e],
                 &places[..e],
                 &mut labels[..n],

@@ -1,6 +1,7 @@
 // Writing a symbol.
 ghost use Rattle.passes.specs.WriteSymbol.{LabelFrameNeeds, sentFor, EntryLabels, WritePointsNeeds, WritesAnyPoints, WriteSymbolNeeds, WritesAnySymbol};
 use g9932::Mode;
+use g9932::Place;
 use plan::PlanSizes;
 
 // The labels of a frame whose bits begin at bit `start`, each at its entry's place: coded, the trellis makes them.
@@ -21,9 +22,9 @@ fn label_frame(
     }
 }
 
-// The points of labels at their entries' places, and the register after the draws. From place `shared` on two tones share a label.
+// The points of labels at their entries' places, and the register after the draws. From place `shared_from` on two tones share a label.
 fn write_points(
-    shared: usize,
+    shared_from: Place,
     monitored: &[u16],
     layouts: &[u16],
     register: u32,
@@ -31,10 +32,10 @@ fn write_points(
     xs: &mut [i16],
     ys: &mut [i16],
 ) -> u32
-    requires { ⌜ WritePointsNeeds shared (now monitored) (now layouts) (now labels) (now xs) (now ys) ⌝ }
-    ensures { λ r. ⌜ WritesAnyPoints shared (now (monitored .entry)) (now (layouts .entry)) (now (labels .entry)) (now (xs .entry)) (now (ys .entry)) register r (now (xs .exit)) (now (ys .exit)) ⌝ }
+    requires { ⌜ WritePointsNeeds («shared_from» .0) (now monitored) (now layouts) (now labels) (now xs) (now ys) ⌝ }
+    ensures { λ r. ⌜ WritesAnyPoints («shared_from» .0) (now (monitored .entry)) (now (layouts .entry)) (now (labels .entry)) (now (xs .entry)) (now (ys .entry)) register r (now (xs .exit)) (now (ys .exit)) ⌝ }
 {
-    mapper::write::split_shared(labels, shared);
+    mapper::write::split_shared(labels, shared_from);
     let after = mapper::write::set_filler(monitored, register, labels);
     mapper::write::put_points(layouts, labels, xs, ys);
     after
@@ -60,8 +61,8 @@ pub fn write_symbol(
     ensures { λ r. ⌜ WritesAnySymbol mode p n (now (frame .entry)) (now (layouts .entry)) (now (entries .entry)) (now (places .entry)) (now (monitored .entry))
         (now (labels .entry)) (now (xs .entry)) (now (ys .entry)) register r (now (xs .exit)) (now (ys .exit)) ⌝ }
 {
-    let e = p.entries;
-    let m = p.monitored;
+    let e = p.entry_count;
+    let m = p.monitored_count;
     label_frame(
         mode,
         frame,
@@ -71,7 +72,7 @@ pub fn write_symbol(
         &mut labels[..n],
     );
     write_points(
-        p.shared,
+        p.shared_from,
         &monitored[..m],
         &layouts[..n],
         register,

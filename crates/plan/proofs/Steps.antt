@@ -1,12 +1,12 @@
 -- Filing tone by tone: what a tone adds to the lists, and what a shared entry adds.
-use mathlib.Core.Bool.{Bool, true, false, cond}
+use mathlib.Core.Bool.{Bool, true, false}
 use mathlib.Core.List.{List, [], _∷_, _++_, map, map-append, append-nil, append-assoc}
 use mathlib.Core.Path.{_≡_, refl, sym, ap, _∙_}
 use Prim.Native.Nat.{ℕ, zero, suc, _+_, _*_, _≤_, _<_}
 use lib.Dec.{ltb, leb}
 use lib.ListN.{length, take, set, replicate, length-set, length-append, length-map}
 use lib.Seq.{take-suc, take-suc-set}
-use borrow.Author.Tests.{ltb-true, ltb-false}
+use borrow.Author.Tests.{ltb-true}
 use native.Mathlib.Numerals.{add-one}
 use native.Mathlib.Omega.{arith}
 use Rattle.constellation.specs.Layouts.{classLayout}
@@ -15,28 +15,20 @@ use Rattle.g9932.proofs.Words.{weight-le}
 use Rattle.g9932.specs.Bits.{weight}
 use Rattle.g9932.specs.Order.{consIf, filter}
 use Rattle.g9932.specs.Sizes.{entry, toneOf, classBy}
-use Rattle.g9932.specs.Symbol.{load, isMonitored}
+use Rattle.g9932.specs.Symbol.{load, isMonitored, classAt, classesBy}
 use Rattle.g9932.specs.declared.Class.the-variants.{Data, Monitored, Silent}
 use Rattle.g9932.specs.declared.Class.{Class}
-use Rattle.plan.specs.Plan.{Carries, classesBy, isPlaced, only, placesWhere, everySecond, FilesTone, Filing, Shares}
+use Rattle.plan.specs.Plan.{ClassBits, isPlaced, placesWhere, everySecond, FilesTone, Filing, Shares}
 use Rattle.plan.specs.declared.filing.Cursors.{Cursors}
 
 -- the class of a tone, by its bits
-pub carried : (b g : ℕ) → b ≤ 15 → Carries (toneOf b g .class)
-carried b g h = go (ltb 0 b) (ltb 0 g) refl
+pub class-bits : (b g : ℕ) → b ≤ 15 → ClassBits (toneOf b g .class)
+class-bits b g h = go (ltb 0 b) (ltb 0 g) refl
   where
-    go : (p q : Bool) → ltb 0 b ≡ p → Carries (classBy p (Data b) (classBy q Monitored Silent))
+    go : (p q : Bool) → ltb 0 b ≡ p → ClassBits (classBy p (Data b) (classBy q Monitored Silent))
     go true q e = (ltb-true 0 b e, h)
     go false true e = tt
     go false false e = tt
-
-pub load-class : (b g : ℕ) → load (toneOf b g .class) ≡ b
-load-class b g = go (ltb 0 b) (ltb 0 g) refl
-  where
-    go : (p q : Bool) → ltb 0 b ≡ p → load (classBy p (Data b) (classBy q Monitored Silent)) ≡ b
-    go true q e = refl
-    go false true e = omega (arith, ltb-false 0 b e)
-    go false false e = omega (arith, ltb-false 0 b e)
 
 -- ---- lists in two parts
 
@@ -50,37 +42,29 @@ places-append p i (a ∷ l) m =
     let e : suc i + length l ≡ i + suc (length l) = omega arith in
     cons-append (p a) i (placesWhere p (suc i) (l ++ m)) (placesWhere p (suc i) l) (placesWhere p (suc i + length l) m) (places-append p (suc i) l m) ∙ rw e
 
-pub only-append : {A : Type 0} (p : A → Bool) (l m : List A) → only p (l ++ m) ≡ only p l ++ only p m
-only-append p [] m = refl
-only-append p (a ∷ l) m = go (p a) (only-append p l m)
-  where
-    go : (b : Bool) → only p (l ++ m) ≡ only p l ++ only p m → cond b (a ∷ only p (l ++ m)) (only p (l ++ m)) ≡ cond b (a ∷ only p l) (only p l) ++ only p m
-    go true e = ap (λ z. a ∷ z) e
-    go false e = e
-
 -- ---- a list that is filled up to a cursor
 
-pub more : (l : List ℕ) (e x : ℕ) → e < length l → take (e + 1) (set l e x) ≡ take e l ++ (x ∷ [])
+more : (l : List ℕ) (e x : ℕ) → e < length l → take (e + 1) (set l e x) ≡ take e l ++ (x ∷ [])
 more l e x h = rw add-one (take-suc-set l e x h)
 
-pub no-more : (l : List ℕ) (e : ℕ) → take e l ≡ take e l ++ []
+no-more : (l : List ℕ) (e : ℕ) → take e l ≡ take e l ++ []
 no-more l e = sym (append-nil (take e l))
 
 -- ---- what one tone adds
 
 module _ (least : ℕ) (at : Cursors) (layouts entries places monitored : List ℕ) where
-  pub files-data : (b x : ℕ) → leb least b ≡ true → x ≡ classLayout (Data b) → at .place < length layouts → at .entry < length entries → at .entry < length places
-      → FilesTone least (Data b) at layouts entries places monitored (record { place = at .place + 1; entry = at .entry + 1; monitored = at .monitored })
-      (set layouts (at .place) x) (set entries (at .entry) b) (set places (at .entry) (at .place)) monitored
+  pub files-data : (b x : ℕ) → leb least b ≡ true → x ≡ classLayout (Data b) → at .place .0 < length layouts → at .entry < length entries → at .entry < length places
+      → FilesTone least (Data b) at layouts entries places monitored (record { place = record { 0 = at .place .0 + 1 }; entry = at .entry + 1; monitored = at .monitored })
+      (set layouts (at .place .0) x) (set entries (at .entry) b) (set places (at .entry) (at .place .0)) monitored
   unfolding weight
   files-data b x own is lt et pt =
       record {
         placeIs = rw own;
         entryIs = rw own;
         monitoredIs = omega arith;
-        layoutsAre = rw (own, is) (more layouts (at .place) (classLayout (Data b)) lt);
+        layoutsAre = rw (own, is) (more layouts (at .place .0) (classLayout (Data b)) lt);
         entriesAre = rw own (more entries (at .entry) b et);
-        placesAre = rw own (more places (at .entry) (at .place) pt);
+        placesAre = rw own (more places (at .entry) (at .place .0) pt);
         monitoredAre = no-more monitored (at .monitored);
       }
 
@@ -92,36 +76,36 @@ module _ (least : ℕ) (at : Cursors) (layouts entries places monitored : List �
         placeIs = rw not (omega arith);
         entryIs = rw not (omega arith);
         monitoredIs = omega arith;
-        layoutsAre = rw not (no-more layouts (at .place));
+        layoutsAre = rw not (no-more layouts (at .place .0));
         entriesAre = rw not (no-more entries (at .entry));
         placesAre = rw not (no-more places (at .entry));
         monitoredAre = no-more monitored (at .monitored);
       }
 
-  pub files-monitored : (x : ℕ) → leb least 0 ≡ false → x ≡ classLayout Monitored → at .place < length layouts → at .monitored < length monitored
-      → FilesTone least Monitored at layouts entries places monitored (record { place = at .place + 1; entry = at .entry; monitored = at .monitored + 1 })
-      (set layouts (at .place) x) entries places (set monitored (at .monitored) (at .place))
+  pub files-monitored : (x : ℕ) → leb least 0 ≡ false → x ≡ classLayout Monitored → at .place .0 < length layouts → at .monitored < length monitored
+      → FilesTone least Monitored at layouts entries places monitored (record { place = record { 0 = at .place .0 + 1 }; entry = at .entry; monitored = at .monitored + 1 })
+      (set layouts (at .place .0) x) entries places (set monitored (at .monitored) (at .place .0))
   unfolding weight
   files-monitored x not is lt mt =
       record {
         placeIs = refl;
         entryIs = rw not (omega arith);
         monitoredIs = refl;
-        layoutsAre = rw is (more layouts (at .place) (classLayout Monitored) lt);
+        layoutsAre = rw is (more layouts (at .place .0) (classLayout Monitored) lt);
         entriesAre = rw not (no-more entries (at .entry));
         placesAre = rw not (no-more places (at .entry));
-        monitoredAre = more monitored (at .monitored) (at .place) mt;
+        monitoredAre = more monitored (at .monitored) (at .place .0) mt;
       }
 
-  pub files-silent : (x : ℕ) → leb least 0 ≡ false → x ≡ classLayout Silent → at .place < length layouts
-      → FilesTone least Silent at layouts entries places monitored (record { place = at .place + 1; entry = at .entry; monitored = at .monitored }) (set layouts (at .place) x) entries places monitored
+  pub files-silent : (x : ℕ) → leb least 0 ≡ false → x ≡ classLayout Silent → at .place .0 < length layouts
+      → FilesTone least Silent at layouts entries places monitored (record { place = record { 0 = at .place .0 + 1 }; entry = at .entry; monitored = at .monitored }) (set layouts (at .place .0) x) entries places monitored
   unfolding weight
   files-silent x not is lt =
       record {
         placeIs = refl;
         entryIs = rw not (omega arith);
         monitoredIs = omega arith;
-        layoutsAre = rw is (more layouts (at .place) (classLayout Silent) lt);
+        layoutsAre = rw is (more layouts (at .place .0) (classLayout Silent) lt);
         entriesAre = rw not (no-more entries (at .entry));
         placesAre = rw not (no-more places (at .entry));
         monitoredAre = no-more monitored (at .monitored);
@@ -136,9 +120,9 @@ module _ (least : ℕ) (cs : List Class) {at r : Cursors} {layouts entries place
   placed : isPlaced least c ≡ true → Filing least (cs ++ (c ∷ [])) r layoutsAfter entriesAfter placesAfter monitoredAfter
   unfolding weight
   placed here =
-      let one : r .place ≡ at .place + 1 = w .placeIs ∙ ap (λ (b : Bool). at .place + weight b) here in
-      let n : 0 + length (map load cs) ≡ at .place = omega (arith, length-map cs load, f .placeIs) in
-      let m : 0 + length cs ≡ at .place = omega (arith, f .placeIs) in
+      let one : r .place .0 ≡ at .place .0 + 1 = w .placeIs ∙ ap (λ (b : Bool). at .place .0 + weight b) here in
+      let n : 0 + length (map load cs) ≡ at .place .0 = omega (arith, length-map cs load, f .placeIs) in
+      let m : 0 + length cs ≡ at .place .0 = omega (arith, f .placeIs) in
       let z : map load (cs ++ (c ∷ [])) ≡ map load cs ++ (load c ∷ []) = map-append load cs (c ∷ []) in
       record {
         placeIs = sym (length-append cs (c ∷ []) ∙ omega (arith, f .placeIs));
@@ -149,11 +133,11 @@ module _ (least : ℕ) (cs : List Class) {at r : Cursors} {layouts entries place
             ∙ sym (ap (filter (leb least)) z ∙ filter-append (leb least) (map load cs) (load c ∷ []));
         placesAre =
             w .placesAre
-            ∙ ap (λ (l : List ℕ). l ++ consIf (leb least (load c)) (at .place) []) (f .placesAre)
+            ∙ ap (λ (l : List ℕ). l ++ consIf (leb least (load c)) (at .place .0) []) (f .placesAre)
             ∙ sym (ap (placesWhere (leb least) 0) z ∙ places-append (leb least) 0 (map load cs) (load c ∷ []) ∙ rw n);
         monitoredAre =
             w .monitoredAre
-            ∙ ap (λ (l : List ℕ). l ++ consIf (isMonitored c) (at .place) []) (f .monitoredAre)
+            ∙ ap (λ (l : List ℕ). l ++ consIf (isMonitored c) (at .place .0) []) (f .monitoredAre)
             ∙ sym (places-append isMonitored 0 cs (c ∷ []) ∙ rw m);
         entryMost = omega (arith, f .entryMost, w .entryIs, weight-le (leb least (load c)));
         monitoredMost = omega (arith, f .monitoredMost, w .monitoredIs, weight-le (isMonitored c));
@@ -169,12 +153,12 @@ module _ (least : ℕ) (cs : List Class) {at r : Cursors} {layouts entries place
   unfolding weight
   skipped not =
       let q = passed c not in
-      let a : r .place ≡ at .place + 0 = w .placeIs ∙ ap (λ (b : Bool). at .place + weight b) not in
+      let a : r .place .0 ≡ at .place .0 + 0 = w .placeIs ∙ ap (λ (b : Bool). at .place .0 + weight b) not in
       let b : r .entry ≡ at .entry + 0 = w .entryIs ∙ ap (λ (b : Bool). at .entry + weight b) (q .0) in
       let d : r .monitored ≡ at .monitored + 0 = w .monitoredIs ∙ ap (λ (b : Bool). at .monitored + weight b) (q .1) in
       record {
         placeIs = omega (arith, f .placeIs);
-        layoutsAre = w .layoutsAre ∙ rw not (append-nil (take (at .place) layouts)) ∙ f .layoutsAre;
+        layoutsAre = w .layoutsAre ∙ rw not (append-nil (take (at .place .0) layouts)) ∙ f .layoutsAre;
         entriesAre = w .entriesAre ∙ rw (q .0) (append-nil (take (at .entry) entries)) ∙ f .entriesAre;
         placesAre = w .placesAre ∙ rw (q .0) (append-nil (take (at .entry) places)) ∙ f .placesAre;
         monitoredAre = w .monitoredAre ∙ rw (q .1) (append-nil (take (at .monitored) monitored)) ∙ f .monitoredAre;
@@ -182,27 +166,27 @@ module _ (least : ℕ) (cs : List Class) {at r : Cursors} {layouts entries place
         monitoredMost = omega (arith, f .monitoredMost);
       }
 
-  pub tone-more : Filing least (cs ++ only (isPlaced least) (c ∷ [])) r layoutsAfter entriesAfter placesAfter monitoredAfter
+  pub tone-more : Filing least (cs ++ filter (isPlaced least) (c ∷ [])) r layoutsAfter entriesAfter placesAfter monitoredAfter
   tone-more = go (isPlaced least c) refl
     where
-      go : (b : Bool) → isPlaced least c ≡ b → Filing least (cs ++ cond b (c ∷ []) []) r layoutsAfter entriesAfter placesAfter monitoredAfter
+      go : (b : Bool) → isPlaced least c ≡ b → Filing least (cs ++ consIf b c []) r layoutsAfter entriesAfter placesAfter monitoredAfter
       go true e = placed e
       go false e = rw (append-nil cs) (skipped e)
 
   -- each tone adds at most one place
-  pub one-place : r .place ≤ at .place + 1
+  pub one-place : r .place .0 ≤ at .place .0 + 1
   one-place = omega (arith, w .placeIs, weight-le (isPlaced least c))
 
 -- the tones before place i of t, and the one there
 pub classes-more : (least : ℕ) (b g t : List ℕ) (i : ℕ) → i < length t
-    → only (isPlaced least) (classesBy b g (take (i + 1) t))
-    ≡ only (isPlaced least) (classesBy b g (take i t)) ++ only (isPlaced least) (toneOf (entry b (entry t i)) (entry g (entry t i)) .class ∷ [])
+    → filter (isPlaced least) (classesBy b g (take (i + 1) t))
+    ≡ filter (isPlaced least) (classesBy b g (take i t)) ++ filter (isPlaced least) (classAt b g (entry t i) ∷ [])
 classes-more least b g t i h =
     let k : List ℕ = entry t i ∷ [] in
-    ap (λ (n : ℕ). only (isPlaced least) (classesBy b g (take n t))) (add-one i)
-    ∙ ap (λ (l : List ℕ). only (isPlaced least) (classesBy b g l)) (take-suc t i 0 h)
-    ∙ ap (only (isPlaced least)) (map-append (λ (j : ℕ). toneOf (entry b j) (entry g j) .class) (take i t) k)
-    ∙ only-append (isPlaced least) (classesBy b g (take i t)) (classesBy b g k)
+    ap (λ (n : ℕ). filter (isPlaced least) (classesBy b g (take n t))) (add-one i)
+    ∙ ap (λ (l : List ℕ). filter (isPlaced least) (classesBy b g l)) (take-suc t i 0 h)
+    ∙ ap (filter (isPlaced least)) (map-append (classAt b g) (take i t) k)
+    ∙ filter-append (isPlaced least) (classesBy b g (take i t)) (classesBy b g k)
 
 -- ---- a shared entry more
 

@@ -10,20 +10,20 @@ use Rattle.g9932.specs.Sizes.{entry}
 use Rattle.g9932.specs.Symbol.{load, isMonitored}
 use Rattle.g9932.specs.declared.Class.{Class}
 use Rattle.g9932.specs.declared.Class.the-variants.{Data, Silent}
-use Rattle.plan.specs.Plan.{Carries, placesWhere, everySecond}
+use Rattle.plan.specs.Plan.{ClassBits, placesWhere, everySecond}
 
 -- The tones before place `from` have entries of their own, from `least` bits on, and none of them has fewer but 0; from there on two by
 -- two share one.
 pub record PlanOf (cs : List Class) (from : ℕ) (es ps ms layouts : List ℕ) : Type 0 where
   pub own : List Class
-  pub shared : ℕ
+  pub sharedCount : ℕ
   pub least : ℕ
-  pub classes : cs ≡ own ++ replicate (2 * shared) (Data 1)
+  pub classes : cs ≡ own ++ replicate (2 * sharedCount) (Data 1)
   pub fromIs : from ≡ length own
   pub leastIs : 1 ≤ least
   pub ownBits : (k : ℕ) → entry (map load own) k < least → entry (map load own) k ≡ 0
-  pub carries : (k : ℕ) → k < length cs → Carries (getD cs k Silent)
-  pub entriesAre : es ≡ filter (leb least) (map load own) ++ replicate shared 2
-  pub placesAre : ps ≡ placesWhere (leb least) 0 (map load own) ++ everySecond from shared
+  pub carries : (k : ℕ) → k < length cs → ClassBits (getD cs k Silent)
+  pub entriesAre : es ≡ filter (leb least) (map load own) ++ replicate sharedCount 2
+  pub placesAre : ps ≡ placesWhere (leb least) 0 (map load own) ++ everySecond from sharedCount
   pub monitoredAre : ms ≡ placesWhere isMonitored 0 cs
   pub layoutsAre : layouts ≡ map classLayout cs

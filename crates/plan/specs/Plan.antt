@@ -1,6 +1,6 @@
 -- The plan of a symbol: what its passes need of the tables, by place in t' and by entry of b'.
 use Prim.Native.Nat.{ℕ, zero, suc, _+_, _-_, _*_, _/_, _%_, _≤_, _<_}
-use mathlib.Core.Bool.{Bool, true, cond}
+use mathlib.Core.Bool.{Bool, true}
 use mathlib.Core.List.{List, [], _∷_, _++_, map}
 use mathlib.Core.Path.{_≡_}
 use lib.Dec.{leb}
@@ -9,7 +9,7 @@ use Rattle.constellation.specs.Layouts.{classLayout}
 use Rattle.g9932.specs.Bits.{weight}
 use Rattle.g9932.specs.Order.{consIf, filter}
 use Rattle.g9932.specs.Refusals.{numberOf, placeOf, Verdict, refused, accepted, tableVerdict}
-use Rattle.g9932.specs.Sizes.{Tables, entry, toneOf, mostTones}
+use Rattle.g9932.specs.Sizes.{Tables, entry, mostTones}
 use Rattle.g9932.specs.Symbol.{load, isMonitored, classesOf}
 use Rattle.g9932.specs.declared.Class.{Class}
 use Rattle.g9932.specs.declared.Class.the-variants.{Data, Monitored, Silent}
@@ -66,12 +66,12 @@ plannedVerdict (Refused x) = refused (numberOf x) (placeOf x)
 
 pub record PlanIs (T : Tables) (p : PlanSizes) (layouts entries places monitored : List ℕ) : Type 0 where
   pub layoutsAre : take (length (T .tones)) layouts ≡ layoutsIn T
-  pub sharedIs : p .shared ≡ sharedFrom T
-  pub entriesAre : take (p .entries) entries ≡ entriesIn T
-  pub placesAre : take (p .entries) places ≡ placesIn T
-  pub monitoredAre : take (p .monitored) monitored ≡ monitoredIn T
-  pub entriesMost : p .entries ≤ length (T .tones)
-  pub monitoredMost : p .monitored ≤ length (T .tones)
+  pub sharedIs : p .«shared_from» .0 ≡ sharedFrom T
+  pub entriesAre : take (p .«entry_count») entries ≡ entriesIn T
+  pub placesAre : take (p .«entry_count») places ≡ placesIn T
+  pub monitoredAre : take (p .«monitored_count») monitored ≡ monitoredIn T
+  pub entriesMost : p .«entry_count» ≤ length (T .tones)
+  pub monitoredMost : p .«monitored_count» ≤ length (T .tones)
 
 abbrev pub Made : Tables → Planned → List ℕ → List ℕ → List ℕ → List ℕ → Type 0
 Made T (Lists p) layouts entries places monitored = PlanIs T p layouts entries places monitored
@@ -100,15 +100,11 @@ pub record PlanNeeds (m : Mode) (sharers : ℕ) (b g t layouts entries places mo
   pub sharersAre : sharers ≡ sharing m b t
   pub even : sharers % 2 ≡ 0
 
--- the classes of a list of tones
-abbrev pub classesBy : List ℕ → List ℕ → List ℕ → List Class
-classesBy b g t = map (λ k. toneOf (entry b k) (entry g k) .class) t
-
 -- a class that a tone of accepted tables has: 1 to 15 bits where it has data
-abbrev pub Carries : Class → Type 0
-Carries (Data n) = (1 ≤ n) × (n ≤ 15)
-Carries Monitored = Unit {0}
-Carries Silent = Unit {0}
+abbrev pub ClassBits : Class → Type 0
+ClassBits (Data n) = (1 ≤ n) × (n ≤ 15)
+ClassBits Monitored = Unit {0}
+ClassBits Silent = Unit {0}
 
 -- whether a tone comes before those that share
 abbrev pub isPlaced : ℕ → Class → Bool
@@ -116,39 +112,35 @@ isPlaced least (Data b) = leb least b
 isPlaced least Monitored = true
 isPlaced least Silent = true
 
-abbrev pub only : {A : Type 0} → (A → Bool) → List A → List A
-only p [] = []
-only p (a ∷ l) = cond (p a) (a ∷ only p l) (only p l)
-
--- what filing one tone asks: the lists have room for it
+-- what filing one tone asks: it fits the lists
 pub record ToneNeeds (c : Class) (least : ℕ) (at : Cursors) (layouts entries places monitored : List ℕ) : Type 0 where
   pub arrays : Arrays layouts entries places monitored
-  pub carries : Carries c
+  pub carries : ClassBits c
   pub leastIs : 1 ≤ least
-  pub placeMost : at .place < mostTones
-  pub entryMost : at .entry ≤ at .place
-  pub monitoredMost : at .monitored ≤ at .place
+  pub placeMost : at .place .0 < mostTones
+  pub entryMost : at .entry ≤ at .place .0
+  pub monitoredMost : at .monitored ≤ at .place .0
 
 -- what one tone adds to the lists, up to the cursors
 pub record FilesTone (least : ℕ) (c : Class) (at : Cursors) (layouts entries places monitored : List ℕ)
     (r : Cursors) (layoutsAfter entriesAfter placesAfter monitoredAfter : List ℕ) : Type 0 where
-  pub placeIs : r .place ≡ at .place + weight (isPlaced least c)
+  pub placeIs : r .place .0 ≡ at .place .0 + weight (isPlaced least c)
   pub entryIs : r .entry ≡ at .entry + weight (leb least (load c))
   pub monitoredIs : r .monitored ≡ at .monitored + weight (isMonitored c)
-  pub layoutsAre : take (r .place) layoutsAfter ≡ take (at .place) layouts ++ consIf (isPlaced least c) (classLayout c) []
+  pub layoutsAre : take (r .place .0) layoutsAfter ≡ take (at .place .0) layouts ++ consIf (isPlaced least c) (classLayout c) []
   pub entriesAre : take (r .entry) entriesAfter ≡ take (at .entry) entries ++ consIf (leb least (load c)) (load c) []
-  pub placesAre : take (r .entry) placesAfter ≡ take (at .entry) places ++ consIf (leb least (load c)) (at .place) []
-  pub monitoredAre : take (r .monitored) monitoredAfter ≡ take (at .monitored) monitored ++ consIf (isMonitored c) (at .place) []
+  pub placesAre : take (r .entry) placesAfter ≡ take (at .entry) places ++ consIf (leb least (load c)) (at .place .0) []
+  pub monitoredAre : take (r .monitored) monitoredAfter ≡ take (at .monitored) monitored ++ consIf (isMonitored c) (at .place .0) []
 
 -- the lists of classes in the order of their places, up to the cursors
 pub record Filing (least : ℕ) (cs : List Class) (at : Cursors) (layouts entries places monitored : List ℕ) : Type 0 where
-  pub placeIs : at .place ≡ length cs
-  pub layoutsAre : take (at .place) layouts ≡ map classLayout cs
+  pub placeIs : at .place .0 ≡ length cs
+  pub layoutsAre : take (at .place .0) layouts ≡ map classLayout cs
   pub entriesAre : take (at .entry) entries ≡ filter (leb least) (map load cs)
   pub placesAre : take (at .entry) places ≡ placesWhere (leb least) 0 (map load cs)
   pub monitoredAre : take (at .monitored) monitored ≡ placesWhere isMonitored 0 cs
-  pub entryMost : at .entry ≤ at .place
-  pub monitoredMost : at .monitored ≤ at .place
+  pub entryMost : at .entry ≤ at .place .0
+  pub monitoredMost : at .monitored ≤ at .place .0
 
 pub record FileNeeds (least : ℕ) (b g t layouts entries places monitored : List ℕ) : Type 0 where
   pub arrays : Arrays layouts entries places monitored

@@ -1,14 +1,16 @@
 // Filing the tones of t by place and by entry. Called by proved code only.
 ghost use mathlib.Core.Path.{_≡_};
 ghost use Rattle.constellation.specs.Layouts.{layoutList};
-ghost use Rattle.plan.specs.Plan.{classesBy, isPlaced, only, ToneNeeds, FilesTone, Filing, FileNeeds, ShareNeeds, Shares};
+ghost use Rattle.g9932.specs.Order.{filter};
+ghost use Rattle.g9932.specs.Symbol.{classesBy};
+ghost use Rattle.plan.specs.Plan.{isPlaced, ToneNeeds, FilesTone, Filing, FileNeeds, ShareNeeds, Shares};
 use g9932::Class;
 use g9932::Place;
 use g9932::Tone;
 
 // Where the next tone goes in each list.
 pub struct Cursors {
-    pub place: usize,
+    pub place: Place,
     pub entry: usize,
     pub monitored: usize,
 }
@@ -28,7 +30,7 @@ fn file_tone(
     requires { ⌜ ToneNeeds (tone .class) least at (now layouts) (now entries) (now places) (now monitored) × (now table ≡ layoutList) ⌝ }
     ensures { λ r. ⌜ FilesTone least (tone .class) at (now (layouts .entry)) (now (entries .entry)) (now (places .entry)) (now (monitored .entry)) r (now (layouts .exit)) (now (entries .exit)) (now (places .exit)) (now (monitored .exit)) ⌝ }
 {
-    let place = at.place;
+    let place = at.place.0;
     let entry = at.entry;
     let next = at.monitored;
     let class = tone.class;
@@ -42,7 +44,7 @@ fn file_tone(
             entries[entry] = bits;
             places[entry] = place as u16;
             Cursors {
-                place: place + 1,
+                place: Place(place + 1),
                 entry: entry + 1,
                 monitored: next,
             }
@@ -51,7 +53,7 @@ fn file_tone(
             layouts[place] = table[2];
             monitored[next] = place as u16;
             Cursors {
-                place: place + 1,
+                place: Place(place + 1),
                 entry,
                 monitored: next + 1,
             }
@@ -59,7 +61,7 @@ fn file_tone(
         Class::Silent => {
             layouts[place] = table[0];
             Cursors {
-                place: place + 1,
+                place: Place(place + 1),
                 entry,
                 monitored: next,
             }
@@ -80,10 +82,10 @@ pub fn file_tones(
     monitored: &mut [u16],
 ) -> Cursors
     requires { ⌜ FileNeeds least (now bits) (now gains) (now tones) (now layouts) (now entries) (now places) (now monitored) × (now table ≡ layoutList) ⌝ }
-    ensures { λ r. ⌜ Filing least (only (isPlaced least) (classesBy (now (bits .entry)) (now (gains .entry)) (now (tones .entry)))) r (now (layouts .exit)) (now (entries .exit)) (now (places .exit)) (now (monitored .exit)) ⌝ }
+    ensures { λ r. ⌜ Filing least (filter (isPlaced least) (classesBy (now (bits .entry)) (now (gains .entry)) (now (tones .entry)))) r (now (layouts .exit)) (now (entries .exit)) (now (places .exit)) (now (monitored .exit)) ⌝ }
 {
     let mut at = Cursors {
-        place: 0,
+        place: Place(0),
         entry: 0,
         monitored: 0,
     };
@@ -99,22 +101,22 @@ pub fn file_tones(
     at
 }
 
-// Adds `count` entries of 2 bits, each shared by two tones of 1 bit: from place `from` on, and from entry `at` on.
+// Adds `count` entries of 2 bits, each shared by two tones of 1 bit: from place `shared_from` on, and from entry `at` on.
 pub fn share_entries(
     count: usize,
-    from: usize,
+    shared_from: Place,
     at: usize,
     layout: u16,
     layouts: &mut [u16],
     entries: &mut [u8],
     places: &mut [u16],
 )
-    requires { ⌜ ShareNeeds count from at (now layouts) (now entries) (now places) ⌝ }
-    ensures { λ _. ⌜ Shares layout from count at (now (layouts .entry)) (now (entries .entry)) (now (places .entry)) (now (layouts .exit)) (now (entries .exit)) (now (places .exit)) ⌝ }
+    requires { ⌜ ShareNeeds count («shared_from» .0) at (now layouts) (now entries) (now places) ⌝ }
+    ensures { λ _. ⌜ Shares layout («shared_from» .0) count at (now (layouts .entry)) (now (entries .entry)) (now (places .entry)) (now (layouts .exit)) (now (entries .exit)) (now (places .exit)) ⌝ }
 {
     let mut j: usize = 0;
     while j < count {
-        let p = from + 2 * j;
+        let p = shared_from.0 + 2 * j;
         layouts[p] = layout;
         layouts[p + 1] = layout;
         entries[at + j] = 2;

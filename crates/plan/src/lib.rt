@@ -6,15 +6,16 @@ ghost use mathlib.Core.Path.{_≡_};
 ghost use Rattle.g9932.specs.Sizes.{tables};
 ghost use Rattle.plan.specs.Plan.{leastOwn, PlanIs, PlanNeeds, Plans, Arrays};
 use g9932::Mode;
+use g9932::Place;
 use g9932::Refusal;
 use tables::sizes::Sized;
 
-// How far the lists of a plan reach: L, the entries, the first of the places that share entries, and the monitored places.
+// L, and how far the lists of a plan reach: its entries, the first of the places that share entries, and its monitored places.
 pub struct PlanSizes {
     pub size: usize,
-    pub entries: usize,
-    pub shared: usize,
-    pub monitored: usize,
+    pub entry_count: usize,
+    pub shared_from: Place,
+    pub monitored_count: usize,
 }
 
 // The answer of planning.
@@ -62,11 +63,11 @@ fn file_plan(
         places,
         monitored,
     );
-    let place = at.place;
+    let shared_from = at.place;
     let entry = at.entry;
     filing::share_entries(
         sharers / 2,
-        place,
+        shared_from,
         entry,
         table[1],
         layouts,
@@ -75,9 +76,9 @@ fn file_plan(
     );
     PlanSizes {
         size,
-        entries: entry + sharers / 2,
-        shared: place,
-        monitored: at.monitored,
+        entry_count: entry + sharers / 2,
+        shared_from,
+        monitored_count: at.monitored,
     }
 }
 

@@ -69,8 +69,8 @@ module _ {T : Tables} {v : ℕ → Verdict} {p : PlanSizes} {layouts entries pla
   pub lists-fit : Arrays layouts entries places monitored → {labels : List ℕ} → length labels ≡ mostTones → PlanFits p (length (T .tones)) layouts entries places monitored labels
   lists-fit a n =
       let m = tones-most T accepts in
-      let e : p .entries ≤ mostTones = omega (arith, h .plan .entriesMost) in
-      let o : p .monitored ≤ mostTones = omega (arith, h .plan .monitoredMost) in
+      let e : p .«entry_count» ≤ mostTones = omega (arith, h .plan .entriesMost) in
+      let o : p .«monitored_count» ≤ mostTones = omega (arith, h .plan .monitoredMost) in
       record {
         layoutsFit = omega (arith, a .layoutsLength);
         entriesFit = omega (arith, a .entriesLength);

@@ -68,19 +68,19 @@ module _ (T : Tables) (ok : tableVerdict T .number ≡ 0) where
 
   module _ (p : PlanSizes) {layouts entries places monitored : List ℕ} (is : PlanIs T p layouts entries places monitored) where
     abbrev es : List ℕ
-    es = take (p .entries) entries
+    es = take (p .«entry_count») entries
 
     abbrev ps : List ℕ
-    ps = take (p .entries) places
+    ps = take (p .«entry_count») places
 
-    pub the-plan : PlanOf (classesOf T) (p .shared) es ps (take (p .monitored) monitored) (take (length (T .tones)) layouts)
+    pub the-plan : PlanOf (classesOf T) (p .«shared_from» .0) es ps (take (p .«monitored_count») monitored) (take (length (T .tones)) layouts)
     the-plan = plan-of T p (known .bitsMost) sharing-even is
 
     -- the entries, by the mode
     entries-by : (m : Mode) → T .mode ≡ m → es ≡ filter (leb (leastOwn m)) (bitsOf (T .bits) (reorderedTones m (T .bits) (T .tones))) ++ replicate (sharing m (T .bits) (T .tones) / 2) 2
     entries-by m e =
         is .entriesAre
-        ∙ ap (λ (l : List ℕ). filter (leb (leastOwn (T .mode))) l ++ replicate (sharing (T .mode) (T .bits) (T .tones) / 2) 2) (load-classes T (reorderedTones (T .mode) (T .bits) (T .tones)))
+        ∙ ap (λ (l : List ℕ). filter (leb (leastOwn (T .mode))) l ++ replicate (sharing (T .mode) (T .bits) (T .tones) / 2) 2) (load-classes (T .bits) (T .gains) (reorderedTones (T .mode) (T .bits) (T .tones)))
         ∙ ap (λ (m : Mode). filter (leb (leastOwn m)) (bitsOf (T .bits) (reorderedTones m (T .bits) (T .tones))) ++ replicate (sharing m (T .bits) (T .tones) / 2) 2) e
 
     plain-entries : T .mode ≡ Uncoded → es ≡ filter (leb 1) (bitsOf (T .bits) (T .tones))
@@ -108,7 +108,7 @@ module _ (T : Tables) (ok : tableVerdict T .number ≡ 0) where
     coded-taken e = ap takenTotal (coded-pairs e) ∙ known .coded e .taken
 
     coded-many : T .mode ≡ Coded → length es ≤ mostTones
-    coded-many e = omega (arith, is .entriesMost, tones-most, length-take-most (p .entries) entries)
+    coded-many e = omega (arith, is .entriesMost, tones-most, length-take-most (p .«entry_count») entries)
 
     -- ---- writing
 

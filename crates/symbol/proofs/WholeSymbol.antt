@@ -41,7 +41,7 @@ use Rattle.symbol.proofs.TablePlan.{the-plan, label-needs, sent-is, hel
 
 module _ (T : Tables) (ok : tableVerdict T .number ≡ 0) (p : PlanSizes) {layouts entries places monitored : List ℕ} (is : PlanIs T p layouts entries places monitored) where
   pub symbol-of : (f labels : List ℕ) (xs ys : List ℤ) → frameTest (sizeOf T) f ≡ false → length labels ≡ length (T .tones) → length xs ≡ length (T .tones) → length ys ≡ length (T .tones)
-      → WriteSymbolSupposes T (T .mode) (p .shared) f (take (p .entries) entries) (take (p .entries) places) (take (p .monitored) monitored) (take (length (T .tones)) layouts) labels xs ys
+      → WriteSymbolSupposes T (T .mode) (p .«shared_from» .0) f (take (p .«entry_count») entries) (take (p .«entry_count») places) (take (p .«monitored_count») monitored) (take (length (T .tones)) layouts) labels xs ys
   symbol-of f labels xs ys fits n nx ny =
       let c = length-classes T in
       record {
@@ -78,7 +78,7 @@ module _ (T : Tables) (ok : tableVerdict T .number ≡ 0) (p : PlanSizes) {layou
 
   pub read-of : (size : ℕ) (xs ys : List ℤ) (labels held f : List ℕ) → length labels ≡ length (T .tones) → length xs ≡ length (T .tones) → length ys ≡ length (T .tones)
       → length held ≡ mostHeld → size ≡ sizeOf T → length f ≡ bytesFor (sizeOf T)
-      → ReadSymbolSupposes T (T .mode) (p .shared) size (take (p .entries) entries) (take (p .entries) places) (take (p .monitored) monitored) (take (length (T .tones)) layouts) xs ys labels held f
+      → ReadSymbolSupposes T (T .mode) (p .«shared_from» .0) size (take (p .«entry_count») entries) (take (p .«entry_count») places) (take (p .«monitored_count») monitored) (take (length (T .tones)) layouts) xs ys labels held f
   read-of size xs ys labels held f n nx ny nh s nf =
       let c = length-classes T in
       record {

@@ -16,7 +16,7 @@ use Rattle.g9932.specs.declared.Mode.the-variants.{Uncoded}
 use Rattle.g9932.specs.declared.Mode.{Mode}
 use Rattle.g9932.specs.declared.Refusal.{Refusal}
 use Rattle.tables.proofs.Modes.{uncoded-verdict}
-use Rattle.tables.specs.Counted.{Medley}
+use Rattle.tables.specs.Counted.{ListsPass}
 
 -- t without a repeat
 lists-once : (b g t : List ℕ) {l : ℕ} → accepted l ≡ listVerdict b g t → (k : ℕ) → k < length t → twiceTest t k ≡ false
@@ -28,9 +28,9 @@ lists-once b g t e =
     first-no (twiceTest t) (length t) (p3 .0)
 
 -- and a bit table whose bits are the tones': in uncoded mode nothing else is refused
-pub lists-medley : (b g t : List ℕ) {l : ℕ} → accepted l ≡ listVerdict b g t → Medley b t
+pub lists-pass : (b g t : List ℕ) {l : ℕ} → accepted l ≡ listVerdict b g t → ListsPass b t
 unfolding tableVerdict
-lists-medley b g t {l} e =
+lists-pass b g t {l} e =
     let a = accepted-tables (tables Uncoded b g t) (number-none (uncoded-verdict b t refl ∙ and-accepted l e refl)) in
     record { size = a .tableMost; below = a .tonesBelow; once = lists-once b g t e; bitsMost = a .bitsMost; strayBits = a .strayBits }
 

@@ -1,19 +1,16 @@
--- Laws of the tones: counts over all tones by the bit table, and how many there are of each kind.
-use Prim.Native.Nat.{_<_, ℕ, zero, suc, _+_, _-_, _/_, _%_, _≤_}
+-- Laws of the tones: those from a place on, and counts over all tones by the bit table.
+use Prim.Native.Nat.{ℕ, zero, suc, _+_, _<_}
 use mathlib.Core.Bool.{Bool, false}
 use mathlib.Core.List.{List, [], _∷_, map}
 use mathlib.Core.Path.{_≡_, refl, sym, ap, ap₂, _∙_}
 use lib.Seq.{drop-cons}
 use native.Mathlib.Numerals.{add-one}
 use lib.ListN.{getD, length, drop, length-map}
-use native.Mathlib.Omega.{arith}
-use lib.Dec.{ltb, leb}
 use Rattle.g9932.specs.Bits.{weight}
 use Rattle.g9932.specs.Sizes.{entry}
-use Rattle.g9932.specs.Order.{sum, count, filter, bitsOf, loaded, ones, entryCount}
-use Rattle.g9932.proofs.Counts.{count-big, count-most}
+use Rattle.g9932.specs.Order.{sum, count, bitsOf}
 use Rattle.g9932.proofs.Members.{sum-members}
-use Rattle.tables.specs.Counted.{Medley}
+use Rattle.tables.specs.Counted.{ListsPass}
 
 -- a list from place i on, where there is an entry
 pub drop-some : (l : List ℕ) (i : ℕ) → i < length l → drop i l ≡ getD l i 0 ∷ drop (i + 1) l
@@ -36,7 +33,7 @@ module _ (f : ℕ → ℕ) (z : f 0 ≡ 0) where
   bits-map b [] = refl
   bits-map b (k ∷ t) = ap₂ (λ (n : ℕ) (l : List ℕ). n ∷ l) (entry-map b k) (bits-map b t)
 
-  sum-table : (b t : List ℕ) → Medley b t → sum (map f (bitsOf b t)) ≡ sum (map f b)
+  sum-table : (b t : List ℕ) → ListsPass b t → sum (map f (bitsOf b t)) ≡ sum (map f b)
   sum-table b t m =
       sym (ap sum (bits-map b t))
       ∙ sum-members t (map f b) (m .once) (λ k l. rw length-map (m .below k l)) (λ k e. entry-map b k ∙ ap f (m .strayBits k e) ∙ z)
@@ -45,27 +42,6 @@ count-sum : (p : ℕ → Bool) (l : List ℕ) → count p l ≡ sum (map (λ n. 
 count-sum p [] = refl
 count-sum p (n ∷ l) = ap (λ (m : ℕ). weight (p n) + m) (count-sum p l)
 
-pub count-table : (p : ℕ → Bool) → p 0 ≡ false → (b t : List ℕ) → Medley b t → count p (bitsOf b t) ≡ count p b
+pub count-table : (p : ℕ → Bool) → p 0 ≡ false → (b t : List ℕ) → ListsPass b t → count p (bitsOf b t) ≡ count p b
 unfolding weight
 count-table p z b t m = count-sum p (bitsOf b t) ∙ sum-table (λ n. weight (p n)) (ap weight z) b t m ∙ sym (count-sum p b)
-
--- ---- how many there are
-
--- b' has NSC entries where the number of 1-bit tones is even
-pub record Fits (b t : List ℕ) : Type 0 where
-  pub halfLoaded : ones b t / 2 ≤ loaded b t
-  pub onesWithin : ones b t ≤ length t
-  pub within : entryCount b t ≤ length t
-  pub whole : (length t - entryCount b t) + (length (filter (leb 2) (bitsOf b t)) + ones b t / 2) ≡ length t
-
-pub entries-fit : (b t : List ℕ) → ones b t % 2 ≡ 0 → Fits b t
-entries-fit b t even =
-    let u = count-big (bitsOf b t) in
-    let w = count-most (ltb 0) (bitsOf b t) in
-    let m = length-map t (entry b) in
-    record {
-      halfLoaded = omega arith;
-      onesWithin = omega arith;
-      within = omega arith;
-      whole = omega arith;
-    }

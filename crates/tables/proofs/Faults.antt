@@ -1,4 +1,4 @@
--- Laws of the checks: one scan for three tests, what the size test leaves, and refusals 1 to 6 from what the searches find.
+-- Laws of the checks: one scan for three tests, and refusals 1 to 6 from what the searches find.
 use Prim.Native.Nat.{ℕ, _<_}
 use mathlib.Core.Bool.{Bool, true, false, _||_}
 use mathlib.Core.List.{List}

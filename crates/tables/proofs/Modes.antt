@@ -8,7 +8,7 @@ use lib.ListN.{length}
 use borrow.Author.Tests.{eq-eqb, ne-eqb, lt-ltb, le-ltb}
 use native.Mathlib.Omega.{arith}
 use Rattle.g9932.proofs.Formed.{isOne-even, formed-size, formed-pairsOf, length-pairsOf, total-pairsOf}
-use Rattle.g9932.proofs.Reordering.{sum-entries, length-entries, allTwo-entries, nonzero-entries}
+use Rattle.g9932.proofs.Reordering.{entries-fit, sum-entries, length-entries, allTwo-entries, nonzero-entries}
 use Rattle.g9932.proofs.Search.{first-none}
 use Rattle.g9932.proofs.Verdicts.{test-here, test-past, found-past}
 use Rattle.g9932.specs.Bits.{first}
@@ -17,7 +17,6 @@ use Rattle.g9932.specs.Refusals.{Verdict, refused, accepted, refuseAt, pairTest
 use Rattle.g9932.specs.declared.Found.the-variants.{Nothing}
 use Rattle.g9932.specs.declared.Found.{Found}
 use Rattle.g9932.specs.declared.Mode.the-variants.{Uncoded, Coded}
-use Rattle.tables.proofs.Counting.{entries-fit}
 use Rattle.tables.specs.Counted.{CountsAre}
 use Rattle.tables.specs.declared.Counts.{Counts}
 
@@ -39,11 +38,11 @@ module _ {b t : List ℕ} {c : Counts} (k : CountsAre c b t) where
     not-odd : isOne (ones b t % 2) ≡ false
     not-odd = ap (λ (n : ℕ). isOne (n % 2)) (sym (k .onesIs)) ∙ ne-eqb _ _ odd
 
-    pub coded-even : ones b t % 2 ≡ 0
+    coded-even : ones b t % 2 ≡ 0
     coded-even = isOne-even (ones b t) not-odd
 
     -- N, from the counts; it is the number of entries that are not 0
-    pub coded-count : c .loaded - c .ones / 2 ≡ entryCount b t
+    coded-count : c .loaded - c .ones / 2 ≡ entryCount b t
     coded-count = omega (arith, k .loadedIs, k .onesIs)
 
     pub half-loaded : c .ones / 2 ≤ c .loaded
@@ -73,8 +72,8 @@ module _ {b t : List ℕ} {c : Counts} (k : CountsAre c b t) where
           ∙ ap (λ (n : ℕ). accepted (sum (bitsOf b t) - (n + 1) / 2 - 4)) coded-count))
 
       -- and P + 4 bits are there to take from the sum: the pairs send them and do not take them
-      pub coded-room : (c .loaded - c .ones / 2 + 1) / 2 + 4 ≤ c .sum
-      coded-room =
+      pub coded-fits : (c .loaded - c .ones / 2 + 1) / 2 + 4 ≤ c .sum
+      coded-fits =
           let n = length-entries b t coded-even in
           let p = length-pairsOf (entries b t) in
           let w = total-pairsOf (entries b t) in

@@ -11,7 +11,7 @@ use Rattle.tables.specs.Checks.{Below}
 use Rattle.tables.specs.declared.Counts.{Counts}
 
 -- what refusals 1 to 6 leave of the bit table and t: t has indices below G, each once, and only they have bits, at most 15
-pub record Medley (b t : List ℕ) : Type 0 where
+pub record ListsPass (b t : List ℕ) : Type 0 where
   pub size : length b ≤ mostTones
   pub below : Below (length b) t
   pub once : (k : ℕ) → k < length t → twiceTest t k ≡ false

@@ -19,11 +19,11 @@ sizedVerdict (Frame size entries sharers) = accepted size
 sizedVerdict (Refused x) = refused (numberOf x) (placeOf x)
 
 -- the entries of b' that are not 0, and the tones that share, two by two
-abbrev pub Sharing : Mode → List ℕ → List ℕ → Sized → Type 0
-Sharing m b t (Frame size entries sharers) = (entries ≡ loaded b t - sharing m b t / 2) × (sharers ≡ sharing m b t) × (sharers % 2 ≡ 0)
-Sharing m b t (Refused x) = Unit {0}
+abbrev pub SharersAre : Mode → List ℕ → List ℕ → Sized → Type 0
+SharersAre m b t (Frame size entries sharers) = (entries ≡ loaded b t - sharing m b t / 2) × (sharers ≡ sharing m b t) × (sharers % 2 ≡ 0)
+SharersAre m b t (Refused x) = Unit {0}
 
 -- by the verdict of refusals 7 to 9 alone, or of 1 to 9
 pub record SizedBy (v : Verdict) (m : Mode) (b t : List ℕ) (r : Sized) : Type 0 where
   pub answer : sizedVerdict r ≡ v
-  pub shares : Sharing m b t r
+  pub shares : SharersAre m b t r

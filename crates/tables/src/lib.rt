@@ -8,9 +8,9 @@ ghost use Prim.Native.Nat.{_≤_, _<_};
 ghost use lib.ListN.{length};
 ghost use Rattle.g9932.specs.Bits.{weight};
 ghost use Rattle.g9932.specs.Sizes.{entry, toneOf};
-ghost use Rattle.tables.specs.Counted.{CountsAre, Medley};
+ghost use Rattle.tables.specs.Counted.{CountsAre, ListsPass};
 
-pub mod lists; // refusals 1 to 6
+mod lists; // refusals 1 to 6
 pub mod sizes; // refusals 1 to 9 and L
 
 // The sub-carrier at a place of a tone table; 0 past its end.
@@ -34,14 +34,14 @@ pub fn bits_at(bits: &[u8], k: Subcarrier) -> u8
 }
 
 // The gain of a sub-carrier; 0 past the table's end.
-pub fn gain_at(gains: &[u16], k: Subcarrier) -> u16
+fn gain_at(gains: &[u16], k: Subcarrier) -> u16
     ensures { λ r. ⌜ r ≡ entry (now (gains .entry)) (k .0) ⌝ }
 {
     let at = k.0;
     if at < gains.len() { gains[at] } else { 0 }
 }
 
-// The bits, and the gain, of a sub-carrier that the tables have. Called by proved code only.
+// The bits of a sub-carrier that the bit table has. Called by proved code only.
 pub fn bits_of(bits: &[u8], k: Subcarrier) -> u8
     requires { ⌜ k .0 < length (now bits) ⌝ }
     ensures { λ r. ⌜ r ≡ entry (now (bits .entry)) (k .0) ⌝ }
@@ -50,6 +50,7 @@ pub fn bits_of(bits: &[u8], k: Subcarrier) -> u8
     bits[at]
 }
 
+// The gain of a sub-carrier that the gain table has. Called by proved code only.
 pub fn gain_of(gains: &[u16], k: Subcarrier) -> u16
     requires { ⌜ k .0 < length (now gains) ⌝ }
     ensures { λ r. ⌜ r ≡ entry (now (gains .entry)) (k .0) ⌝ }
@@ -81,14 +82,14 @@ pub fn tone_of(bits: u8, gain: u16) -> Tone
 }
 
 // A test as a number to count with.
-pub fn one_if(test: bool) -> u16
+fn one_if(test: bool) -> u16
     ensures { λ r. ⌜ (r ≡ weight test) × (r ≤ 1) ⌝ }
 {
     test as u16
 }
 
 // Sums over the tones: of the bits, of the loaded tones, and of the 1-bit tones.
-pub struct Counts {
+struct Counts {
     pub sum: usize,
     pub loaded: usize,
     pub ones: usize,
@@ -96,8 +97,8 @@ pub struct Counts {
 
 // The counts over all tones. Only tones have bits, so that they are the counts over the bit table. The sums fit 16 bits, and there
 // is no `if`, so that the compiler takes many entries at a time. Called by proved code only.
-pub fn count_tones(bits: &[u8], tones: &[u16]) -> Counts
-    requires { ⌜ Medley (now bits) (now tones) ⌝ }
+fn count_tones(bits: &[u8], tones: &[u16]) -> Counts
+    requires { ⌜ ListsPass (now bits) (now tones) ⌝ }
     ensures { λ r. ⌜ CountsAre r (now (bits .entry)) (now (tones .entry)) ⌝ }
 {
     let mut sum: u16 = 0;

@@ -11,9 +11,9 @@ use g9932::Place;
 use g9932::Refusal;
 use g9932::Subcarrier;
 ghost use mathlib.Core.Path.{_≡_};
-ghost use mathlib.Core.Bool.{false};
-ghost use Prim.Native.Nat.{_≤_};
-ghost use lib.ListN.{length, replicate};
+ghost use mathlib.Core.Bool.{true, false};
+ghost use Prim.Native.Nat.{_≤_, _<_};
+ghost use lib.ListN.{length, getD, set, replicate};
 ghost use Rattle.g9932.specs.Sizes.{mostTones};
 ghost use Rattle.g9932.specs.Bits.{first};
 ghost use Rattle.g9932.specs.Refusals.{sizeTest, toneTest, twiceTest, strayBy, gainBy, indexVerdict, listVerdict};
@@ -73,6 +73,24 @@ fn first_tone(g: usize, tones: &[u16]) -> Found
     Found::Nothing
 }
 
+// Is a sub-carrier marked?
+fn is_marked(seen: &[bool; MOST_TONES], k: Subcarrier) -> bool
+    requires { ⌜ k .0 < mostTones ⌝ }
+    ensures { λ r. ⌜ r ≡ getD (now (seen .entry)) (k .0) false ⌝ }
+{
+    let at = k.0;
+    seen[at]
+}
+
+// Marks a sub-carrier.
+fn mark(seen: &mut [bool; MOST_TONES], k: Subcarrier)
+    requires { ⌜ k .0 < mostTones ⌝ }
+    ensures { λ _. ⌜ now (seen .exit) ≡ set (now (seen .entry)) (k .0) true ⌝ }
+{
+    let at = k.0;
+    seen[at] = true;
+}
+
 // Marks every entry of t.
 fn mark_tones(tones: &[u16], seen: &mut [bool; MOST_TONES])
     requires { ⌜ Below mostTones (now tones) ⌝ }
@@ -80,9 +98,7 @@ fn mark_tones(tones: &[u16], seen: &mut [bool; MOST_TONES])
 {
     let mut i = 0;
     while i < tones.len() {
-        let k = tone_at(tones, Place(i));
-        let at = k.0;
-        seen[at] = true;
+        mark(seen, tone_at(tones, Place(i)));
         i += 1;
     }
 }
@@ -110,11 +126,10 @@ fn first_repeat(tones: &[u16], seen: &mut [bool; MOST_TONES]) -> Found
     let mut i = 0;
     while i < tones.len() {
         let k = tone_at(tones, Place(i));
-        let at = k.0;
-        if seen[at] {
+        if is_marked(seen, k) {
             return Found::At(i);
         }
-        seen[at] = true;
+        mark(seen, k);
         i += 1;
     }
     Found::Nothing
@@ -174,14 +189,14 @@ fn any_index_fault(bits: &[u8], gains: &[u16], tones: &[u16], seen: &[bool; MOST
 }
 
 // 4 BITS, 5 STRAY or 6 GAIN, looked for by itself.
-pub enum Rule {
+enum Rule {
     Bits,
     Stray,
     Gain,
 }
 
 // Does the rule apply to an index?
-fn breaks(rule: Rule, seen: bool, bits: u8, gain: u16) -> bool
+fn rule_applies(rule: Rule, seen: bool, bits: u8, gain: u16) -> bool
     ensures { λ r. ⌜ r ≡ ruleBy rule seen bits gain ⌝ }
 {
     match rule {
@@ -206,7 +221,12 @@ fn first_index(
     let mut i = 0;
     while i < bits.len() {
         let k = Subcarrier(i);
-        if breaks(rule, seen[i], bits_at(bits, k), gain_at(gains, k)) {
+        if rule_applies(
+            rule,
+            is_marked(seen, k),
+            bits_at(bits, k),
+            gain_at(gains, k),
+        ) {
             return Found::At(i);
         }
         i += 1;

@@ -6,7 +6,7 @@ use g9932::Mode;
 use g9932::Refusal;
 ghost use Rattle.g9932.specs.Sizes.{tables};
 ghost use Rattle.g9932.specs.Refusals.{modeVerdict, tableVerdict};
-ghost use Rattle.tables.specs.Counted.{Medley};
+ghost use Rattle.tables.specs.Counted.{ListsPass};
 ghost use Rattle.tables.specs.Modes.{SizedBy};
 
 // What the tables make of a frame: L, the entries of b' that are not 0, and the tones that share such an entry with another; or a refusal.
@@ -19,10 +19,10 @@ pub enum Sized {
     Refused(Refusal),
 }
 
-// Refusals 7 and 8, and L. Re-ordering leaves no entry of 1, so that 9 never applies (this crate's proofs/Pairs). Its caller shows that refusals 1 to
-// 6 do not apply.
+// Refusals 7 and 8, and L. Re-ordering leaves no entry of 1, so that 9 never applies (this crate's proofs/Pairs). Its caller shows that
+// refusals 1 to 6 do not apply.
 fn size_frame(mode: Mode, bits: &[u8], tones: &[u16]) -> Sized
-    requires { ⌜ Medley (now bits) (now tones) ⌝ }
+    requires { ⌜ ListsPass (now bits) (now tones) ⌝ }
     ensures { λ r. ⌜ SizedBy (modeVerdict mode (now (bits .entry)) (now (tones .entry))) mode (now (bits .entry)) (now (tones .entry)) r ⌝ }
 {
     let c = count_tones(bits, tones);

@@ -41,7 +41,7 @@ write-order-requires c κs =
     let e = s2 .given .1 in
     let h = rw e at (z .ensures .shares) in
     let k = accepted-tables (tables (a .mode) (now (a .bits)) (now (a .gains)) (now (a .tones))) (number-none (ap sizedVerdict (sym e) ∙ z .ensures .answer)) in
-    record { room = record { tonesFit = omega (arith, if1 .left); bitsFit = omega (arith, if2 .left) }; below = k .tonesBelow; entriesAre = h .0; sharersAre = h .1; even = h .2 }
+    record { fits = record { tonesFit = omega (arith, if1 .left); bitsFit = omega (arith, if2 .left) }; below = k .tonesBelow; entriesAre = h .0; sharersAre = h .1; even = h .2 }
 
 returns-3 : tie.Need-returns-3
 returns-3 c = reorder-refused _ _ _ _ (ap sizedVerdict (sym (c .before .s .given .1)) ∙ c .before .before .before .size-tables .ensures .answer)

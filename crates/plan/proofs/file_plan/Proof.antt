@@ -24,10 +24,10 @@ array-read-share-entries c = search needs
 
 share-entries-requires : tie.Need-share-entries-requires
 share-entries-requires c κs =
-    let least-own = c .before .before .before .before .before .before .before .before .before .before .before .before .before .before .before .before .before .least-own in
-    let s = c .before .before .before .before .before .before .before .before .before .before .before .before .before .before .before .before .before .before .before .before .before .before .before .before .before .before in
+    let least-own = c .before .before .before .before .before .before .before .before .before .before .before .before .before .before .before .before .before .before .least-own in
+    let s = c .before .before .before .before .before .before .before .before .before .before .before .before .before .before .before .before .before .before .before .before .before .before .before .before .before .before .before in
     let a = s .args in
-    let f = c .before .before .before .before .before .before .before .before .before .before .before .file-tones in
+    let f = c .before .before .before .before .before .before .before .before .before .before .before .before .file-tones in
     let g = rw (least-own .ensures) at (f .ensures) in
     let n = placed-count (a .mode) (a .bits .now) (a .gains .now) (a .tones .now) in
     record {
@@ -40,10 +40,10 @@ share-entries-requires c κs =
 
 add-t37 : tie.Need-add-t37
 add-t37 c =
-    let least-own = c .before .before .before .before .before .before .before .before .before .before .before .before .before .before .before .before .before .before .before .before .before .before .before .before .least-own in
-    let s = c .before .before .before .before .before .before .before .before .before .before .before .before .before .before .before .before .before .before .before .before .before .before .before .before .before .before .before .before .before .before .before .before .before in
+    let least-own = c .before .before .before .before .before .before .before .before .before .before .before .before .before .before .before .before .before .before .before .before .before .before .before .before .before .least-own in
+    let s = c .before .before .before .before .before .before .before .before .before .before .before .before .before .before .before .before .before .before .before .before .before .before .before .before .before .before .before .before .before .before .before .before .before .before in
     let a = s .args in
-    let f = c .before .before .before .before .before .before .before .before .before .before .before .before .before .before .before .before .before .before .file-tones in
+    let f = c .before .before .before .before .before .before .before .before .before .before .before .before .before .before .before .before .before .before .before .file-tones in
     let g = rw (least-own .ensures) at (f .ensures) in
     let n = placed-count (a .mode) (a .bits .now) (a .gains .now) (a .tones .now) in
     omega (arith, g .placeIs, g .entryMost, s .pre .sharersAre, s .pre .most)
@@ -62,11 +62,11 @@ same-length-4 c = search needs
 
 returns : tie.Need-returns
 returns c =
-    let layout-table = c .before .before .before .before .before .before .before .before .before .before .before .before .before .before .before .before .before .before .before .before .before .before .before .before .before .layout-table in
-    let least-own = c .before .before .before .before .before .before .before .before .before .before .before .before .before .before .before .before .before .before .before .before .before .before .before .before .least-own in
-    let s = c .before .before .before .before .before .before .before .before .before .before .before .before .before .before .before .before .before .before .before .before .before .before .before .before .before .before .before .before .before .before .before .before .before in
+    let layout-table = c .before .before .before .before .before .before .before .before .before .before .before .before .before .before .before .before .before .before .before .before .before .before .before .before .before .before .layout-table in
+    let least-own = c .before .before .before .before .before .before .before .before .before .before .before .before .before .before .before .before .before .before .before .before .before .before .before .before .before .least-own in
+    let s = c .before .before .before .before .before .before .before .before .before .before .before .before .before .before .before .before .before .before .before .before .before .before .before .before .before .before .before .before .before .before .before .before .before .before in
     let a = s .args in
-    let f = c .before .before .before .before .before .before .before .before .before .before .before .before .before .before .before .before .before .before .file-tones in
+    let f = c .before .before .before .before .before .before .before .before .before .before .before .before .before .before .before .before .before .before .before .file-tones in
     let h = c .before .before .before .before .before .before .share-entries in
     let g = rw (least-own .ensures) at (f .ensures) in
     let t = layout-table .ensures in (

@@ -10,10 +10,10 @@ use Rattle.mapper.proofs.read.join_shared.Statement.{statement}
 use Rattle.mapper.proofs.read.join_shared.Tie as tie
 
 abbrev Inv-loop : tie.InvT-loop
-Inv-loop labels₀ from i₀ labels i = JoinNeeds labels i × Changing joinOnes from labels₀ labels i
+Inv-loop labels₀ i₀ labels i = JoinNeeds labels i × Changing joinOnes i₀ labels₀ labels i
 
 abbrev μ-loop : tie.MeasureT-loop
-μ-loop labels₀ from i₀ labels i = length labels₀ - i
+μ-loop labels₀ i₀ labels i = length labels₀ - i
 
 loop-holds : tie.Need-loop-holds Inv-loop μ-loop
 loop-holds c = (c .pre, change-start (c .pre .inside))

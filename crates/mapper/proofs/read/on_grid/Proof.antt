@@ -50,13 +50,13 @@ slice-aggregate-demap-all c = search needs
 demap-all-requires : tie.Need-demap-all-requires
 demap-all-requires c κs =
     let s = c .before .before .before .before .before in
-    one-needs (s .args .layouts .now) (s .args .xs .now) (s .args .ys .now) (s .args .i) (s .pre .0) (s .pre .1) _ refl
+    one-needs (s .args .layouts .now) (s .args .xs .now) (s .args .ys .now) (s .args .p .0) (s .pre .0) (s .pre .1) _ refl
 
 returns : tie.Need-returns
 returns c =
     let s = c .before .before .before .before .before .before .before in
     let d = c .before .demap-all in
-    one-found (s .args .layouts .now) (s .args .xs .now) (s .args .ys .now) (s .args .i) (s .pre .0) (s .pre .1) (d .last .1 .1 .1 .0) (d .result) (d .ensures)
+    one-found (s .args .layouts .now) (s .args .xs .now) (s .args .ys .now) (s .args .p .0) (s .pre .0) (s .pre .1) (d .last .1 .1 .1 .0) (d .result) (d .ensures)
 
 pub on-grid-spec : {M : Type 1} → statement M
 on-grid-spec =

@@ -5,23 +5,23 @@ use mathlib.Core.Path.{_≡_, refl, _∙_}
 use lib.ListN.{length}
 use denote.Ref.{now}
 use native.Mathlib.Omega.{arith}
-use Rattle.ordering.proofs.Placing.{OnesLeft, ones-start, ones-end, one-room, one-more, one-past}
+use Rattle.ordering.proofs.Placing.{OnesLeft, ones-start, ones-end, one-fits, one-more, one-past}
 use borrow.Author.Needs.{needs}
 use Rattle.ordering.proofs.order.place_ones.Statement.{statement}
 use Rattle.ordering.proofs.order.place_ones.Tie as tie
 
 abbrev Inv-loop : tie.InvT-loop
-Inv-loop bits tones behind reordered-tones₀ one₀ i₀ reordered-tones one i = (length reordered-tones ≡ length reordered-tones₀) × OnesLeft bits tones behind reordered-tones₀ reordered-tones one i
+Inv-loop bits tones reordered-tones₀ one₀ i₀ reordered-tones one i = (length reordered-tones ≡ length reordered-tones₀) × OnesLeft bits tones one₀ reordered-tones₀ reordered-tones one i
 
 abbrev μ-loop : tie.MeasureT-loop
-μ-loop bits tones behind reordered-tones₀ one₀ i₀ reordered-tones one i = length tones - i
+μ-loop bits tones reordered-tones₀ one₀ i₀ reordered-tones one i = length tones - i
 
--- there is room for a 1-bit tone at place i
-room : (c : tie.After-bits-at Inv-loop μ-loop) → c .bits-at .result ≡ 1 → c .before .before .before .loop .one < length (now (c .before .before .before .before .before .before .before .args .reordered-tones))
-room c e =
+-- a 1-bit tone at place i fits
+fits : (c : tie.After-bits-at Inv-loop μ-loop) → c .bits-at .result ≡ 1 → c .before .before .before .loop .one < length (now (c .before .before .before .before .before .before .before .args .reordered-tones))
+fits c e =
     let start = c .before .before .before .before .before .before .before in
     let loop = c .before .before .before .loop in
-    omega (arith, one-room (loop .inv .1) (c .before .tone-at .ensures) (c .bits-at .ensures) (omega arith) e, start .pre)
+    omega (arith, one-fits (loop .inv .1) (c .before .tone-at .ensures) (c .bits-at .ensures) (omega arith) e, start .pre)
 
 loop-holds : tie.Need-loop-holds Inv-loop μ-loop
 loop-holds c = (refl, ones-start)
@@ -40,13 +40,13 @@ put-tone-requires c κs =
     let shared-slice-known2 = c .before .before .before .before .before .before .before .shared-slice-known2 in
     let loop = c .before .before .before .before .before .loop in
     let tone-at = c .before .before .before .tone-at in
-    (omega (arith, room (c .before .before) (c .before .if1 .taken)), omega (arith, tone-at .ensures, shared-slice-known2 .given (loop .i)))
+    (omega (arith, fits (c .before .before) (c .before .if1 .taken)), omega (arith, tone-at .ensures, shared-slice-known2 .given (loop .i)))
 
 add-one : tie.Need-add-one Inv-loop μ-loop
 add-one c =
     let start = c .before .before .before .before .before .before .before .before .before .before .before .before in
     let if1 = c .before .before .before .before .if1 in
-    omega (arith, room (c .before .before .before .before .before) (if1 .taken), start .good)
+    omega (arith, fits (c .before .before .before .before .before) (if1 .taken), start .good)
 
 loop-less : tie.Need-loop-less Inv-loop μ-loop
 loop-less c = omega arith

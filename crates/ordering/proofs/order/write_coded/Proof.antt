@@ -8,7 +8,7 @@ use lib.ListN.{length}
 use denote.Ref.{now}
 use native.Mathlib.Omega.{arith}
 use Rattle.ordering.proofs.Written.{tones-written, bits-written}
-use Rattle.tables.proofs.Counting.{Fits, entries-fit}
+use Rattle.g9932.proofs.Reordering.{Fits, entries-fit}
 use Rattle.ordering.proofs.Placing.{length-singles}
 use Rattle.g9932.proofs.Counts.{length-parts}
 use Rattle.g9932.specs.Order.{oneBit, singles, others}
@@ -41,8 +41,8 @@ place-others-requires c κs =
       below = s .pre .0 .below;
     }
 
-sub-place-ones : tie.Need-sub-place-ones
-sub-place-ones c = within (c .before .before .before .before .before .before .before .before .before .before .before .before .before .before .before)
+sub-fill : tie.Need-sub-fill
+sub-fill c = within (c .before .before .before .before .before .before .before .before .before .before .before .before .before .before .before)
 
 place-ones-requires : tie.Need-place-ones-requires
 place-ones-requires c κs =
@@ -50,8 +50,8 @@ place-ones-requires c κs =
     let s = c .before .before .before .before .before .before .before .before .before .before .before .before .before .before .before .before in
     omega (arith, length-singles (now (s .args .bits)) (now (s .args .tones)), within s, s .pre .0 .onesIs, s .pre .1 .tonesFit, place-others .kept .1 .1 .1 .0)
 
-sub-fill : tie.Need-sub-fill
-sub-fill c = omega (arith, within (c .before .before .before .before .before .before .before .before .before .before .before .before .before .before .before .before .before .before .before .before))
+sub-fill-2 : tie.Need-sub-fill-2
+sub-fill-2 c = omega (arith, within (c .before .before .before .before .before .before .before .before .before .before .before .before .before .before .before .before .before .before .before .before))
 
 fill-requires-2 : tie.Need-fill-requires-2
 fill-requires-2 c κs =
@@ -87,9 +87,9 @@ write-coded-spec =
     (tie.spec
     fill-requires
     place-others-requires
-    sub-place-ones
-    place-ones-requires
     sub-fill
+    place-ones-requires
+    sub-fill-2
     fill-requires-2
     same-length
     same-length-2

@@ -4,7 +4,7 @@ use Prim.Native.Nat.{_-_, _/_}
 use denote.Ref.{now}
 use native.Mathlib.Omega.{arith}
 use Rattle.g9932.specs.Order.{loaded, ones}
-use Rattle.tables.proofs.Counting.{entries-fit}
+use Rattle.g9932.proofs.Reordering.{entries-fit}
 use borrow.Author.Needs.{needs}
 use Rattle.ordering.proofs.order.write_order.Statement.{statement}
 use Rattle.ordering.proofs.order.write_order.Tie as tie
@@ -15,7 +15,7 @@ enum-told c = search needs
 write-uncoded-requires : tie.Need-write-uncoded-requires
 write-uncoded-requires c κs =
     let p = c .before .before .before .before .before .before .before .before .pre in
-    (p .room, p .below)
+    (p .fits, p .below)
 
 enum-told-2 : tie.Need-enum-told-2
 enum-told-2 c = search needs
@@ -40,7 +40,7 @@ write-coded-requires c κs =
     let e = c .before .before .enum-told2 .given .1 in
     let n : a .entries ≡ loaded b t - ones b t / 2 = rw e at (p .entriesAre) in
     let o : a .sharers ≡ ones b t = rw e at (p .sharersAre) in
-    (record { onesIs = o; even = rw (sym o) (p .even); zerosIs = omega (arith, n); below = p .below }, p .room)
+    (record { onesIs = o; even = rw (sym o) (p .even); zerosIs = omega (arith, n); below = p .below }, p .fits)
 
 same-length : tie.Need-same-length
 same-length c = search needs

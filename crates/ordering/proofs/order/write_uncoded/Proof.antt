@@ -4,7 +4,7 @@ use mathlib.Core.List.{List}
 use mathlib.Core.Path.{_≡_, refl, sym, ap, _∙_}
 use Prim.Native.Nat.{ℕ, _+_, _-_, _≤_}
 use denote.Ref.{now}
-use lib.ListN.{length, take, drop, length-set, length-map, drop-of-length-le}
+use lib.ListN.{length, take, drop, length-map, drop-of-length-le}
 use lib.Seq.{sets}
 use native.Mathlib.Omega.{arith}
 use Rattle.g9932.specs.Order.{bitsOf, reorderedTones, reorderedBits}
@@ -39,13 +39,13 @@ put-tone-requires c κs =
 
 bits-of-requires : tie.Need-bits-of-requires Inv-loop μ-loop
 bits-of-requires c κs =
-    let start = c .before .before .before .before .before .before .before .before .before .before .before in
-    let loop = c .before .before .before .before .before .before .loop in
-    let tone-at = c .before .before .before .before .tone-at in
+    let start = c .before .before .before .before .before .before .before .before .before .before .before .before in
+    let loop = c .before .before .before .before .before .before .before .loop in
+    let tone-at = c .before .before .before .before .before .tone-at in
     omega (arith, tone-at .ensures, start .pre .1 (loop .i) (omega arith))
 
-slice-write-reordered-bits : tie.Need-slice-write-reordered-bits Inv-loop μ-loop
-slice-write-reordered-bits c = omega (arith, c .before .before .before .before .before .before .before .before .before .before .before .before .pre .0 .bitsFit)
+put-bits-requires : tie.Need-put-bits-requires Inv-loop μ-loop
+put-bits-requires c κs = omega (arith, c .before .before .before .before .before .before .before .before .before .before .before .before .before .pre .0 .bitsFit)
 
 add-i : tie.Need-add-i Inv-loop μ-loop
 add-i c = search needs
@@ -55,18 +55,19 @@ loop-less c = search needs
 
 loop-again : tie.Need-loop-again Inv-loop μ-loop
 loop-again c =
-    let l = c .before .before .before .before .before .before .before .loop in
-    let b = now (c .before .before .before .before .before .before .before .before .before .before .before .before .args .bits) in
-    let t = now (c .before .before .before .before .before .before .before .before .before .before .before .before .args .tones) in
-    let k = c .before .before .before .before .before .tone-at in
-    let v = c .bits-of in
-    let p = c .before .before .before .put-tone in
+    let l = c .before .before .before .before .before .before .before .before .before .before .before .loop in
+    let b = now (c .before .before .before .before .before .before .before .before .before .before .before .before .before .before .before .before .args .bits) in
+    let t = now (c .before .before .before .before .before .before .before .before .before .before .before .before .before .before .before .before .args .tones) in
+    let k = c .before .before .before .before .before .before .before .before .before .tone-at in
+    let v = c .before .before .before .bits-of in
+    let p = c .before .before .before .before .before .before .before .put-tone in
+    let q = c .before .before .put-bits in
     let f = bits-next b t (l .i) (k .ensures) (v .ensures) (omega arith) in (
       omega arith,
       p .kept .0 ∙ l .inv .1,
-      simp length-set (l .inv .2),
+      q .kept .0 ∙ l .inv .2,
       ap (λ (o : List ℕ). sets o (l .i + 1) (drop (l .i + 1) t)) (p .ensures) ∙ sets-step (l .reordered-tones) (l .i) (k .result .0) (tones-next t (l .i) (k .ensures) (omega arith)) (l .inv .3),
-      sets-step (l .reordered-bits) (l .i) (v .result) f (l .inv .4),
+      ap (λ (o : List ℕ). sets o (l .i + 1) (bitsOf b (drop (l .i + 1) t))) (q .ensures) ∙ sets-step (l .reordered-bits) (l .i) (v .result) f (l .inv .4),
     )
 
 same-length : tie.Need-same-length Inv-loop μ-loop
@@ -99,7 +100,7 @@ write-uncoded-spec =
     tone-at-requires
     put-tone-requires
     bits-of-requires
-    slice-write-reordered-bits
+    put-bits-requires
     add-i
     loop-less
     loop-again

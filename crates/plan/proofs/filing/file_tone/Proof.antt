@@ -75,11 +75,11 @@ mul-monitored c = search needs
 slice-write-monitored : tie.Need-slice-write-monitored
 slice-write-monitored c = search needs
 
-add-t28 : tie.Need-add-t28
-add-t28 c = search needs
+add-t29 : tie.Need-add-t29
+add-t29 c = search needs
 
-add-t31 : tie.Need-add-t31
-add-t31 c = search needs
+add-t33 : tie.Need-add-t33
+add-t33 c = search needs
 
 enum-told-2 : tie.Need-enum-told-2
 enum-told-2 c = search needs
@@ -93,8 +93,8 @@ mul-layouts-4 c = search needs
 slice-write-layouts-3 : tie.Need-slice-write-layouts-3
 slice-write-layouts-3 c = search needs
 
-add-t35 : tie.Need-add-t35
-add-t35 c = search needs
+add-t37 : tie.Need-add-t37
+add-t37 c = search needs
 
 same-length : tie.Need-same-length
 same-length c = search needs
@@ -167,13 +167,13 @@ file-tone-spec =
     cast-monitored
     mul-monitored
     slice-write-monitored
-    add-t28
-    add-t31
+    add-t29
+    add-t33
     enum-told-2
     element-copy-out-layouts-3
     mul-layouts-4
     slice-write-layouts-3
-    add-t35
+    add-t37
     same-length
     same-length-2
     same-length-3

@@ -6,18 +6,20 @@ use Prim.Native.Nat.{_-_, _≤_}
 use lib.ListN.{length, take}
 use lib.Seq.{take-all}
 use native.Mathlib.Omega.{arith}
-use Rattle.g9932.specs.Sizes.{toneOf, entry}
+use Rattle.g9932.specs.Order.{filter}
+use Rattle.g9932.specs.Sizes.{entry}
+use Rattle.g9932.specs.Symbol.{classAt, classesBy}
 use Rattle.g9932.specs.declared.Class.{Class}
-use Rattle.plan.proofs.Steps.{carried, tone-more, one-place, classes-more}
-use Rattle.plan.specs.Plan.{Arrays, Filing, classesBy, isPlaced, only}
+use Rattle.plan.proofs.Steps.{class-bits, tone-more, one-place, classes-more}
+use Rattle.plan.specs.Plan.{Arrays, Filing, isPlaced}
 use borrow.Author.Needs.{needs}
 use Rattle.plan.proofs.filing.file_tones.Statement.{statement}
 use Rattle.plan.proofs.filing.file_tones.Tie as tie
 
 abbrev Inv-loop : tie.InvT-loop
 Inv-loop least bits gains tones table layouts₀ entries₀ places₀ monitored₀ at₀ i₀ layouts entries places monitored at i =
-    (at .place ≤ i) × (i ≤ length tones) × Arrays layouts entries places monitored
-    × Filing least (only (isPlaced least) (classesBy bits gains (take i tones))) at layouts entries places monitored
+    (at .place .0 ≤ i) × (i ≤ length tones) × Arrays layouts entries places monitored
+    × Filing least (filter (isPlaced least) (classesBy bits gains (take i tones))) at layouts entries places monitored
 
 abbrev μ-loop : tie.MeasureT-loop
 μ-loop least bits gains tones table layouts₀ entries₀ places₀ monitored₀ at₀ i₀ layouts entries places monitored at i = length tones - i
@@ -52,7 +54,7 @@ file-tone-requires c κs =
     let l = c .before .before .before .before .before .before .before .before .before .loop in (
       record {
         arrays = l .inv .2;
-        carries = rw (tone-of .ensures) (carried (bits-of .result) (gain-of .result) (rw (bits-of .ensures) (s .pre .0 .bitsMost _)));
+        carries = rw (tone-of .ensures) (class-bits (bits-of .result) (gain-of .result) (rw (bits-of .ensures) (s .pre .0 .bitsMost _)));
         leastIs = s .pre .0 .leastIs;
         placeMost = omega (arith, l .inv .0, s .pre .0 .most);
         entryMost = l .inv .3 .entryMost;
@@ -80,10 +82,10 @@ loop-again c =
     let l = c .before .before .before .before .before .before .before .before .before .before .before .before .before .before .before .before .before .before .loop in
     let f = c .before .before .before .before .before .before .before .before .file-tone in
     let i = c .before .before .before .before .before .before .before .before .before .before .before .before .before .before .before .before .before .loop-test .taken in
-    let cs : List Class = only (isPlaced (a .least)) (classesBy (a .bits .now) (a .gains .now) (take (l .i) (a .tones .now))) in
+    let cs : List Class = filter (isPlaced (a .least)) (classesBy (a .bits .now) (a .gains .now) (take (l .i) (a .tones .now))) in
     let n = entry (a .tones .now) (l .i) in
     let w = rw (tone-of .ensures, bits-of .ensures, gain-of .ensures, tone-at .ensures) at (f .ensures) in
-    let t : Class = toneOf (entry (a .bits .now) n) (entry (a .gains .now) n) .class in
+    let t : Class = classAt (a .bits .now) (a .gains .now) n in
     let g = tone-more (a .least) cs t (l .inv .3) w in
     let arrays : Arrays _ _ _ _ =
     record {

@@ -11,12 +11,12 @@ use Rattle.plan.proofs.filing.share_entries.Statement.{statement}
 use Rattle.plan.proofs.filing.share_entries.Tie as tie
 
 abbrev Inv-loop : tie.InvT-loop
-Inv-loop count from at layout layouts₀ entries₀ places₀ j₀ layouts entries places j =
-    (j ≤ count) × Shares layout from j at layouts₀ entries₀ places₀ layouts entries places
+Inv-loop count shared-from at layout layouts₀ entries₀ places₀ j₀ layouts entries places j =
+    (j ≤ count) × Shares layout (shared-from .0) j at layouts₀ entries₀ places₀ layouts entries places
     × (length layouts ≡ length layouts₀) × (length entries ≡ length entries₀) × (length places ≡ length places₀)
 
 abbrev μ-loop : tie.MeasureT-loop
-μ-loop count from at layout layouts₀ entries₀ places₀ j₀ layouts entries places j = count - j
+μ-loop count shared-from at layout layouts₀ entries₀ places₀ j₀ layouts entries places j = count - j
 
 loop-holds : tie.Need-loop-holds Inv-loop μ-loop
 loop-holds c = (omega arith, share-none, refl, refl, refl)
@@ -25,55 +25,55 @@ mul-p : tie.Need-mul-p Inv-loop μ-loop
 mul-p c = omega (arith, c .before .before .pre .most)
 
 add-p : tie.Need-add-p Inv-loop μ-loop
-add-p c = omega (arith, c .before .before .pre .most)
+add-p c = omega (arith, c .before .before .before .pre .most)
 
 mul-layouts : tie.Need-mul-layouts Inv-loop μ-loop
 mul-layouts c = search needs
 
 slice-write-layouts : tie.Need-slice-write-layouts Inv-loop μ-loop
-slice-write-layouts c = omega (arith, c .before .before .pre .most, c .before .before .pre .layoutsLength, c .before .loop .inv .2)
+slice-write-layouts c = omega (arith, c .before .before .before .pre .most, c .before .before .before .pre .layoutsLength, c .before .before .loop .inv .2)
 
 add-layouts : tie.Need-add-layouts Inv-loop μ-loop
-add-layouts c = omega (arith, c .before .before .pre .most)
+add-layouts c = omega (arith, c .before .before .before .pre .most)
 
 mul-layouts-2 : tie.Need-mul-layouts-2 Inv-loop μ-loop
 mul-layouts-2 c = search needs
 
 slice-write-layouts-2 : tie.Need-slice-write-layouts-2 Inv-loop μ-loop
 slice-write-layouts-2 c =
-    let l = c .before .loop in
-    omega (arith, c .before .before .pre .most, c .before .before .pre .layoutsLength, l .inv .2, length-set (l .layouts) (c .before .before .args .from + 2 * l .j) (c .before .before .args .layout))
+    let l = c .before .before .loop in
+    omega (arith, c .before .before .before .pre .most, c .before .before .before .pre .layoutsLength, l .inv .2, length-set (l .layouts) (c .before .before .before .args .shared-from .0 + 2 * l .j) (c .before .before .before .args .layout))
 
 add-entries : tie.Need-add-entries Inv-loop μ-loop
-add-entries c = omega (arith, c .before .before .pre .most, c .before .before .pre .atMost)
+add-entries c = omega (arith, c .before .before .before .pre .most, c .before .before .before .pre .atMost)
 
 slice-write-entries : tie.Need-slice-write-entries Inv-loop μ-loop
-slice-write-entries c = omega (arith, c .before .before .pre .most, c .before .before .pre .atMost, c .before .before .pre .entriesLength, c .before .loop .inv .3)
+slice-write-entries c = omega (arith, c .before .before .before .pre .most, c .before .before .before .pre .atMost, c .before .before .before .pre .entriesLength, c .before .before .loop .inv .3)
 
 cast-places : tie.Need-cast-places Inv-loop μ-loop
-cast-places c = record { fits = omega (arith, c .before .before .pre .most) }
+cast-places c = record { fits = omega (arith, c .before .before .before .pre .most) }
 
 add-places : tie.Need-add-places Inv-loop μ-loop
-add-places c = omega (arith, c .before .before .pre .most, c .before .before .pre .atMost)
+add-places c = omega (arith, c .before .before .before .pre .most, c .before .before .before .pre .atMost)
 
 mul-places : tie.Need-mul-places Inv-loop μ-loop
 mul-places c = search needs
 
 slice-write-places : tie.Need-slice-write-places Inv-loop μ-loop
-slice-write-places c = omega (arith, c .before .before .pre .most, c .before .before .pre .atMost, c .before .before .pre .placesLength, c .before .loop .inv .4)
+slice-write-places c = omega (arith, c .before .before .before .pre .most, c .before .before .before .pre .atMost, c .before .before .before .pre .placesLength, c .before .before .loop .inv .4)
 
 add-j : tie.Need-add-j Inv-loop μ-loop
-add-j c = omega (arith, c .before .before .pre .most)
+add-j c = omega (arith, c .before .before .before .pre .most)
 
 loop-less : tie.Need-loop-less Inv-loop μ-loop
 loop-less c = omega arith
 
 loop-again : tie.Need-loop-again Inv-loop μ-loop
 loop-again c =
-    let s = c .before .before in
+    let s = c .before .before .before in
     let a = s .args in
-    let l = c .before .loop in
-    let p = a .from + 2 * l .j in
+    let l = c .before .before .loop in
+    let p = a .shared-from .0 + 2 * l .j in
     let k = length-set (l .layouts) p (a .layout) in (
       omega arith,
       share-more (l .inv .1) (omega (arith, s .pre .most, s .pre .layoutsLength, l .inv .2)) (omega (arith, s .pre .most, s .pre .atMost, s .pre .entriesLength, l .inv .3)) (omega (arith, s .pre .most, s .pre .atMost, s .pre .placesLength, l .inv .4)),

@@ -21,19 +21,20 @@ abbrev μ-loop : tie.MeasureT-loop
 μ-loop rule bits gains tones seen i₀ i = length bits - i
 
 -- the test at index i, from the mark, the bits and the gain that were read
-tested : (c : tie.After-breaks Inv-loop μ-loop) → let a = c .before .before .before .before .before .before .before .before .before .args in ruleTest (a .rule) (now (a .bits)) (now (a .gains)) (now (a .tones)) (c .before .before .before .before .before .loop .i) ≡ c .breaks .result
+tested : (c : tie.After-rule-applies Inv-loop μ-loop) → let a = c .before .before .before .before .before .before .before .before .before .args in ruleTest (a .rule) (now (a .bits)) (now (a .gains)) (now (a .tones)) (c .before .before .before .before .before .loop .i) ≡ c .rule-applies .result
 tested c =
     let start = c .before .before .before .before .before .before .before .before .before in
     let loop = c .before .before .before .before .before .loop in
+    let is-marked = c .before .before .before .is-marked in
     let bits-at = c .before .before .bits-at in
     let a = c .before .before .before .before .before .before .before .before .before .args in
-    test-at (ruleBy (a .rule)) (c .breaks .ensures) (start .pre .1 (loop .i) (omega arith)) (bits-at .ensures) (c .before .gain-at .ensures)
+    test-at (ruleBy (a .rule)) (c .rule-applies .ensures) (is-marked .ensures ∙ start .pre .1 (loop .i) (omega arith)) (bits-at .ensures) (c .before .gain-at .ensures)
 
 loop-holds : tie.Need-loop-holds Inv-loop μ-loop
 loop-holds c = (omega arith, first-none _)
 
-element-copy-out-breaks : tie.Need-element-copy-out-breaks Inv-loop μ-loop
-element-copy-out-breaks c = search needs
+is-marked-requires : tie.Need-is-marked-requires Inv-loop μ-loop
+is-marked-requires c κs = omega arith
 
 bits-at-requires : tie.Need-bits-at-requires Inv-loop μ-loop
 bits-at-requires c κs = search needs
@@ -41,8 +42,8 @@ bits-at-requires c κs = search needs
 gain-at-requires : tie.Need-gain-at-requires Inv-loop μ-loop
 gain-at-requires c κs = search needs
 
-breaks-requires : tie.Need-breaks-requires Inv-loop μ-loop
-breaks-requires c κs = search needs
+rule-applies-requires : tie.Need-rule-applies-requires Inv-loop μ-loop
+rule-applies-requires c κs = search needs
 
 returns : tie.Need-returns Inv-loop μ-loop
 returns c = first-at _ _ _ (c .before .before .before .before .before .before .loop .inv .1) (tested (c .before) ∙ c .if1 .taken) (omega arith)
@@ -66,10 +67,10 @@ first-index-spec =
     Inv-loop
     μ-loop
     loop-holds
-    element-copy-out-breaks
+    is-marked-requires
     bits-at-requires
     gain-at-requires
-    breaks-requires
+    rule-applies-requires
     returns
     add-i
     loop-less

@@ -41,14 +41,14 @@ loop-holds c = (omega arith, first-none _, ap length (c .before .pre .0) ∙ len
 tone-at-requires : tie.Need-tone-at-requires Inv-loop μ-loop
 tone-at-requires c κs = search needs
 
-element-copy-out-if1 : tie.Need-element-copy-out-if1 Inv-loop μ-loop
-element-copy-out-if1 c = omega (arith, below c)
+is-marked-requires : tie.Need-is-marked-requires Inv-loop μ-loop
+is-marked-requires c κs = below (c .before)
 
 returns : tie.Need-returns Inv-loop μ-loop
-returns c = first-at _ _ _ (c .before .before .before .before .loop .inv .1) (marked (c .before .before) ∙ c .if1 .taken) (omega arith)
+returns c = first-at _ _ _ (c .before .before .before .before .before .loop .inv .1) (marked (c .before .before .before) ∙ sym (c .before .is-marked .ensures) ∙ c .if1 .taken) (omega arith)
 
-element-write-seen : tie.Need-element-write-seen Inv-loop μ-loop
-element-write-seen c = omega (arith, below (c .before .before))
+mark-requires : tie.Need-mark-requires Inv-loop μ-loop
+mark-requires c κs = below (c .before .before .before .before)
 
 add-i : tie.Need-add-i Inv-loop μ-loop
 add-i c = search needs
@@ -58,12 +58,15 @@ loop-less c = search needs
 
 loop-again : tie.Need-loop-again Inv-loop μ-loop
 loop-again c =
-    let k = c .before .before in
+    let mark = c .mark in
+    let if1 = c .before .before .if1 in
+    let is-marked = c .before .before .before .is-marked in
+    let k = c .before .before .before .before .before in
     let l = k .before .before .loop in (
       omega arith,
-      first-more _ _ (l .inv .1) (marked k ∙ c .if1 .left),
-      simp length-set (l .inv .2),
-      marks-more (now (k .before .before .before .before .args .tones)) (l .i) (l .seen) (l .inv .3) (k .tone-at .ensures) (l .inv .2) (omega arith) (below k),
+      first-more _ _ (l .inv .1) (marked k ∙ sym (is-marked .ensures) ∙ if1 .left),
+      rw (mark .ensures) (simp length-set (l .inv .2)),
+      rw (mark .ensures) (marks-more (now (k .before .before .before .before .args .tones)) (l .i) (l .seen) (l .inv .3) (k .tone-at .ensures) (l .inv .2) (omega arith) (below k)),
     )
 
 returns-2 : tie.Need-returns-2 Inv-loop μ-loop
@@ -77,9 +80,9 @@ first-repeat-spec =
     μ-loop
     loop-holds
     tone-at-requires
-    element-copy-out-if1
+    is-marked-requires
     returns
-    element-write-seen
+    mark-requires
     add-i
     loop-less
     loop-again

@@ -24,8 +24,8 @@ loop-holds c = (omega arith, refl)
 tone-at-requires : tie.Need-tone-at-requires Inv-loop μ-loop
 tone-at-requires c κs = search needs
 
-element-write-seen : tie.Need-element-write-seen Inv-loop μ-loop
-element-write-seen c = omega (arith, c .tone-at .ensures, c .before .before .before .before .pre (c .before .before .loop .i) (omega arith))
+mark-requires : tie.Need-mark-requires Inv-loop μ-loop
+mark-requires c κs = omega (arith, c .tone-at .ensures, c .before .before .before .before .before .pre (c .before .before .before .loop .i) (omega arith))
 
 add-i : tie.Need-add-i Inv-loop μ-loop
 add-i c = search needs
@@ -35,8 +35,9 @@ loop-less c = search needs
 
 loop-again : tie.Need-loop-again Inv-loop μ-loop
 loop-again c =
-    let l = c .before .before .loop in
-    (omega arith, marked-step (l .seen) (tones-next (now (c .before .before .before .before .args .tones)) (l .i) (c .tone-at .ensures) (omega arith)) (l .inv .1))
+    let l = c .before .before .before .before .loop in
+    let tones = now (c .before .before .before .before .before .before .args .tones) in
+    (omega arith, rw (c .mark .ensures) (marked-step (l .seen) (tones-next tones (l .i) (c .before .tone-at .ensures) (omega arith)) (l .inv .1)))
 
 returns : tie.Need-returns Inv-loop μ-loop
 returns c = marked-done (c .before .loop .seen) (drop-of-length-le (now (c .before .before .before .args .tones)) {i = c .before .loop .i} (omega arith)) (c .before .loop .inv .1)
@@ -49,7 +50,7 @@ mark-tones-spec =
     μ-loop
     loop-holds
     tone-at-requires
-    element-write-seen
+    mark-requires
     add-i
     loop-less
     loop-again

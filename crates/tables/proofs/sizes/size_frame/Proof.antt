@@ -1,7 +1,7 @@
 -- `tables::sizes::size_frame` meets its contract: the counts of the tones decide 7, 8 and L, and 9 never applies.
 use mathlib.Core.Path.{refl}
 use native.Mathlib.Omega.{arith}
-use Rattle.tables.proofs.Modes.{uncoded-verdict, coded-odd, coded-few, coded-done, half-loaded, coded-within, coded-room}
+use Rattle.tables.proofs.Modes.{uncoded-verdict, coded-odd, coded-few, coded-done, half-loaded, coded-within, coded-fits}
 use Rattle.tables.proofs.Pairs.{no-pair}
 use borrow.Author.Needs.{needs}
 use Rattle.tables.proofs.sizes.size_frame.Statement.{statement}
@@ -37,12 +37,12 @@ add-t7 c =
 sub-t12 : tie.Need-sub-t12
 sub-t12 c =
     let k = c .before .before .before .before .before .before .before .before .count-tones .ensures in
-    omega (arith, coded-room k (c .before .before .before .before .if1 .left) (c .before .if2 .left))
+    omega (arith, coded-fits k (c .before .before .before .before .if1 .left) (c .before .if2 .left))
 
 sub-t13 : tie.Need-sub-t13
 sub-t13 c =
     let k = c .before .before .before .before .before .before .before .before .count-tones .ensures in
-    omega (arith, coded-room k (c .before .before .before .before .if1 .left) (c .before .if2 .left))
+    omega (arith, coded-fits k (c .before .before .before .before .if1 .left) (c .before .if2 .left))
 
 returns-3 : tie.Need-returns-3
 returns-3 c =

@@ -3,7 +3,7 @@ use mathlib.Core.Path.{sym, ap, _∙_}
 use Rattle.g9932.proofs.Verdicts.{and-accepted}
 use Rattle.g9932.specs.Answers.{verdictOf}
 use Rattle.g9932.specs.Refusals.{tableVerdict}
-use Rattle.tables.proofs.Answers.{lists-medley, lists-refused}
+use Rattle.tables.proofs.Answers.{lists-pass, lists-refused}
 use borrow.Author.Needs.{needs}
 use Rattle.tables.proofs.sizes.size_tables.Statement.{statement}
 use Rattle.tables.proofs.sizes.size_tables.Tie as tie
@@ -18,7 +18,7 @@ enum-told : tie.Need-enum-told
 enum-told c = search needs
 
 size-frame-requires : tie.Need-size-frame-requires
-size-frame-requires c κs = lists-medley _ _ _ (ap verdictOf (sym (c .enum-told .given .1)) ∙ c .before .before .check-lists .ensures)
+size-frame-requires c κs = lists-pass _ _ _ (ap verdictOf (sym (c .enum-told .given .1)) ∙ c .before .before .check-lists .ensures)
 
 returns : tie.Need-returns
 returns c =

@@ -1,7 +1,7 @@
--- `tables::lists::breaks` meets its contract, by the rule.
+-- `tables::lists::rule_applies` meets its contract, by the rule.
 use borrow.Author.Needs.{needs}
-use Rattle.tables.proofs.lists.breaks.Statement.{statement}
-use Rattle.tables.proofs.lists.breaks.Tie as tie
+use Rattle.tables.proofs.lists.rule_applies.Statement.{statement}
+use Rattle.tables.proofs.lists.rule_applies.Tie as tie
 
 enum-told : tie.Need-enum-told
 enum-told c = search needs
@@ -27,7 +27,7 @@ returns-2 c = rw (c .before .enum-told2 .given .1) (c .is-stray .ensures)
 returns-3 : tie.Need-returns-3
 returns-3 c = rw (c .before .enum-told3 .given .1) (c .is-wrong-gain .ensures)
 
-pub breaks-spec : {M : Type 1} → statement M
-breaks-spec =
+pub rule-applies-spec : {M : Type 1} → statement M
+rule-applies-spec =
     tie.close
     (tie.spec enum-told enum-told-2 is-stray-requires enum-told-3 is-wrong-gain-requires returns returns-2 returns-3)
