@@ -1,6 +1,6 @@
 -- The steps of `point_by`: a label lifted to the top of sixteen bits, its word there, and the bits of X and Y scaled back.
 use Prim.Native.Nat.{ℕ, zero, suc, _+_, _-_, _*_, _/_, _%_, _^_, _≤_, _<_}
-use mathlib.Core.Bool.{Bool, true, false, not, cond}
+use mathlib.Core.Bool.{Bool, true, false, cond}
 use mathlib.Core.List.{List, _++_, map}
 use mathlib.Core.Path.{_≡_, refl, sym, ap, ap₂, _∙_}
 use native.Mathlib.Nat.{mul-zero, mul-one, mul-comm, mul-assoc, add-mul, add-comm, mul-le-mul-left, mul-le-mul-right, mod-lt, pow-suc}

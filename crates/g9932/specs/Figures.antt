@@ -6,7 +6,7 @@ use lib.IntN.{ℤ, pos}
 use Rattle.g9932.specs.Sizes.{Tables, tables, minus, point}
 use Rattle.g9932.specs.Refusals.{accepted, tableVerdict}
 use Rattle.g9932.specs.Filler.{resetRegister}
-use Rattle.g9932.specs.Symbol.{orderOf, bitsIn}
+use Rattle.g9932.specs.Symbol.{reorderedTonesOf, reorderedBitsOf}
 use Rattle.g9932.specs.Answers.{Report, Encoded, encodeOf, readOf, toneDone, mapLabel}
 use Rattle.g9932.specs.declared.Mode.the-variants.{Coded}
 
@@ -41,8 +41,8 @@ abbrev pub points0 : List ℤ
 points0 = pos 1 ∷ pos 1 ∷ pos 1 ∷ minus 1 ∷ pos 1 ∷ pos 1 ∷ []
 
 pub record MarkedFigures : Type 0 where
-  pub tones : orderOf (tableA 512) ≡ 7 ∷ 5 ∷ 2 ∷ 4 ∷ 3 ∷ 6 ∷ []
-  pub reorderedBits : bitsIn (tableA 512) ≡ 0 ∷ 0 ∷ 4 ∷ 2 ∷ 3 ∷ 2 ∷ []
+  pub tones : reorderedTonesOf (tableA 512) ≡ 7 ∷ 5 ∷ 2 ∷ 4 ∷ 3 ∷ 6 ∷ []
+  pub reorderedBits : reorderedBitsOf (tableA 512) ≡ 0 ∷ 0 ∷ 4 ∷ 2 ∷ 3 ∷ 2 ∷ []
   pub size : tableVerdict (tableA 512) ≡ accepted 5
   pub byte0 : encoding (tableA 512) 0 ≡ record { report = done 5 2_097_151; xs = points0; ys = points0 }
   pub byte1 :

@@ -14,7 +14,7 @@ use Rattle.g9932.specs.Order.{Pair, sum, count, filter, isOne, bitsOf, singles,
 use Rattle.g9932.specs.Trellis.{zeroState, taken, takenTotal, lowBits, wordOf, nextOf, wordAt, encodePairs, sentOf}
 use Rattle.g9932.specs.Points.{pointOf}
 use Rattle.g9932.specs.Filler.{registerAfter}
-use Rattle.g9932.specs.Symbol.{classAt, classesBy, orderOf, classesOf, pairsIn, sizeOf, sentIn, writePoints, writtenPoints}
+use Rattle.g9932.specs.Symbol.{classAt, classesBy, reorderedTonesOf, classesOf, pairsIn, sizeOf, sentIn, writePoints, writtenPoints}
 use Rattle.g9932.specs.declared.Class.{Class}
 use Rattle.g9932.specs.declared.Class.the-variants.{Data}
 use Rattle.g9932.specs.declared.Mode.{Mode}
@@ -156,7 +156,7 @@ module _ (T : Tables) (ok : AcceptedTables T) (m : T .mode ≡ Coded) (f : List 
       omega (
         arith,
         length-order (T .bits) (T .tones) (T .mode),
-        length-map (orderOf T) (classAt (T .bits) (T .gains)),
+        length-map (reorderedTonesOf T) (classAt (T .bits) (T .gains)),
         ap length classes-coded,
         length-append before (replicate (oneBitTones T) (Data 1)),
         length-replicate {A = Class} (oneBitTones T) (Data 1),

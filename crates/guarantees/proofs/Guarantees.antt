@@ -16,7 +16,7 @@ use Rattle.g9932.specs.Order.{sum, count, filter, oneBit, bitsOf, entryCount, e
 use Rattle.g9932.specs.Trellis.{Word, zeroState, lowBits, lowBitsOf, sentBits}
 use Rattle.g9932.specs.Points.{pointOf, negated}
 use Rattle.g9932.specs.Filler.{nextRegister, drawn, registerAfter}
-use Rattle.g9932.specs.Symbol.{orderOf, bitsIn, classesOf, pairsIn, sizeOf, sentIn, writtenPoints, firstMonitored}
+use Rattle.g9932.specs.Symbol.{reorderedTonesOf, reorderedBitsOf, classesOf, pairsIn, sizeOf, sentIn, writtenPoints, firstMonitored}
 use Rattle.g9932.specs.Answers.{reorderOf, encodeOf, Read, readOf, toneDone, mapLabel, readPoint}
 use Rattle.g9932.specs.Figures.{MarkedFigures}
 use Rattle.g9932.specs.declared.Found.the-variants.{At, Nothing}
@@ -116,39 +116,39 @@ refused-checking T = Verdicts.table-size T .none
 -- Coded, the bits on the tones number the frame's bits, one per coded pair, and four (sum of bits = L + P + 4);
 -- uncoded, the frame's bits alone.
 module _ (T : Tables) (ok : AcceptedTables T) where
-  pub bits-coded : T .mode ≡ Coded → sum (bitsOf (T .bits) (orderOf T)) ≡ sizeOf T + length (pairsIn T) + 4
+  pub bits-coded : T .mode ≡ Coded → sum (bitsOf (T .bits) (reorderedTonesOf T)) ≡ sizeOf T + length (pairsIn T) + 4
   bits-coded = Totals.bits-coded T ok
 
-  pub bits-uncoded : T .mode ≡ Uncoded → sum (bitsOf (T .bits) (orderOf T)) ≡ sizeOf T
+  pub bits-uncoded : T .mode ≡ Uncoded → sum (bitsOf (T .bits) (reorderedTonesOf T)) ≡ sizeOf T
   bits-uncoded = Totals.bits-uncoded T ok
 
   -- and as many are sent for an accepted frame
-  pub bits-sent : (f : List ℕ) → AcceptedFrame T f → length (sentIn T f) ≡ sum (bitsOf (T .bits) (orderOf T))
+  pub bits-sent : (f : List ℕ) → AcceptedFrame T f → length (sentIn T f) ≡ sum (bitsOf (T .bits) (reorderedTonesOf T))
   bits-sent = Totals.bits-sent T ok
 
   -- ---- re-ordering
 
   -- t' is a re-arrangement of t
-  pub rearranged : (k : ℕ) → count (eqb k) (orderOf T) ≡ count (eqb k) (T .tones)
+  pub rearranged : (k : ℕ) → count (eqb k) (reorderedTonesOf T) ≡ count (eqb k) (T .tones)
   rearranged k = Reordering.count-order (T .bits) (T .tones) (T .mode) (eqb k)
 
   -- 1-bit tones stay in t order among themselves, and so do the others; coded, the 1-bit tones have the last places
-  pub singles-in-order : filter (oneBit (T .bits)) (orderOf T) ≡ filter (oneBit (T .bits)) (T .tones)
+  pub singles-in-order : filter (oneBit (T .bits)) (reorderedTonesOf T) ≡ filter (oneBit (T .bits)) (T .tones)
   singles-in-order = Reordering.singles-kept (T .bits) (T .tones) (T .mode)
 
-  pub others-in-order : filter (λ k. not (oneBit (T .bits) k)) (orderOf T) ≡ filter (λ k. not (oneBit (T .bits) k)) (T .tones)
+  pub others-in-order : filter (λ k. not (oneBit (T .bits) k)) (reorderedTonesOf T) ≡ filter (λ k. not (oneBit (T .bits) k)) (T .tones)
   others-in-order = Reordering.others-kept (T .bits) (T .tones) (T .mode)
 
-  pub singles-last : T .mode ≡ Coded → count (oneBit (T .bits)) (take (length (T .tones) - oneBitTones T) (orderOf T)) ≡ 0
+  pub singles-last : T .mode ≡ Coded → count (oneBit (T .bits)) (take (length (T .tones) - oneBitTones T) (reorderedTonesOf T)) ≡ 0
   singles-last m = rw m (Reordering.singles-last (T .bits) (T .tones))
 
   -- b' sums to the bits of b
-  pub bits-kept : sum (bitsIn T) ≡ sum (T .bits)
+  pub bits-kept : sum (reorderedBitsOf T) ≡ sum (T .bits)
   bits-kept = Totals.bits-kept T ok
 
   -- t', b' and the points have NSC entries each
   pub lengths : (r : ℕ) (f : List ℕ)
-      → (length (orderOf T) ≡ length (T .tones)) × (length (bitsIn T) ≡ length (T .tones)) × (length (writtenPoints T r f) ≡ length (T .tones))
+      → (length (reorderedTonesOf T) ≡ length (T .tones)) × (length (reorderedBitsOf T) ≡ length (T .tones)) × (length (writtenPoints T r f) ≡ length (T .tones))
   lengths = Totals.lengths T ok
 
   -- N is counted in b' as document 01 works it out of the tones, and P pairs are cut

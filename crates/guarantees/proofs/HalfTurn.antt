@@ -16,7 +16,7 @@ use Rattle.g9932.specs.Refusals.{Verdict, refused}
 use Rattle.g9932.specs.Order.{count, isOne, ones, entries, reorderedBits}
 use Rattle.g9932.specs.Trellis.{zeroState, encodePairs, frame, readPairs, takenTotal}
 use Rattle.g9932.specs.Points.{negated}
-use Rattle.g9932.specs.Symbol.{classesOf, orderOf, pairsIn, sizeOf, writtenPoints, offgridTest, monitorTest, gatherBits, readingIn, firstMonitored}
+use Rattle.g9932.specs.Symbol.{classesOf, reorderedTonesOf, pairsIn, sizeOf, writtenPoints, offgridTest, monitorTest, gatherBits, readingIn, firstMonitored}
 use Rattle.g9932.specs.Answers.{reportBy, breakIn, pointsVerdict, Read, readOf}
 use Rattle.g9932.specs.declared.Class.{Class}
 use Rattle.g9932.specs.declared.Class.the-variants.{Data, Monitored, Silent}
@@ -79,7 +79,7 @@ module _ (T : Tables) (a : Accepted T) (m : T .mode ≡ Coded) (r : ℕ) (f : Li
   g = frameBits (sizeOf T) f
 
   none : (k : ℕ) → k < length (classesOf T) → leaves halfPoint (getD (classesOf T) k Silent) ≡ false
-  none = none-leaves (classesOf T) (loaded-classes (T .bits) (T .gains) (orderOf T))
+  none = none-leaves (classesOf T) (loaded-classes (T .bits) (T .gains) (reorderedTonesOf T))
 
   no-13 : (k : ℕ) → k < length (classesOf T) → offgridTest (classesOf T) q k ≡ false
   no-13 k h = off-13 halfPoint T a m r f ok k h ∙ none k h

@@ -16,7 +16,7 @@ use Rattle.g9932.specs.Order.{bitsOf, ones, reorderedTones}
 use Rattle.g9932.specs.Trellis.{zeroState, encodePairs, readPairs, sentOf, readingOf}
 use Rattle.g9932.specs.Points.{pointOf, samePoint, labelOf}
 use Rattle.g9932.specs.Filler.{drawn, afterDraws, draws, registerAfter}
-use Rattle.g9932.specs.Symbol.{classesBy, orderOf, classesOf, isMonitored, firstMonitored, pairsIn, sizeOf, load, tonePoint, writePoints, sentIn, writtenPoints, inConstellation, isFiller, offgridTest, monitorTest, toneBits, gatherBits, readingIn}
+use Rattle.g9932.specs.Symbol.{classesBy, reorderedTonesOf, classesOf, isMonitored, firstMonitored, pairsIn, sizeOf, load, tonePoint, writePoints, sentIn, writtenPoints, inConstellation, isFiller, offgridTest, monitorTest, toneBits, gatherBits, readingIn}
 use Rattle.g9932.specs.declared.Class.{Class}
 use Rattle.g9932.specs.declared.Class.the-variants.{Data, Monitored, Silent}
 use Rattle.g9932.specs.declared.Mode.{Mode}
@@ -152,7 +152,7 @@ module _ (turn : PointTurn) where
 
     pub off-13 : (k : ℕ) → k < length (classesOf T) → offgridTest (classesOf T) q k ≡ leaves (getD (classesOf T) k Silent)
     unfolding writtenPoints
-    off-13 = symbol-off r (classesOf T) (sentIn T f) (loaded-classes (T .bits) (T .gains) (orderOf T)) (length-sentIn T a r f ok)
+    off-13 = symbol-off r (classesOf T) (sentIn T f) (loaded-classes (T .bits) (T .gains) (reorderedTonesOf T)) (length-sentIn T a r f ok)
 
     pub at-14 : first (monitorTest r (classesOf T) q) (length (T .tones)) ≡ firstMonitored T
     unfolding writtenPoints
@@ -169,7 +169,7 @@ module _ (turn : PointTurn) where
       decoded-turned =
           symbol-bits r (classesOf T) (sentIn T f) none (length-sentIn T a r f ok)
           ∙ ap (λ (ns : List ℕ). turnedLabels word ns (sentIn T f))
-          (load-classes (T .bits) (T .gains) (orderOf T) ∙ ap (λ (n : Mode). bitsOf (T .bits) (reorderedTones n (T .bits) (T .tones))) m)
+          (load-classes (T .bits) (T .gains) (reorderedTonesOf T) ∙ ap (λ (n : Mode). bitsOf (T .bits) (reorderedTones n (T .bits) (T .tones))) m)
           ∙ tones-pairs (turn .labels) (T .bits) (T .tones) (c .onesEven) twos (sentIn T f) (length-sentIn T a r f ok ∙ loads-sum T)
           ∙ ap₂ (turnedBits word) (sym (c .pairs)) (ap (λ (n : Mode). sentOf n (pairsIn T) g) m)
 

@@ -12,7 +12,7 @@ use Rattle.g9932.specs.Refusals.{tableVerdict, frameTest, seedTest}
 use Rattle.g9932.specs.Order.{Pair, count, ones}
 use Rattle.g9932.specs.Trellis.{Word, zeroState, lastTwo, taken, lowBitsOf, nextOf, wordAt}
 use Rattle.g9932.specs.Filler.{resetRegister, drawn}
-use Rattle.g9932.specs.Symbol.{bitsIn, pairsIn, sizeOf}
+use Rattle.g9932.specs.Symbol.{reorderedBitsOf, pairsIn, sizeOf}
 use Rattle.g9932.specs.declared.TrellisState.{TrellisState}
 
 -- Tables are accepted in a mode when none of 1 to 9 applies, a frame of bytes when 11 doesn't. A register is valid when 12 doesn't
@@ -41,7 +41,7 @@ pub record Ready (T : Tables) (r : ℕ) (xs ys : List ℤ) (f : List ℕ) : Type
 
 -- The count of non-zero re-ordered entries is N. The 0 put in front of an odd count isn't in it.
 abbrev pub nonZero : Tables → ℕ
-nonZero T = count (ltb 0) (bitsIn T)
+nonZero T = count (ltb 0) (reorderedBitsOf T)
 
 -- Half a turn puts (−X, −Y) for (X, Y) at every place in t', whatever the tone's class: on each of the two lists.
 abbrev pub turned : List ℤ → List ℤ

@@ -6,14 +6,8 @@ use borrow.Author.Needs.{needs}
 use Rattle.clevisroot.proofs.answered.Statement.{statement}
 use Rattle.clevisroot.proofs.answered.Tie as tie
 
-enum-known-answer : tie.Need-enum-known-answer
-enum-known-answer c = search needs
-
 cast-t7 : tie.Need-cast-t7
 cast-t7 c = omega (arith, small-answer (c .before .answer .given .1) (c .before .before .before .pre) .sizeMost refl)
-
-enum-known-answer-2 : tie.Need-enum-known-answer-2
-enum-known-answer-2 c = search needs
 
 refuse-requires : tie.Need-refuse-requires
 refuse-requires c κs = small-answer (c .before .answer2 .given .1) (c .before .before .before .pre) .placeMost
@@ -27,4 +21,4 @@ returns-2 c = reported-as (c .before .before .answer2 .given .1) (c .refuse .ens
 pub answered-spec : {M : Type 1} → statement M
 answered-spec =
     tie.close
-    (tie.spec enum-known-answer cast-t7 enum-known-answer-2 refuse-requires returns returns-2)
+    (tie.spec (λ c. search needs) cast-t7 (λ c. search needs) refuse-requires returns returns-2)

@@ -4,12 +4,6 @@ use borrow.Author.Needs.{needs}
 use Rattle.clevisroot.proofs.clevisroot_check.Statement.{statement}
 use Rattle.clevisroot.proofs.clevisroot_check.Tie as tie
 
-mode-of-requires : tie.Need-mode-of-requires
-mode-of-requires c κs = search needs
-
-check-tables-requires : tie.Need-check-tables-requires
-check-tables-requires c κs = search needs
-
 checked-requires : tie.Need-checked-requires
 checked-requires c κs =
     let start = c .before .before .before .before .before in
@@ -23,4 +17,4 @@ returns c =
 
 pub clevisroot-check-spec : {M : Type 1} → statement M
 clevisroot-check-spec =
-    tie.close (tie.spec mode-of-requires check-tables-requires checked-requires returns)
+    tie.close (tie.spec (λ c κs. search needs) (λ c κs. search needs) checked-requires returns)

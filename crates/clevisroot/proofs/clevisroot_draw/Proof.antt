@@ -7,21 +7,6 @@ use borrow.Author.Needs.{needs}
 use Rattle.clevisroot.proofs.clevisroot_draw.Statement.{statement}
 use Rattle.clevisroot.proofs.clevisroot_draw.Tie as tie
 
-draw-requires : tie.Need-draw-requires
-draw-requires c κs = search needs
-
-enum-known-drawn : tie.Need-enum-known-drawn
-enum-known-drawn c = search needs
-
-cast-t8 : tie.Need-cast-t8
-cast-t8 c = search needs
-
-enum-known-drawn-2 : tie.Need-enum-known-drawn-2
-enum-known-drawn-2 c = search needs
-
-number-of-requires : tie.Need-number-of-requires
-number-of-requires c κs = search needs
-
 returns : tie.Need-returns
 returns c = rw (byte-weight (c .before .drawn .given .0 .0)) (ap drawAnswered (sym (ap drawnOf (c .before .drawn .given .1)) ∙ c .before .before .before .draw .ensures))
 
@@ -32,10 +17,10 @@ pub clevisroot-draw-spec : {M : Type 1} → statement M
 clevisroot-draw-spec =
     tie.close
     (tie.spec
-    draw-requires
-    enum-known-drawn
-    cast-t8
-    enum-known-drawn-2
-    number-of-requires
+    (λ c κs. search needs)
+    (λ c. search needs)
+    (λ c. search needs)
+    (λ c. search needs)
+    (λ c κs. search needs)
     returns
     returns-2)

@@ -9,18 +9,6 @@ use borrow.Author.Needs.{needs}
 use Rattle.clevisroot.proofs.clevisroot_map_label.Statement.{statement}
 use Rattle.clevisroot.proofs.clevisroot_map_label.Tie as tie
 
-map-label-requires : tie.Need-map-label-requires
-map-label-requires c κs = search needs
-
-enum-known-mapped : tie.Need-enum-known-mapped
-enum-known-mapped c = search needs
-
-enum-known-mapped-2 : tie.Need-enum-known-mapped-2
-enum-known-mapped-2 c = search needs
-
-number-of-requires : tie.Need-number-of-requires
-number-of-requires c κs = search needs
-
 returns : tie.Need-returns
 returns c =
     let map-label = c .before .before .before .map-label in
@@ -33,9 +21,9 @@ pub clevisroot-map-label-spec : {M : Type 1} → statement M
 clevisroot-map-label-spec =
     tie.close
     (tie.spec
-    map-label-requires
-    enum-known-mapped
-    enum-known-mapped-2
-    number-of-requires
+    (λ c κs. search needs)
+    (λ c. search needs)
+    (λ c. search needs)
+    (λ c κs. search needs)
     returns
     returns-2)

@@ -8,18 +8,6 @@ use borrow.Author.Needs.{needs}
 use Rattle.clevisroot.proofs.clevisroot_read_point.Statement.{statement}
 use Rattle.clevisroot.proofs.clevisroot_read_point.Tie as tie
 
-read-point-requires : tie.Need-read-point-requires
-read-point-requires c κs = search needs
-
-enum-known-labelled : tie.Need-enum-known-labelled
-enum-known-labelled c = search needs
-
-enum-known-labelled-2 : tie.Need-enum-known-labelled-2
-enum-known-labelled-2 c = search needs
-
-number-of-requires : tie.Need-number-of-requires
-number-of-requires c κs = search needs
-
 returns : tie.Need-returns
 returns c =
     let start = c .before .before .before .before in
@@ -37,9 +25,9 @@ pub clevisroot-read-point-spec : {M : Type 1} → statement M
 clevisroot-read-point-spec =
     tie.close
     (tie.spec
-    read-point-requires
-    enum-known-labelled
-    enum-known-labelled-2
-    number-of-requires
+    (λ c κs. search needs)
+    (λ c. search needs)
+    (λ c. search needs)
+    (λ c κs. search needs)
     returns
     returns-2)

@@ -4,20 +4,8 @@ use borrow.Author.Needs.{needs}
 use Rattle.clevisroot.proofs.clevisroot_reorder.Statement.{statement}
 use Rattle.clevisroot.proofs.clevisroot_reorder.Tie as tie
 
-mode-of-requires : tie.Need-mode-of-requires
-mode-of-requires c κs = search needs
-
-reorder-requires : tie.Need-reorder-requires
-reorder-requires c κs = search needs
-
 checked-requires : tie.Need-checked-requires
 checked-requires c κs = order-small _ _ _ (c .before .before .before .before .before .before .before .mode-of .ensures) (c .before .before .before .before .reorder .ensures)
-
-same-length : tie.Need-same-length
-same-length c = search needs
-
-same-length-2 : tie.Need-same-length-2
-same-length-2 c = search needs
 
 returns : tie.Need-returns
 returns c = order-answered _ _ _ (c .before .before .before .before .before .before .before .before .mode-of .ensures) (c .before .before .before .before .before .reorder .ensures) (c .checked .ensures)
@@ -25,4 +13,4 @@ returns c = order-answered _ _ _ (c .before .before .before .before .before .bef
 pub clevisroot-reorder-spec : {M : Type 1} → statement M
 clevisroot-reorder-spec =
     tie.close
-    (tie.spec mode-of-requires reorder-requires checked-requires same-length same-length-2 returns)
+    (tie.spec (λ c κs. search needs) (λ c κs. search needs) checked-requires (λ c. search needs) (λ c. search needs) returns)

@@ -4,11 +4,8 @@ use borrow.Author.Needs.{needs}
 use Rattle.clevisroot.proofs.mode_of.Statement.{statement}
 use Rattle.clevisroot.proofs.mode_of.Tie as tie
 
-returns : tie.Need-returns
-returns c = search needs
-
 returns-2 : tie.Need-returns-2
 returns-2 c = coded-mode (c .before .args .coded) (c .if1 .left)
 
 pub mode-of-spec : {M : Type 1} → statement M
-mode-of-spec = tie.close (tie.spec returns returns-2)
+mode-of-spec = tie.close (tie.spec (λ c. search needs) returns-2)

@@ -7,18 +7,6 @@ use borrow.Author.Needs.{needs}
 use Rattle.constellation.proofs.coordinate_of.Statement.{statement}
 use Rattle.constellation.proofs.coordinate_of.Tie as tie
 
-mul-result : tie.Need-mul-result
-mul-result c = search needs
-
-add-result : tie.Need-add-result
-add-result c = search needs
-
-cast-result : tie.Need-cast-result
-cast-result c = search needs
-
-cast-result-2 : tie.Need-cast-result-2
-cast-result-2 c = search needs
-
 sub-result : tie.Need-sub-result
 sub-result c =
     let r = coordinate-law (c .args .weight) (c .args .e) (c .pre .0) (c .pre .1) (c .pre .2) in
@@ -30,4 +18,4 @@ returns c =
     rw (r .0) (toZ-ofZ w16 (coordinateOf (c .args .weight) (c .args .e)) (r .1))
 
 pub coordinate-of-spec : {M : Type 1} → statement M
-coordinate-of-spec = tie.close (tie.spec mul-result add-result cast-result cast-result-2 sub-result returns)
+coordinate-of-spec = tie.close (tie.spec (λ c. search needs) (λ c. search needs) (λ c. search needs) (λ c. search needs) sub-result returns)

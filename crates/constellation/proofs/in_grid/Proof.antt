@@ -11,17 +11,11 @@ use borrow.Author.Needs.{needs}
 use Rattle.constellation.proofs.in_grid.Statement.{statement}
 use Rattle.constellation.proofs.in_grid.Tie as tie
 
-shr-result : tie.Need-shr-result
-shr-result c = search needs
-
 returns : tie.Need-returns
 unfolding first topFive topFour widenedLabel inGrid
 returns c =
     let s = c .before in
     even-table _ refl refl (s .args .b) (s .args .six) (s .pre .0) (c .if1 .taken) (s .pre .1) (s .pre .2)
-
-shr-result-2 : tie.Need-shr-result-2
-shr-result-2 c = search needs
 
 returns-2 : tie.Need-returns-2
 unfolding first topFive topFour widenedLabel inGrid
@@ -30,18 +24,12 @@ returns-2 c =
     let e = c .if2 .taken in
     rw e (small-table _ 1 refl (s .args .six) (s .pre .1) (s .pre .2 (omega arith)))
 
-shr-result-3 : tie.Need-shr-result-3
-shr-result-3 c = search needs
-
 returns-3 : tie.Need-returns-3
 unfolding first topFive topFour widenedLabel inGrid
 returns-3 c =
     let s = c .before .before .before in
     let e = c .if3 .taken in
     rw e (small-table _ 3 refl (s .args .six) (s .pre .1) (s .pre .2 (omega arith)))
-
-shr-result-4 : tie.Need-shr-result-4
-shr-result-4 c = search needs
 
 returns-4 : tie.Need-returns-4
 unfolding first topFour
@@ -56,11 +44,11 @@ pub in-grid-spec : {M : Type 1} → statement M
 in-grid-spec =
     tie.close
     (tie.spec
-    shr-result
+    (λ c. search needs)
     returns
-    shr-result-2
+    (λ c. search needs)
     returns-2
-    shr-result-3
+    (λ c. search needs)
     returns-3
-    shr-result-4
+    (λ c. search needs)
     returns-4)

@@ -4,14 +4,8 @@ use borrow.Author.Needs.{needs}
 use Rattle.constellation.proofs.interleave.Statement.{statement}
 use Rattle.constellation.proofs.interleave.Tie as tie
 
-mul-halves : tie.Need-mul-halves
-mul-halves c = search needs
-
-add-halves : tie.Need-add-halves
-add-halves c = search needs
-
 returns : tie.Need-returns
 returns c = interleave-law (c .args .x) (c .args .y) (c .pre .0) (c .pre .1)
 
 pub interleave-spec : {M : Type 1} → statement M
-interleave-spec = tie.close (tie.spec mul-halves add-halves returns)
+interleave-spec = tie.close (tie.spec (λ c. search needs) (λ c. search needs) returns)

@@ -37,23 +37,11 @@ word c =
     let l = both-small (c .before) in
     rw (c .interleave .ensures) (interleaved-word k (c .before .before .coordinate-bits .result) (c .before .coordinate-bits2 .result) (omega arith) (omega arith) (omega arith))
 
-plain-pairs-requires : tie.Need-plain-pairs-requires
-plain-pairs-requires c κs = search needs
-
-sign-weight-requires : tie.Need-sign-weight-requires
-sign-weight-requires c κs = search needs
-
 raised-coordinate-requires : tie.Need-raised-coordinate-requires
 raised-coordinate-requires c κs = sizes c .2
 
 raised-coordinate-requires-2 : tie.Need-raised-coordinate-requires-2
 raised-coordinate-requires-2 c κs = sizes (c .before) .2
-
-coordinate-bits-requires : tie.Need-coordinate-bits-requires
-coordinate-bits-requires c κs = search needs
-
-coordinate-bits-requires-2 : tie.Need-coordinate-bits-requires-2
-coordinate-bits-requires-2 c κs = search needs
 
 interleave-requires : tie.Need-interleave-requires
 interleave-requires c κs =
@@ -65,17 +53,8 @@ mul-six c =
     let k = c .before .before .before .before .before .before .plain-pairs .result in
     record { fits = omega (arith, word-16 k (c .interleave .result) (omega arith) (word c)) }
 
-mul-six-2 : tie.Need-mul-six-2
-mul-six-2 c = search needs
-
-shr-six : tie.Need-shr-six
-shr-six c = search needs
-
 narrowed-word-requires : tie.Need-narrowed-word-requires
 narrowed-word-requires c κs = (omega arith, six-lt (c .before .before .before .before .before .before .plain-pairs .result) (c .interleave .result) (word c), refl)
-
-own-label-requires : tie.Need-own-label-requires
-own-label-requires c κs = search needs
 
 in-grid-requires : tie.Need-in-grid-requires
 in-grid-requires c κs =
@@ -120,18 +99,18 @@ pub label-of-spec : {M : Type 1} → statement M
 label-of-spec =
     tie.close
     (tie.spec
-    plain-pairs-requires
-    sign-weight-requires
+    (λ c κs. search needs)
+    (λ c κs. search needs)
     raised-coordinate-requires
     raised-coordinate-requires-2
-    coordinate-bits-requires
-    coordinate-bits-requires-2
+    (λ c κs. search needs)
+    (λ c κs. search needs)
     interleave-requires
     mul-six
-    mul-six-2
-    shr-six
+    (λ c. search needs)
+    (λ c. search needs)
     narrowed-word-requires
-    own-label-requires
+    (λ c κs. search needs)
     in-grid-requires
     mul-found
     add-found

@@ -22,9 +22,6 @@ returns-2 c =
     let b = c .before .before .args .bits in
     rw (le-ltb b 1 (c .before .if1 .left), lt-ltb 15 b (c .if2 .taken))
 
-shl-if3 : tie.Need-shl-if3
-shl-if3 c = search needs
-
 returns-3 : tie.Need-returns-3
 unfolding mapLabel
 returns-3 c =
@@ -48,4 +45,4 @@ returns-4 c =
 
 pub map-label-spec : {M : Type 1} → statement M
 map-label-spec =
-    tie.close (tie.spec returns returns-2 shl-if3 returns-3 point-of-requires returns-4)
+    tie.close (tie.spec returns returns-2 (λ c. search needs) returns-3 point-of-requires returns-4)

@@ -4,9 +4,6 @@ use borrow.Author.Needs.{needs}
 use Rattle.constellation.proofs.mapping_label.Statement.{statement}
 use Rattle.constellation.proofs.mapping_label.Tie as tie
 
-mul-result : tie.Need-mul-result
-mul-result c = search needs
-
 returns : tie.Need-returns
 returns c = rw (lt-ltb (c .before .args .b) 2 (c .if1 .taken))
 
@@ -14,4 +11,4 @@ returns-2 : tie.Need-returns-2
 returns-2 c = rw (le-ltb (c .before .args .b) 2 (c .if1 .left))
 
 pub mapping-label-spec : {M : Type 1} → statement M
-mapping-label-spec = tie.close (tie.spec mul-result returns returns-2)
+mapping-label-spec = tie.close (tie.spec (λ c. search needs) returns returns-2)

@@ -28,9 +28,6 @@ sizes c =
     let e : c .sign-weight .result ≡ signWeight k = c .sign-weight .ensures ∙ ap signWeight (c .before .before .before .before .plain-pairs .ensures) in
     (omega (arith, pow-pos k), omega (arith, half-le k (omega arith)), e)
 
-plain-pairs-requires : tie.Need-plain-pairs-requires
-plain-pairs-requires c κs = search needs
-
 mapping-label-requires : tie.Need-mapping-label-requires
 mapping-label-requires c κs = let s = c .before in lt-of-lt-of-le (s .pre .2) (pow-mono {i = s .args .b} {j = 15} (s .pre .1))
 
@@ -43,9 +40,6 @@ deinterleave-requires : tie.Need-deinterleave-requires
 deinterleave-requires c κs =
     let s = c .before .before .before in
     rw (word c) (word-16 (plainPairs (s .args .b)) (labelWord (s .args .b) (s .args .label)) (omega arith) (word-lt (s .args .b) (s .args .label) (s .pre .0) (s .pre .2)))
-
-sign-weight-requires : tie.Need-sign-weight-requires
-sign-weight-requires c κs = search needs
 
 coordinate-of-requires : tie.Need-coordinate-of-requires
 coordinate-of-requires c κs = (sizes c .0, sizes c .1, parts (c .before) .xSmall)
@@ -68,11 +62,11 @@ pub point-of-spec : {M : Type 1} → statement M
 point-of-spec =
     tie.close
     (tie.spec
-    plain-pairs-requires
+    (λ c κs. search needs)
     mapping-label-requires
     widened-label-requires
     deinterleave-requires
-    sign-weight-requires
+    (λ c κs. search needs)
     coordinate-of-requires
     coordinate-of-requires-2
     returns)

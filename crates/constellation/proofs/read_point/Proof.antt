@@ -29,9 +29,6 @@ returns-2 c =
     let b = c .before .before .args .bits in
     rw (le-ltb b 1 (c .before .if1 .left), lt-ltb 15 b (c .if2 .taken))
 
-label-of-requires : tie.Need-label-of-requires
-label-of-requires c κs = search needs
-
 returns-3 : tie.Need-returns-3
 unfolding readPoint
 returns-3 c =
@@ -48,4 +45,4 @@ returns-4 c =
     rw (le-ltb (a .bits) 1 (omega arith), le-ltb 15 (a .bits) (omega arith), label-none (labelOf (a .bits) (point (a .x) (a .y))) e)
 
 pub read-point-spec : {M : Type 1} → statement M
-read-point-spec = tie.close (tie.spec returns returns-2 label-of-requires returns-3 returns-4)
+read-point-spec = tie.close (tie.spec returns returns-2 (λ c κs. search needs) returns-3 returns-4)

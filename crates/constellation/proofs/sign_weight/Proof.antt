@@ -6,11 +6,8 @@ use borrow.Author.Needs.{needs}
 use Rattle.constellation.proofs.sign_weight.Statement.{statement}
 use Rattle.constellation.proofs.sign_weight.Tie as tie
 
-shl-result : tie.Need-shl-result
-shl-result c = search needs
-
 returns : tie.Need-returns
 returns c = mod-eq-of-lt (omega (arith, half-le (c .args .k) (c .pre)))
 
 pub sign-weight-spec : {M : Type 1} → statement M
-sign-weight-spec = tie.close (tie.spec shl-result returns)
+sign-weight-spec = tie.close (tie.spec (λ c. search needs) returns)

@@ -13,32 +13,11 @@ use Rattle.constellation.proofs.widened_label.Tie as tie
 mul-q : tie.Need-mul-q
 mul-q c = record { fits = omega (arith, label-16 (c .args .k) (c .args .label) (c .pre .0) (c .pre .1)) }
 
-mul-q-2 : tie.Need-mul-q-2
-mul-q-2 c = search needs
-
-sub-q : tie.Need-sub-q
-sub-q c = search needs
-
 add-q : tie.Need-add-q
 add-q c = record { fits = omega (arith, label-16 (c .args .k) (c .args .label) (c .pre .0) (c .pre .1)) }
 
-mul-q-3 : tie.Need-mul-q-3
-mul-q-3 c = search needs
-
-add-q-2 : tie.Need-add-q-2
-add-q-2 c = search needs
-
-shr-q : tie.Need-shr-q
-shr-q c = search needs
-
 widening-requires : tie.Need-widening-requires
 widening-requires c κs = rw (five-law (c .args .k) (c .args .label)) (five-lt (c .args .k) (c .args .label) (c .pre .1))
-
-mul-result : tie.Need-mul-result
-mul-result c = search needs
-
-shl-result : tie.Need-shl-result
-shl-result c = search needs
 
 returns : tie.Need-returns
 returns c =
@@ -51,13 +30,13 @@ widened-label-spec =
     tie.close
     (tie.spec
     mul-q
-    mul-q-2
-    sub-q
+    (λ c. search needs)
+    (λ c. search needs)
     add-q
-    mul-q-3
-    add-q-2
-    shr-q
+    (λ c. search needs)
+    (λ c. search needs)
+    (λ c. search needs)
     widening-requires
-    mul-result
-    shl-result
+    (λ c. search needs)
+    (λ c. search needs)
     returns)

@@ -9,18 +9,6 @@ use borrow.Author.Needs.{needs}
 use Rattle.constellation.proofs.widening.Statement.{statement}
 use Rattle.constellation.proofs.widening.Tie as tie
 
-mul-result : tie.Need-mul-result
-mul-result c = search needs
-
-cast-result : tie.Need-cast-result
-cast-result c = search needs
-
-shr-result : tie.Need-shr-result
-shr-result c = search needs
-
-cast-result-2 : tie.Need-cast-result-2
-cast-result-2 c = search needs
-
 returns : tie.Need-returns
 unfolding first topFour
 returns c =
@@ -28,4 +16,4 @@ returns c =
     ⊎-elim (λ w. rw (w .1) (table-law _ 0 q (omega arith) refl)) (λ w. rw (w .1) (table-law _ 16 q (omega arith) refl)) (c .before .if1 .came)
 
 pub widening-spec : {M : Type 1} → statement M
-widening-spec = tie.close (tie.spec mul-result cast-result shr-result cast-result-2 returns)
+widening-spec = tie.close (tie.spec (λ c. search needs) (λ c. search needs) (λ c. search needs) (λ c. search needs) returns)

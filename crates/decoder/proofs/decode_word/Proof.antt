@@ -7,12 +7,6 @@ use borrow.Author.Needs.{needs}
 use Rattle.decoder.proofs.decode_word.Statement.{statement}
 use Rattle.decoder.proofs.decode_word.Tie as tie
 
-sub-power : tie.Need-sub-power
-sub-power c = search needs
-
-power-requires : tie.Need-power-requires
-power-requires c κs = search needs
-
 mul-t17 : tie.Need-mul-t17
 mul-t17 c = record { fits = rw (c .power .ensures) (omega (arith, decoded-fits (c .before .args .w) (c .before .args .x) (c .before .pre .1) (c .before .pre .3))) }
 
@@ -24,4 +18,4 @@ unfolding odd decodedOf
 returns c = rw (c .power .ensures)
 
 pub decode-word-spec : {M : Type 1} → statement M
-decode-word-spec = tie.close (tie.spec sub-power power-requires mul-t17 add-t18 returns)
+decode-word-spec = tie.close (tie.spec (λ c. search needs) (λ c κs. search needs) mul-t17 add-t18 returns)

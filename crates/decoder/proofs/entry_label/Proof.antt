@@ -6,14 +6,8 @@ use borrow.Author.Needs.{needs}
 use Rattle.decoder.proofs.entry_label.Statement.{statement}
 use Rattle.decoder.proofs.entry_label.Tie as tie
 
-place-at-requires : tie.Need-place-at-requires
-place-at-requires c κs = search needs
-
 label-at-requires : tie.Need-label-at-requires
 label-at-requires c κs = rw (c .place-at .ensures) (c .before .before .before .pre .1 .below (c .before .before .before .args .i) (c .before .before .before .pre .0))
-
-cast-result : tie.Need-cast-result
-cast-result c = search needs
 
 returns : tie.Need-returns
 returns c =
@@ -23,4 +17,4 @@ returns c =
     ∙ sym (at-get (a .places .now) (a .labels .now) (a .i) (c .before .before .before .before .pre .0))
 
 pub entry-label-spec : {M : Type 1} → statement M
-entry-label-spec = tie.close (tie.spec place-at-requires label-at-requires cast-result returns)
+entry-label-spec = tie.close (tie.spec (λ c κs. search needs) label-at-requires (λ c. search needs) returns)

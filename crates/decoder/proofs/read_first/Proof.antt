@@ -12,18 +12,6 @@ use borrow.Author.Needs.{needs}
 use Rattle.decoder.proofs.read_first.Statement.{statement}
 use Rattle.decoder.proofs.read_first.Tie as tie
 
-zero-state-requires : tie.Need-zero-state-requires
-zero-state-requires c κs = search needs
-
-next-state-requires : tie.Need-next-state-requires
-next-state-requires c κs = search needs
-
-sub-put : tie.Need-sub-put
-sub-put c = search needs
-
-weight-requires : tie.Need-weight-requires
-weight-requires c κs = search needs
-
 mul-put : tie.Need-mul-put
 mul-put c =
     let t = c .before .before .before .before .before in
@@ -40,9 +28,6 @@ put-requires c κs =
     let t = c .before .before .before .before .before in
     let p = decoded-first (t .args .y) (t .args .w) (t .pre .0) (t .pre .2 .wSmall) in
     (omega arith, rw (c .weight .ensures .0) (p .small), t .pre .2 .bytes, t .pre .2 .waits)
-
-same-length : tie.Need-same-length
-same-length c = search needs
 
 returns : tie.Need-returns
 unfolding odd
@@ -63,12 +48,12 @@ pub read-first-spec : {M : Type 1} → statement M
 read-first-spec =
     tie.close
     (tie.spec
-    zero-state-requires
-    next-state-requires
-    sub-put
-    weight-requires
+    (λ c κs. search needs)
+    (λ c κs. search needs)
+    (λ c. search needs)
+    (λ c κs. search needs)
     mul-put
     add-put
     put-requires
-    same-length
+    (λ c. search needs)
     returns)

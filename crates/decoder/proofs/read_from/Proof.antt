@@ -41,9 +41,6 @@ loop-holds c = decoding-start (c .before .before .before .before .pre .3)
 add-loop : tie.Need-add-loop Inv-loop μ-loop
 add-loop c = omega (arith, c .loop .inv .needs .inside, c .before .before .before .before .before .pre .1)
 
-sub-forced : tie.Need-sub-forced Inv-loop μ-loop
-sub-forced c = omega arith
-
 entry-requires : tie.Need-entry-requires Inv-loop μ-loop
 entry-requires c κs = (pair-inside (c .loop-test .taken) (c .before .before .before .before .before .before .pre .1)) .here
 
@@ -115,7 +112,7 @@ read-from-spec =
     μ-loop
     loop-holds
     add-loop
-    sub-forced
+    (λ c. omega arith)
     entry-requires
     add-entry
     entry-requires-2

@@ -61,9 +61,6 @@ returns-2 c =
     let f = c .before .before .read-from in
     odd-read (s .pre .1) (placed-length (s .pre .0)) (if1 .taken) (y .ensures) (l .ensures) (p .ensures) (not-false _ (if2 .left)) (f .ensures)
 
-zero-state-requires : tie.Need-zero-state-requires
-zero-state-requires c κs = search needs
-
 read-from-requires-2 : tie.Need-read-from-requires-2
 read-from-requires-2 c κs =
     let if1 = c .before .before .if1 in
@@ -91,7 +88,7 @@ read-labels-spec =
     read-from-requires
     same-length-2
     returns-2
-    zero-state-requires
+    (λ c κs. search needs)
     read-from-requires-2
     same-length-3
     returns-3)

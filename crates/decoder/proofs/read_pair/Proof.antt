@@ -13,12 +13,6 @@ decode-word-requires c κs =
     let q = c .before .before .before .pre in
     (q .0, q .1, lt-of-lt-of-le (q .4 .vSmall) (pow-mono {j = 15} (q .1)), lt-of-lt-of-le (q .4 .wSmall) (pow-mono {j = 15} (q .3)))
 
-next-state-requires : tie.Need-next-state-requires
-next-state-requires c κs = search needs
-
-taken-count-requires : tie.Need-taken-count-requires
-taken-count-requires c κs = search needs
-
 taken-number-requires : tie.Need-taken-number-requires
 taken-number-requires c κs =
     let decode-word = c .before .before .before .decode-word in
@@ -34,12 +28,6 @@ put-requires c κs =
     let p = decoded-pair (a .x) (a .y) (a .v) (a .w) (t .pre .0) (t .pre .2) (t .pre .4 .vSmall) (t .pre .4 .wSmall) (decode-word .result) (decode-word .ensures) (a .forced) (a .c .state) in
     let n = c .before .taken-count .ensures in
     (omega (arith, n .1), rw (n .0, c .taken-number .ensures) (p .small), t .pre .4 .bytes, t .pre .4 .waits)
-
-obeys-code-requires : tie.Need-obeys-code-requires
-obeys-code-requires c κs = search needs
-
-same-length : tie.Need-same-length
-same-length c = search needs
 
 returns : tie.Need-returns
 returns c =
@@ -62,10 +50,10 @@ read-pair-spec =
     tie.close
     (tie.spec
     decode-word-requires
-    next-state-requires
-    taken-count-requires
+    (λ c κs. search needs)
+    (λ c κs. search needs)
     taken-number-requires
     put-requires
-    obeys-code-requires
-    same-length
+    (λ c κs. search needs)
+    (λ c. search needs)
     returns)

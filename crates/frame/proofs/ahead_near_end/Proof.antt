@@ -5,19 +5,10 @@ use borrow.Author.Needs.{needs}
 use Rattle.frame.proofs.ahead_near_end.Statement.{statement}
 use Rattle.frame.proofs.ahead_near_end.Tie as tie
 
-word40-requires : tie.Need-word40-requires
-word40-requires c κs = search needs
-
-bit-in-byte-requires : tie.Need-bit-in-byte-requires
-bit-in-byte-requires c κs = search needs
-
-shr-result : tie.Need-shr-result
-shr-result c = search needs
-
 returns : tie.Need-returns
 returns c =
     let a = c .before .before .before .args in
     rw (c .bit-in-byte .ensures) (ahead-law (a .bytes .now) (a .at) 40 (c .before .word40 .result) (omega arith) (c .before .word40 .ensures))
 
 pub ahead-near-end-spec : {M : Type 1} → statement M
-ahead-near-end-spec = tie.close (tie.spec word40-requires bit-in-byte-requires shr-result returns)
+ahead-near-end-spec = tie.close (tie.spec (λ c κs. search needs) (λ c κs. search needs) (λ c. search needs) returns)

@@ -22,15 +22,6 @@ loop-holds c = (omega arith, refl, refl)
 shared-slice-read-out : tie.Need-shared-slice-read-out Inv-loop μ-loop
 shared-slice-read-out c = omega (arith, c .before .before .before .pre)
 
-slice-write-out : tie.Need-slice-write-out Inv-loop μ-loop
-slice-write-out c = omega arith
-
-add-i : tie.Need-add-i Inv-loop μ-loop
-add-i c = omega arith
-
-loop-less : tie.Need-loop-less Inv-loop μ-loop
-loop-less c = omega arith
-
 loop-again : tie.Need-loop-again Inv-loop μ-loop
 loop-again c =
     let a = c .before .before .before .args in
@@ -38,9 +29,6 @@ loop-again c =
     let h : l .i < length (a .bytes .now) = omega (arith, c .before .before .before .pre) in
     let k : l .i < length (l .out) = omega arith in
     (omega arith, simp length-set (l .inv .1), rw (add-one, take-suc-set (l .out) (l .i) _ k, take-suc (a .bytes .now) (l .i) 0 h, l .inv .2))
-
-same-length : tie.Need-same-length Inv-loop μ-loop
-same-length c = search needs
 
 returns : tie.Need-returns Inv-loop μ-loop
 returns c =
@@ -57,9 +45,9 @@ copy-spec =
     μ-loop
     loop-holds
     shared-slice-read-out
-    slice-write-out
-    add-i
-    loop-less
+    (λ c. omega arith)
+    (λ c. omega arith)
+    (λ c. omega arith)
     loop-again
-    same-length
+    (λ c. search needs)
     returns)

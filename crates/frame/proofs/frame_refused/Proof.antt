@@ -5,19 +5,10 @@ use borrow.Author.Needs.{needs}
 use Rattle.frame.proofs.frame_refused.Statement.{statement}
 use Rattle.frame.proofs.frame_refused.Tie as tie
 
-bytes-for-requires : tie.Need-bytes-for-requires
-bytes-for-requires c κs = search needs
-
 returns : tie.Need-returns
 returns c =
     let s = c .before .before .before in
     length-refused (s .args .frame .now) (s .args .l) (λ e. c .if1 .taken (cc (c .before .bytes-for .ensures)))
-
-byte-at-requires : tie.Need-byte-at-requires
-byte-at-requires c κs = search needs
-
-shr-result : tie.Need-shr-result
-shr-result c = search needs
 
 returns-2 : tie.Need-returns-2
 returns-2 c =
@@ -26,4 +17,4 @@ returns-2 c =
 
 pub frame-refused-spec : {M : Type 1} → statement M
 frame-refused-spec =
-    tie.close (tie.spec bytes-for-requires returns byte-at-requires shr-result returns-2)
+    tie.close (tie.spec (λ c κs. search needs) returns (λ c κs. search needs) (λ c. search needs) returns-2)

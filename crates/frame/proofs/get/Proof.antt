@@ -7,12 +7,6 @@ use borrow.Author.Needs.{needs}
 use Rattle.frame.proofs.get.Statement.{statement}
 use Rattle.frame.proofs.get.Tie as tie
 
-ahead-requires : tie.Need-ahead-requires
-ahead-requires c κs = search needs
-
-power-requires : tie.Need-power-requires
-power-requires c κs = search needs
-
 sub-result : tie.Need-sub-result
 sub-result c = rw (c .power .ensures) (pow-pos _)
 
@@ -25,4 +19,4 @@ returns c =
     get-law (c .before .ahead .result) (a .n) (c .power .result) (drop (a .at) (unpack (a .bytes .now))) (search needs) (c .before .ahead .ensures) (c .power .ensures)
 
 pub get-spec : {M : Type 1} → statement M
-get-spec = tie.close (tie.spec ahead-requires power-requires sub-result cast-result returns)
+get-spec = tie.close (tie.spec (λ c κs. search needs) (λ c κs. search needs) sub-result cast-result returns)

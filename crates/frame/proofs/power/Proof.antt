@@ -7,11 +7,8 @@ use borrow.Author.Needs.{needs}
 use Rattle.frame.proofs.power.Statement.{statement}
 use Rattle.frame.proofs.power.Tie as tie
 
-shl-result : tie.Need-shl-result
-shl-result c = search needs
-
 returns : tie.Need-returns
 returns c = ap (λ (x : ℕ). x % 2 ^ 64) (one-mul _) ∙ mod-eq-of-lt (pow-lt {j = 64} (search needs))
 
 pub power-spec : {M : Type 1} → statement M
-power-spec = tie.close (tie.spec shl-result returns)
+power-spec = tie.close (tie.spec (λ c. search needs) returns)

@@ -5,15 +5,6 @@ use borrow.Author.Needs.{needs}
 use Rattle.ordering.proofs.check_tables.Statement.{statement}
 use Rattle.ordering.proofs.check_tables.Tie as tie
 
-size-tables-requires : tie.Need-size-tables-requires
-size-tables-requires c κs = search needs
-
-enum-known-s : tie.Need-enum-known-s
-enum-known-s c = search needs
-
-enum-known-s-2 : tie.Need-enum-known-s-2
-enum-known-s-2 c = search needs
-
 returns : tie.Need-returns
 returns c = ap sizedVerdict (sym (c .before .s .given .1)) ∙ c .before .before .before .size-tables .ensures .answer
 
@@ -22,4 +13,4 @@ returns-2 c = ap sizedVerdict (sym (c .before .s2 .given .1)) ∙ c .before .bef
 
 pub check-tables-spec : {M : Type 1} → statement M
 check-tables-spec =
-    tie.close (tie.spec size-tables-requires enum-known-s enum-known-s-2 returns returns-2)
+    tie.close (tie.spec (λ c κs. search needs) (λ c. search needs) (λ c. search needs) returns returns-2)

@@ -12,15 +12,6 @@ use borrow.Author.Needs.{needs}
 use Rattle.ordering.proofs.reorder.Statement.{statement}
 use Rattle.ordering.proofs.reorder.Tie as tie
 
-size-tables-requires : tie.Need-size-tables-requires
-size-tables-requires c κs = search needs
-
-enum-known-s : tie.Need-enum-known-s
-enum-known-s c = search needs
-
-enum-known-s-2 : tie.Need-enum-known-s-2
-enum-known-s-2 c = search needs
-
 returns : tie.Need-returns
 returns c =
     let e = ap sizedVerdict (sym (c .before .before .s2 .given .1)) ∙ c .before .before .before .before .size-tables .ensures .answer in
@@ -46,12 +37,6 @@ write-order-requires c κs =
 returns-3 : tie.Need-returns-3
 returns-3 c = reorder-refused _ _ _ _ (ap sizedVerdict (sym (c .before .s .given .1)) ∙ c .before .before .before .size-tables .ensures .answer)
 
-same-length : tie.Need-same-length
-same-length c = search needs
-
-same-length-2 : tie.Need-same-length-2
-same-length-2 c = search needs
-
 returns-4 : tie.Need-returns-4
 returns-4 c =
     let size-tables = c .before .before .before .before .before .before .before .before .before .before .before .before .size-tables in
@@ -66,13 +51,13 @@ pub reorder-spec : {M : Type 1} → statement M
 reorder-spec =
     tie.close
     (tie.spec
-    size-tables-requires
-    enum-known-s
-    enum-known-s-2
+    (λ c κs. search needs)
+    (λ c. search needs)
+    (λ c. search needs)
     returns
     returns-2
     write-order-requires
     returns-3
-    same-length
-    same-length-2
+    (λ c. search needs)
+    (λ c. search needs)
     returns-4)

@@ -6,21 +6,12 @@ use borrow.Author.Needs.{needs}
 use Rattle.plan.proofs.file_plan.Statement.{statement}
 use Rattle.plan.proofs.file_plan.Tie as tie
 
-layout-table-requires : tie.Need-layout-table-requires
-layout-table-requires c κs = search needs
-
-least-own-requires : tie.Need-least-own-requires
-least-own-requires c κs = search needs
-
 file-tones-requires : tie.Need-file-tones-requires
 file-tones-requires c κs =
     let layout-table = c .before .before .before .before .before .before .layout-table in
     let least-own-2 = c .before .before .before .before .before .least-own in
     let s = c .before .before .before .before .before .before .before .before .before .before .before .before .before .before in
     (record { arrays = s .pre .arrays; below = s .pre .below; bitsMost = s .pre .bitsMost; gains = s .pre .gains; most = s .pre .most; leastIs = rw (least-own-2 .ensures) (least-own (s .args .mode)) }, layout-table .ensures)
-
-array-read-share-entries : tie.Need-array-read-share-entries
-array-read-share-entries c = search needs
 
 share-entries-requires : tie.Need-share-entries-requires
 share-entries-requires c κs =
@@ -48,18 +39,6 @@ add-t37 c =
     let n = placed-count (a .mode) (a .bits .now) (a .gains .now) (a .tones .now) in
     omega (arith, g .placeIs, g .entryMost, s .pre .sharersAre, s .pre .most)
 
-same-length : tie.Need-same-length
-same-length c = search needs
-
-same-length-2 : tie.Need-same-length-2
-same-length-2 c = search needs
-
-same-length-3 : tie.Need-same-length-3
-same-length-3 c = search needs
-
-same-length-4 : tie.Need-same-length-4
-same-length-4 c = search needs
-
 returns : tie.Need-returns
 returns c =
     let layout-table = c .before .before .before .before .before .before .before .before .before .before .before .before .before .before .before .before .before .before .before .before .before .before .before .before .before .before .layout-table in
@@ -79,14 +58,14 @@ pub file-plan-spec : {M : Type 1} → statement M
 file-plan-spec =
     tie.close
     (tie.spec
-    layout-table-requires
-    least-own-requires
+    (λ c κs. search needs)
+    (λ c κs. search needs)
     file-tones-requires
-    array-read-share-entries
+    (λ c. search needs)
     share-entries-requires
     add-t37
-    same-length
-    same-length-2
-    same-length-3
-    same-length-4
+    (λ c. search needs)
+    (λ c. search needs)
+    (λ c. search needs)
+    (λ c. search needs)
     returns)

@@ -10,15 +10,6 @@ use borrow.Author.Needs.{needs}
 use Rattle.plan.proofs.plan_tables.Statement.{statement}
 use Rattle.plan.proofs.plan_tables.Tie as tie
 
-size-tables-requires : tie.Need-size-tables-requires
-size-tables-requires c κs = search needs
-
-enum-known-s : tie.Need-enum-known-s
-enum-known-s c = search needs
-
-enum-known-s-2 : tie.Need-enum-known-s-2
-enum-known-s-2 c = search needs
-
 file-plan-requires : tie.Need-file-plan-requires
 file-plan-requires c κs =
     let s = c .before .before .before .before .before .before .before .before .before .before .before .before .before .before .before in
@@ -34,18 +25,6 @@ returns c =
     let z = c .before .before .before .size-tables in
     record { answer = ap sizedVerdict (sym (c .before .s .given .1)) ∙ z .ensures .answer; made = tt }
 
-same-length : tie.Need-same-length
-same-length c = search needs
-
-same-length-2 : tie.Need-same-length-2
-same-length-2 c = search needs
-
-same-length-3 : tie.Need-same-length-3
-same-length-3 c = search needs
-
-same-length-4 : tie.Need-same-length-4
-same-length-4 c = search needs
-
 returns-2 : tie.Need-returns-2
 returns-2 c =
     let s2 = c .before .before .before .before .before .before .before .before .before .before .before .before .before .before .s2 in
@@ -57,13 +36,13 @@ pub plan-tables-spec : {M : Type 1} → statement M
 plan-tables-spec =
     tie.close
     (tie.spec
-    size-tables-requires
-    enum-known-s
-    enum-known-s-2
+    (λ c κs. search needs)
+    (λ c. search needs)
+    (λ c. search needs)
     file-plan-requires
     returns
-    same-length
-    same-length-2
-    same-length-3
-    same-length-4
+    (λ c. search needs)
+    (λ c. search needs)
+    (λ c. search needs)
+    (λ c. search needs)
     returns-2)

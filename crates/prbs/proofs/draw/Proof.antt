@@ -6,17 +6,11 @@ use borrow.Author.Needs.{needs}
 use Rattle.prbs.proofs.draw.Statement.{statement}
 use Rattle.prbs.proofs.draw.Tie as tie
 
-seed-refused-requires : tie.Need-seed-refused-requires
-seed-refused-requires c κs = search needs
-
 returns : tie.Need-returns
 unfolding drawOf drawAnswer
 returns c =
     let e = sym (c .before .seed-refused .ensures) ∙ c .if1 .taken in
     rw e
-
-next-bit-requires : tie.Need-next-bit-requires
-next-bit-requires c κs = search needs
 
 returns-2 : tie.Need-returns-2
 unfolding drawOf drawAnswer
@@ -25,4 +19,4 @@ returns-2 c =
     rw (e, c .next-bit .ensures)
 
 pub draw-spec : {M : Type 1} → statement M
-draw-spec = tie.close (tie.spec seed-refused-requires returns next-bit-requires returns-2)
+draw-spec = tie.close (tie.spec (λ c κs. search needs) returns (λ c κs. search needs) returns-2)

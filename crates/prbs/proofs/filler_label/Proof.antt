@@ -4,14 +4,8 @@ use borrow.Author.Needs.{needs}
 use Rattle.prbs.proofs.filler_label.Statement.{statement}
 use Rattle.prbs.proofs.filler_label.Tie as tie
 
-next-bit-requires : tie.Need-next-bit-requires
-next-bit-requires c κs = search needs
-
-next-bit-requires-2 : tie.Need-next-bit-requires-2
-next-bit-requires-2 c κs = search needs
-
 returns : tie.Need-returns
 returns c = record { label = two-drawn (c .before .before .args .register); register = rw (c .next-bit2 .ensures, c .before .next-bit .ensures) }
 
 pub filler-label-spec : {M : Type 1} → statement M
-filler-label-spec = tie.close (tie.spec next-bit-requires next-bit-requires-2 returns)
+filler-label-spec = tie.close (tie.spec (λ c κs. search needs) (λ c κs. search needs) returns)

@@ -7,12 +7,6 @@ use borrow.Author.Needs.{needs}
 use Rattle.prbs.proofs.next_bit.Statement.{statement}
 use Rattle.prbs.proofs.next_bit.Tie as tie
 
-add-feed : tie.Need-add-feed
-add-feed c = search needs
-
-mul-t5 : tie.Need-mul-t5
-mul-t5 c = search needs
-
 add-t4 : tie.Need-add-t4
 add-t4 c = record { fits = feed-fits (c .args .register) _ (search needs) }
 
@@ -21,4 +15,4 @@ unfolding odd drawOf
 returns c = λ i. record { bit = odd (c .args .register); register = sym (next-number (c .args .register)) i }
 
 pub next-bit-spec : {M : Type 1} → statement M
-next-bit-spec = tie.close (tie.spec add-feed mul-t5 add-t4 returns)
+next-bit-spec = tie.close (tie.spec (λ c. search needs) (λ c. search needs) add-t4 returns)

@@ -7,45 +7,6 @@ use borrow.Author.Needs.{needs}
 use Rattle.symbol.proofs.encode.Statement.{statement}
 use Rattle.symbol.proofs.encode.Tie as tie
 
-slice-aggregate-plan-tables : tie.Need-slice-aggregate-plan-tables
-slice-aggregate-plan-tables c = search needs
-
-slice-aggregate-plan-tables-2 : tie.Need-slice-aggregate-plan-tables-2
-slice-aggregate-plan-tables-2 c = search needs
-
-slice-aggregate-plan-tables-3 : tie.Need-slice-aggregate-plan-tables-3
-slice-aggregate-plan-tables-3 c = search needs
-
-slice-aggregate-plan-tables-4 : tie.Need-slice-aggregate-plan-tables-4
-slice-aggregate-plan-tables-4 c = search needs
-
-plan-tables-requires : tie.Need-plan-tables-requires
-plan-tables-requires c κs = search needs
-
-check-inputs-requires : tie.Need-check-inputs-requires
-check-inputs-requires c κs = search needs
-
-enum-known-checked : tie.Need-enum-known-checked
-enum-known-checked c = search needs
-
-enum-known-checked-2 : tie.Need-enum-known-checked-2
-enum-known-checked-2 c = search needs
-
-slice-aggregate-write-symbol : tie.Need-slice-aggregate-write-symbol
-slice-aggregate-write-symbol c = search needs
-
-slice-aggregate-write-symbol-2 : tie.Need-slice-aggregate-write-symbol-2
-slice-aggregate-write-symbol-2 c = search needs
-
-slice-aggregate-write-symbol-3 : tie.Need-slice-aggregate-write-symbol-3
-slice-aggregate-write-symbol-3 c = search needs
-
-slice-aggregate-write-symbol-4 : tie.Need-slice-aggregate-write-symbol-4
-slice-aggregate-write-symbol-4 c = search needs
-
-slice-aggregate-write-symbol-5 : tie.Need-slice-aggregate-write-symbol-5
-slice-aggregate-write-symbol-5 c = search needs
-
 write-symbol-requires : tie.Need-write-symbol-requires
 write-symbol-requires c κs =
     let checked = c .before .before .before .before .before .before .before .before in
@@ -75,12 +36,6 @@ returns c =
     (c .before .before .before .check-inputs .ensures)
     (c .before .checked .given .1)
 
-same-length : tie.Need-same-length
-same-length c = search needs
-
-same-length-2 : tie.Need-same-length-2
-same-length-2 c = search needs
-
 returns-2 : tie.Need-returns-2
 returns-2 c =
     let checked = c .before .before .before .before .before .before .before .before .before .before .before .before in
@@ -109,21 +64,21 @@ pub encode-spec : {M : Type 1} → statement M
 encode-spec =
     tie.close
     (tie.spec
-    slice-aggregate-plan-tables
-    slice-aggregate-plan-tables-2
-    slice-aggregate-plan-tables-3
-    slice-aggregate-plan-tables-4
-    plan-tables-requires
-    check-inputs-requires
-    enum-known-checked
-    enum-known-checked-2
-    slice-aggregate-write-symbol
-    slice-aggregate-write-symbol-2
-    slice-aggregate-write-symbol-3
-    slice-aggregate-write-symbol-4
-    slice-aggregate-write-symbol-5
+    (λ c. search needs)
+    (λ c. search needs)
+    (λ c. search needs)
+    (λ c. search needs)
+    (λ c κs. search needs)
+    (λ c κs. search needs)
+    (λ c. search needs)
+    (λ c. search needs)
+    (λ c. search needs)
+    (λ c. search needs)
+    (λ c. search needs)
+    (λ c. search needs)
+    (λ c. search needs)
     write-symbol-requires
     returns
-    same-length
-    same-length-2
+    (λ c. search needs)
+    (λ c. search needs)
     returns-2)

@@ -7,48 +7,6 @@ use borrow.Author.Needs.{needs}
 use Rattle.symbol.proofs.read.Statement.{statement}
 use Rattle.symbol.proofs.read.Tie as tie
 
-slice-aggregate-plan-tables : tie.Need-slice-aggregate-plan-tables
-slice-aggregate-plan-tables c = search needs
-
-slice-aggregate-plan-tables-2 : tie.Need-slice-aggregate-plan-tables-2
-slice-aggregate-plan-tables-2 c = search needs
-
-slice-aggregate-plan-tables-3 : tie.Need-slice-aggregate-plan-tables-3
-slice-aggregate-plan-tables-3 c = search needs
-
-slice-aggregate-plan-tables-4 : tie.Need-slice-aggregate-plan-tables-4
-slice-aggregate-plan-tables-4 c = search needs
-
-plan-tables-requires : tie.Need-plan-tables-requires
-plan-tables-requires c κs = search needs
-
-check-inputs-requires : tie.Need-check-inputs-requires
-check-inputs-requires c κs = search needs
-
-enum-known-checked : tie.Need-enum-known-checked
-enum-known-checked c = search needs
-
-enum-known-checked-2 : tie.Need-enum-known-checked-2
-enum-known-checked-2 c = search needs
-
-slice-aggregate-read-symbol : tie.Need-slice-aggregate-read-symbol
-slice-aggregate-read-symbol c = search needs
-
-slice-aggregate-read-symbol-2 : tie.Need-slice-aggregate-read-symbol-2
-slice-aggregate-read-symbol-2 c = search needs
-
-slice-aggregate-read-symbol-3 : tie.Need-slice-aggregate-read-symbol-3
-slice-aggregate-read-symbol-3 c = search needs
-
-slice-aggregate-read-symbol-4 : tie.Need-slice-aggregate-read-symbol-4
-slice-aggregate-read-symbol-4 c = search needs
-
-slice-aggregate-read-symbol-5 : tie.Need-slice-aggregate-read-symbol-5
-slice-aggregate-read-symbol-5 c = search needs
-
-slice-aggregate-read-symbol-6 : tie.Need-slice-aggregate-read-symbol-6
-slice-aggregate-read-symbol-6 c = search needs
-
 read-symbol-requires : tie.Need-read-symbol-requires
 read-symbol-requires c κs =
     let checked = c .before .before .before .before .before .before .before .before in
@@ -79,9 +37,6 @@ returns c =
     (c .before .before .before .check-inputs .ensures)
     (c .before .checked .given .1)
 
-same-length : tie.Need-same-length
-same-length c = search needs
-
 returns-2 : tie.Need-returns-2
 returns-2 c =
     let checked = c .before .before .before .before .before .before .before .before .before .before .before .before .before in
@@ -111,21 +66,21 @@ pub read-spec : {M : Type 1} → statement M
 read-spec =
     tie.close
     (tie.spec
-    slice-aggregate-plan-tables
-    slice-aggregate-plan-tables-2
-    slice-aggregate-plan-tables-3
-    slice-aggregate-plan-tables-4
-    plan-tables-requires
-    check-inputs-requires
-    enum-known-checked
-    enum-known-checked-2
-    slice-aggregate-read-symbol
-    slice-aggregate-read-symbol-2
-    slice-aggregate-read-symbol-3
-    slice-aggregate-read-symbol-4
-    slice-aggregate-read-symbol-5
-    slice-aggregate-read-symbol-6
+    (λ c. search needs)
+    (λ c. search needs)
+    (λ c. search needs)
+    (λ c. search needs)
+    (λ c κs. search needs)
+    (λ c κs. search needs)
+    (λ c. search needs)
+    (λ c. search needs)
+    (λ c. search needs)
+    (λ c. search needs)
+    (λ c. search needs)
+    (λ c. search needs)
+    (λ c. search needs)
+    (λ c. search needs)
     read-symbol-requires
     returns
-    same-length
+    (λ c. search needs)
     returns-2)

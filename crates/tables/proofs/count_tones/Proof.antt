@@ -25,12 +25,6 @@ Inv-loop bits tones s₀ l₀ o₀ i₀ s l o i =
 abbrev μ-loop : tie.MeasureT-loop
 μ-loop bits tones s₀ l₀ o₀ i₀ s l o i = length bits - i
 
-loop-holds : tie.Need-loop-holds Inv-loop μ-loop
-loop-holds c = omega arith
-
-shared-slice-read-b : tie.Need-shared-slice-read-b Inv-loop μ-loop
-shared-slice-read-b c = search needs
-
 -- the entry at i is at most 15
 small : (c : tie.After-shared-slice-known3 Inv-loop μ-loop) → entry (now (c .before .before .before .before .before .args .bits)) (c .before .before .loop .i) ≤ 15
 small c = c .before .before .before .before .before .pre .bitsMost (c .before .before .loop .i)
@@ -41,23 +35,11 @@ cast-sum c = omega (arith, small c)
 add-sum : tie.Need-add-sum Inv-loop μ-loop
 add-sum c = omega (arith, small c, c .before .before .before .before .before .pre .size)
 
-one-if-requires : tie.Need-one-if-requires Inv-loop μ-loop
-one-if-requires c κs = search needs
-
 add-loaded : tie.Need-add-loaded Inv-loop μ-loop
 add-loaded c = omega (arith, c .before .before .before .before .before .before .pre .size)
 
-one-if-requires-2 : tie.Need-one-if-requires-2 Inv-loop μ-loop
-one-if-requires-2 c κs = search needs
-
 add-ones : tie.Need-add-ones Inv-loop μ-loop
 add-ones c = omega (arith, c .before .before .before .before .before .before .before .pre .size)
-
-add-i : tie.Need-add-i Inv-loop μ-loop
-add-i c = search needs
-
-loop-less : tie.Need-loop-less Inv-loop μ-loop
-loop-less c = search needs
 
 loop-again : tie.Need-loop-again Inv-loop μ-loop
 loop-again c =
@@ -67,15 +49,6 @@ loop-again c =
     let e2 = ap (count isOne) e in
     let m = small (c .before .before) in
     omega arith
-
-cast-t13 : tie.Need-cast-t13 Inv-loop μ-loop
-cast-t13 c = search needs
-
-cast-t14 : tie.Need-cast-t14 Inv-loop μ-loop
-cast-t14 c = search needs
-
-cast-t15 : tie.Need-cast-t15 Inv-loop μ-loop
-cast-t15 c = search needs
 
 returns : tie.Need-returns Inv-loop μ-loop
 returns c =
@@ -96,18 +69,18 @@ count-tones-spec =
     (tie.spec
     Inv-loop
     μ-loop
-    loop-holds
-    shared-slice-read-b
+    (λ c. omega arith)
+    (λ c. search needs)
     cast-sum
     add-sum
-    one-if-requires
+    (λ c κs. search needs)
     add-loaded
-    one-if-requires-2
+    (λ c κs. search needs)
     add-ones
-    add-i
-    loop-less
+    (λ c. search needs)
+    (λ c. search needs)
     loop-again
-    cast-t13
-    cast-t14
-    cast-t15
+    (λ c. search needs)
+    (λ c. search needs)
+    (λ c. search needs)
     returns)

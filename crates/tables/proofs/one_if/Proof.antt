@@ -14,11 +14,8 @@ unfolding weight
 values true = (refl, omega arith)
 values false = (refl, omega arith)
 
-cast-result : tie.Need-cast-result
-cast-result c = search needs
-
 returns : tie.Need-returns
 returns c = values (c .args .test)
 
 pub one-if-spec : {M : Type 1} → statement M
-one-if-spec = tie.close (tie.spec cast-result returns)
+one-if-spec = tie.close (tie.spec (λ c. search needs) returns)

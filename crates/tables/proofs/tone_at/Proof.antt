@@ -7,20 +7,11 @@ use borrow.Author.Needs.{needs}
 use Rattle.tables.proofs.tone_at.Statement.{statement}
 use Rattle.tables.proofs.tone_at.Tie as tie
 
-mul-t7 : tie.Need-mul-t7
-mul-t7 c = search needs
-
-shared-slice-read-t9 : tie.Need-shared-slice-read-t9
-shared-slice-read-t9 c = search needs
-
 cast-t10 : tie.Need-cast-t10
 cast-t10 c = omega (arith, c .shared-slice-known .given (c .before .before .args .p .0))
-
-returns : tie.Need-returns
-returns c = search needs
 
 returns-2 : tie.Need-returns-2
 returns-2 c = sym (List·getD-eq-default (now (c .before .args .tones)) 0 (c .if1 .left))
 
 pub tone-at-spec : {M : Type 1} → statement M
-tone-at-spec = tie.close (tie.spec mul-t7 shared-slice-read-t9 cast-t10 returns returns-2)
+tone-at-spec = tie.close (tie.spec (λ c. search needs) (λ c. search needs) cast-t10 (λ c. search needs) returns-2)

@@ -10,24 +10,6 @@ use borrow.Author.Needs.{needs}
 use Rattle.trellis.proofs.code_first.Statement.{statement}
 use Rattle.trellis.proofs.code_first.Tie as tie
 
-sub-get : tie.Need-sub-get
-sub-get c = search needs
-
-get-requires : tie.Need-get-requires
-get-requires c κs = search needs
-
-zero-state-requires : tie.Need-zero-state-requires
-zero-state-requires c κs = search needs
-
-step-requires : tie.Need-step-requires
-step-requires c κs = search needs
-
-sub-t9 : tie.Need-sub-t9
-sub-t9 c = search needs
-
-add-t13 : tie.Need-add-t13
-add-t13 c = search needs
-
 label-requires : tie.Need-label-requires
 label-requires c κs =
     let g = c .before .before .before .before in
@@ -55,4 +37,4 @@ returns c =
 pub code-first-spec : {M : Type 1} → statement M
 code-first-spec =
     tie.close
-    (tie.spec sub-get get-requires zero-state-requires step-requires sub-t9 add-t13 label-requires returns)
+    (tie.spec (λ c. search needs) (λ c κs. search needs) (λ c κs. search needs) (λ c κs. search needs) (λ c. search needs) (λ c. search needs) label-requires returns)

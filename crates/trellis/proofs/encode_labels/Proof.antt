@@ -58,9 +58,6 @@ returns c =
     odd-coded (a .frame .now) (a .start) (a .entries .now) (labelsAt (a .places .now) (a .labels .now)) (s .pre .0) (placed-length (s .pre .1)) (y .result) (if1 .taken) (y .ensures) (p .result) (p .ensures)
     (labelsAt (a .places .now) (f .last .1 .1 .1 .1 .1 .0)) (rw (w .ensures) at (f .ensures))
 
-zero-state-requires : tie.Need-zero-state-requires
-zero-state-requires c κs = search needs
-
 code-from-requires-2 : tie.Need-code-from-requires-2
 code-from-requires-2 c κs =
     let if1 = c .before .before .if1 in
@@ -89,7 +86,7 @@ encode-labels-spec =
     code-from-requires
     same-length
     returns
-    zero-state-requires
+    (λ c κs. search needs)
     code-from-requires-2
     same-length-2
     returns-2)

@@ -4,14 +4,8 @@ use borrow.Author.Needs.{needs}
 use Rattle.trellis.proofs.entry.Statement.{statement}
 use Rattle.trellis.proofs.entry.Tie as tie
 
-shared-slice-read-result : tie.Need-shared-slice-read-result
-shared-slice-read-result c = search needs
-
 cast-result : tie.Need-cast-result
 cast-result c = omega (arith, c .shared-slice-known .given (c .before .args .i))
 
-returns : tie.Need-returns
-returns c = search needs
-
 pub entry-spec : {M : Type 1} → statement M
-entry-spec = tie.close (tie.spec shared-slice-read-result cast-result returns)
+entry-spec = tie.close (tie.spec (λ c. search needs) cast-result (λ c. search needs))

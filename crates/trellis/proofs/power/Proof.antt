@@ -7,14 +7,8 @@ use borrow.Author.Needs.{needs}
 use Rattle.trellis.proofs.power.Statement.{statement}
 use Rattle.trellis.proofs.power.Tie as tie
 
-cast-result : tie.Need-cast-result
-cast-result c = search needs
-
-shl-result : tie.Need-shl-result
-shl-result c = search needs
-
 returns : tie.Need-returns
 returns c = ap (λ (x : ℕ). x % 2 ^ 32) (one-mul _) ∙ mod-eq-of-lt (pow-lt {j = 32} (search needs))
 
 pub power-spec : {M : Type 1} → statement M
-power-spec = tie.close (tie.spec cast-result shl-result returns)
+power-spec = tie.close (tie.spec (λ c. search needs) (λ c. search needs) returns)

@@ -8,17 +8,8 @@ use borrow.Author.Needs.{needs}
 use Rattle.trellis.proofs.put_entry.Statement.{statement}
 use Rattle.trellis.proofs.put_entry.Tie as tie
 
-place-at-requires : tie.Need-place-at-requires
-place-at-requires c κs = search needs
-
-cast-put-label : tie.Need-cast-put-label
-cast-put-label c = search needs
-
 put-label-requires : tie.Need-put-label-requires
 put-label-requires c κs = rw (c .place-at .ensures) (c .before .before .before .before .pre .2 .below (c .before .before .before .before .args .i) (c .before .before .before .before .pre .0))
-
-same-length : tie.Need-same-length
-same-length c = search needs
 
 returns : tie.Need-returns
 returns c =
@@ -28,4 +19,4 @@ returns c =
 
 pub put-entry-spec : {M : Type 1} → statement M
 put-entry-spec =
-    tie.close (tie.spec place-at-requires cast-put-label put-label-requires same-length returns)
+    tie.close (tie.spec (λ c κs. search needs) (λ c. search needs) put-label-requires (λ c. search needs) returns)

@@ -14,9 +14,6 @@ use Rattle.constellation.proofs.demap.axis_bits.Tie as tie
 width : (c : tie.Start) → (1 ≤ c .args .m) × (4 * c .args .m ≤ 256)
 width c = (omega (arith, c .pre .2, pow-pos (c .pre .0)), omega (arith, c .pre .2, half-le (c .pre .0) (c .pre .1)))
 
-raised-requires : tie.Need-raised-requires
-raised-requires c κs = search needs
-
 mul-f : tie.Need-mul-f
 mul-f c = record { fits = omega (arith, width (c .before)) }
 
@@ -40,4 +37,4 @@ returns c = axis-16 (c .before .args .m) (c .raised .result) (c .before .args .z
 
 pub axis-bits-spec : {M : Type 1} → statement M
 axis-bits-spec =
-    tie.close (tie.spec raised-requires mul-f add-f mul-bits sub-bits sub-t6 add-t8 returns)
+    tie.close (tie.spec (λ c κs. search needs) mul-f add-f mul-bits sub-bits sub-t6 add-t8 returns)

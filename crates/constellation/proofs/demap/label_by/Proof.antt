@@ -6,28 +6,10 @@ use borrow.Author.Needs.{needs}
 use Rattle.constellation.proofs.demap.label_by.Statement.{statement}
 use Rattle.constellation.proofs.demap.label_by.Tie as tie
 
-axis-bits-requires : tie.Need-axis-bits-requires
-axis-bits-requires c κs = search needs
-
-axis-bits-requires-2 : tie.Need-axis-bits-requires-2
-axis-bits-requires-2 c κs = search needs
-
 lifted-word-requires : tie.Need-lifted-word-requires
 lifted-word-requires c κs =
     let s = c .before .before in
     (in-width (s .args .layout) _ _ _ (s .pre) (c .before .axis-bits .ensures), in-width (s .args .layout) _ _ _ (s .pre) (c .axis-bits2 .ensures))
-
-top-of-requires : tie.Need-top-of-requires
-top-of-requires c κs = search needs
-
-lowered-label-requires : tie.Need-lowered-label-requires
-lowered-label-requires c κs = search needs
-
-is-origin-requires : tie.Need-is-origin-requires
-is-origin-requires c κs = search needs
-
-pick-requires : tie.Need-pick-requires
-pick-requires c κs = search needs
 
 returns : tie.Need-returns
 returns c =
@@ -52,11 +34,11 @@ pub label-by-spec : {M : Type 1} → statement M
 label-by-spec =
     tie.close
     (tie.spec
-    axis-bits-requires
-    axis-bits-requires-2
+    (λ c κs. search needs)
+    (λ c κs. search needs)
     lifted-word-requires
-    top-of-requires
-    lowered-label-requires
-    is-origin-requires
-    pick-requires
+    (λ c κs. search needs)
+    (λ c κs. search needs)
+    (λ c κs. search needs)
+    (λ c κs. search needs)
     returns)

@@ -7,22 +7,10 @@ use borrow.Author.Needs.{needs}
 use Rattle.constellation.proofs.demap.lifted_word.Statement.{statement}
 use Rattle.constellation.proofs.demap.lifted_word.Tie as tie
 
-mul-spread-byte : tie.Need-mul-spread-byte
-mul-spread-byte c = search needs
-
-spread-byte-requires : tie.Need-spread-byte-requires
-spread-byte-requires c κs = search needs
-
 mul-result : tie.Need-mul-result
 mul-result c =
     let a = c .before .args in
     record { fits = omega (arith, c .spread-byte .ensures, spread-byte-le (a .x * a .c) (c .before .pre .0)) }
-
-mul-spread-byte-2 : tie.Need-mul-spread-byte-2
-mul-spread-byte-2 c = search needs
-
-spread-byte-requires-2 : tie.Need-spread-byte-requires-2
-spread-byte-requires-2 c κs = search needs
 
 add-result : tie.Need-add-result
 add-result c =
@@ -38,10 +26,10 @@ pub lifted-word-spec : {M : Type 1} → statement M
 lifted-word-spec =
     tie.close
     (tie.spec
-    mul-spread-byte
-    spread-byte-requires
+    (λ c. search needs)
+    (λ c κs. search needs)
     mul-result
-    mul-spread-byte-2
-    spread-byte-requires-2
+    (λ c. search needs)
+    (λ c κs. search needs)
     add-result
     returns)

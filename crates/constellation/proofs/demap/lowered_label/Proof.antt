@@ -5,18 +5,6 @@ use borrow.Author.Needs.{needs}
 use Rattle.constellation.proofs.demap.lowered_label.Statement.{statement}
 use Rattle.constellation.proofs.demap.lowered_label.Tie as tie
 
-mul-lifted : tie.Need-mul-lifted
-mul-lifted c = search needs
-
-mul-lifted-2 : tie.Need-mul-lifted-2
-mul-lifted-2 c = search needs
-
-add-lifted : tie.Need-add-lifted
-add-lifted c = search needs
-
-cast-result : tie.Need-cast-result
-cast-result c = search needs
-
 mul-result : tie.Need-mul-result
 mul-result c = record { fits = omega (arith, square-le (c .args .m) (c .pre .0)) }
 
@@ -39,10 +27,10 @@ pub lowered-label-spec : {M : Type 1} → statement M
 lowered-label-spec =
     tie.close
     (tie.spec
-    mul-lifted
-    mul-lifted-2
-    add-lifted
-    cast-result
+    (λ c. search needs)
+    (λ c. search needs)
+    (λ c. search needs)
+    (λ c. search needs)
     mul-result
     mul-result-2
     cast-result-2

@@ -4,16 +4,10 @@ use borrow.Author.Needs.{needs}
 use Rattle.constellation.proofs.demap.top_of.Statement.{statement}
 use Rattle.constellation.proofs.demap.top_of.Tie as tie
 
-pick-requires : tie.Need-pick-requires
-pick-requires c κs = search needs
-
-pick-requires-2 : tie.Need-pick-requires-2
-pick-requires-2 c κs = search needs
-
 returns : tie.Need-returns
 returns c =
     let start = c .before .before in
     tops-law (start .args .layout) (start .args .six) (c .before .pick .result) (c .pick2 .result) (start .pre) (c .before .pick .ensures) (c .pick2 .ensures)
 
 pub top-of-spec : {M : Type 1} → statement M
-top-of-spec = tie.close (tie.spec pick-requires pick-requires-2 returns)
+top-of-spec = tie.close (tie.spec (λ c κs. search needs) (λ c κs. search needs) returns)

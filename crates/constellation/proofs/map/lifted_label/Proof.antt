@@ -9,26 +9,11 @@ use Rattle.constellation.proofs.map.lifted_label.Tie as tie
 mul-m : tie.Need-mul-m
 mul-m c = record { fits = omega (arith, mul-le-mul (c .pre .0) (c .pre .0)) }
 
-mul-result : tie.Need-mul-result
-mul-result c = search needs
-
-mul-result-2 : tie.Need-mul-result-2
-mul-result-2 c = search needs
-
-sub-result : tie.Need-sub-result
-sub-result c = search needs
-
 mul-result-3 : tie.Need-mul-result-3
 mul-result-3 c =
     let r : 3 - c .args .label % 4 ≤ 3 = omega arith in
     record { fits = omega (arith, mul-le-mul r (mul-le-mul (c .pre .0) (c .pre .0))) }
 
-add-result : tie.Need-add-result
-add-result c = search needs
-
-returns : tie.Need-returns
-returns c = search needs
-
 pub lifted-label-spec : {M : Type 1} → statement M
 lifted-label-spec =
-    tie.close (tie.spec mul-m mul-result mul-result-2 sub-result mul-result-3 add-result returns)
+    tie.close (tie.spec mul-m (λ c. search needs) (λ c. search needs) (λ c. search needs) mul-result-3 (λ c. search needs) (λ c. search needs))

@@ -26,12 +26,6 @@ add-result c = record { fits = omega (arith, both (c .before) .product, both (c 
 cast-result : tie.Need-cast-result
 cast-result c = record { sfits = omega (arith, both (c .before) .product, both (c .before) .small) }
 
-mul-result-3 : tie.Need-mul-result-3
-mul-result-3 c = search needs
-
-cast-result-2 : tie.Need-cast-result-2
-cast-result-2 c = search needs
-
 sub-result : tie.Need-sub-result
 sub-result c = let r = both (c .before) in rw (r .is) (r .fits)
 
@@ -49,7 +43,7 @@ scaled-coordinate-spec =
     mul-result-2
     add-result
     cast-result
-    mul-result-3
-    cast-result-2
+    (λ c. search needs)
+    (λ c. search needs)
     sub-result
     returns)

@@ -15,19 +15,10 @@ use Rattle.constellation.proofs.map.widened_point.Tie as tie
 lifted-label-requires : tie.Need-lifted-label-requires
 lifted-label-requires c κs = liftable-label (c .args .layout) (c .args .label) (c .pre)
 
-widened-lifted-requires : tie.Need-widened-lifted-requires
-widened-lifted-requires c κs = search needs
-
-evens-requires : tie.Need-evens-requires
-evens-requires c κs = search needs
-
 scaled-coordinate-requires : tie.Need-scaled-coordinate-requires
 scaled-coordinate-requires c κs =
     let s = c .before .before .before in
     (rw (c .evens .ensures) (bits-256 (c .before .widened-lifted .result / 2)), liftable-upper (s .args .layout) (s .args .label) (s .pre))
-
-evens-requires-2 : tie.Need-evens-requires-2
-evens-requires-2 c κs = search needs
 
 scaled-coordinate-requires-2 : tie.Need-scaled-coordinate-requires-2
 scaled-coordinate-requires-2 c κs =
@@ -52,9 +43,9 @@ widened-point-spec =
     tie.close
     (tie.spec
     lifted-label-requires
-    widened-lifted-requires
-    evens-requires
+    (λ c κs. search needs)
+    (λ c κs. search needs)
     scaled-coordinate-requires
-    evens-requires-2
+    (λ c κs. search needs)
     scaled-coordinate-requires-2
     returns)

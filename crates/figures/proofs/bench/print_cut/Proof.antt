@@ -21,33 +21,15 @@ slice-aggregate-line-3 c =
     let start = c .before .before .before .before .before .before in
     sym (length-take-le (start .args .n) (start .args .tones .now) (omega arith))
 
-slice-relend-prefix-line : tie.Need-slice-relend-prefix-line
-slice-relend-prefix-line c = search needs
-
 slice-aggregate-line-4 : tie.Need-slice-aggregate-line-4
 slice-aggregate-line-4 c =
     let start = c .before .before .before .before .before .before .before in
     sym (length-take-le (start .args .n) (start .args .xs .now) (omega arith))
 
-slice-relend-prefix-line-2 : tie.Need-slice-relend-prefix-line-2
-slice-relend-prefix-line-2 c = search needs
-
 slice-aggregate-line-5 : tie.Need-slice-aggregate-line-5
 slice-aggregate-line-5 c =
     let start = c .before .before .before .before .before .before .before .before in
     sym (length-take-le (start .args .n) (start .args .ys .now) (omega arith))
-
-line-requires : tie.Need-line-requires
-line-requires c κs = search needs
-
-same-length : tie.Need-same-length
-same-length c = search needs
-
-same-length-2 : tie.Need-same-length-2
-same-length-2 c = search needs
-
-returns : tie.Need-returns
-returns c = search needs
 
 pub print-cut-spec : {M : Type 1} → statement M
 print-cut-spec =
@@ -56,11 +38,11 @@ print-cut-spec =
     slice-aggregate-line
     slice-aggregate-line-2
     slice-aggregate-line-3
-    slice-relend-prefix-line
+    (λ c. search needs)
     slice-aggregate-line-4
-    slice-relend-prefix-line-2
+    (λ c. search needs)
     slice-aggregate-line-5
-    line-requires
-    same-length
-    same-length-2
-    returns)
+    (λ c κs. search needs)
+    (λ c. search needs)
+    (λ c. search needs)
+    (λ c. search needs))

@@ -5,12 +5,6 @@ use borrow.Author.Needs.{needs}
 use Rattle.frame.proofs.masks.lowest_by.Statement.{statement}
 use Rattle.frame.proofs.masks.lowest_by.Tie as tie
 
-mul-result : tie.Need-mul-result
-mul-result c = search needs
-
-element-copy-out-result : tie.Need-element-copy-out-result
-element-copy-out-result c = search needs
-
 cast-result : tie.Need-cast-result
 cast-result c =
     let a = c .before .args in
@@ -22,4 +16,4 @@ returns c =
     mask-found (a .masks .now) (a .k) (a .word) (c .before .pre .0) (c .before .pre .1)
 
 pub lowest-by-spec : {M : Type 1} → statement M
-lowest-by-spec = tie.close (tie.spec mul-result element-copy-out-result cast-result returns)
+lowest-by-spec = tie.close (tie.spec (λ c. search needs) (λ c. search needs) cast-result returns)

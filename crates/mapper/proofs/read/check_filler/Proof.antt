@@ -19,28 +19,10 @@ loop-holds c =
     let a = c .before .before .args in
     check-start (a .monitored .now) (a .register) (a .labels .now)
 
-place-at-requires : tie.Need-place-at-requires Inv-loop μ-loop
-place-at-requires c κs = search needs
-
-filler-label-requires : tie.Need-filler-label-requires Inv-loop μ-loop
-filler-label-requires c κs = search needs
-
 label-at-requires : tie.Need-label-at-requires Inv-loop μ-loop
 label-at-requires c κs =
     let l = c .before .before .before .loop in
     rw (c .before .place-at .ensures) (c .before .before .before .before .before .before .pre .below (l .k) (omega arith))
-
-cast-or-here : tie.Need-cast-or-here Inv-loop μ-loop
-cast-or-here c = search needs
-
-or-here-requires : tie.Need-or-here-requires Inv-loop μ-loop
-or-here-requires c κs = search needs
-
-add-k : tie.Need-add-k Inv-loop μ-loop
-add-k c = search needs
-
-loop-less : tie.Need-loop-less Inv-loop μ-loop
-loop-less c = search needs
 
 loop-again : tie.Need-loop-again Inv-loop μ-loop
 loop-again c =
@@ -59,12 +41,12 @@ check-filler-spec =
     Inv-loop
     μ-loop
     loop-holds
-    place-at-requires
-    filler-label-requires
+    (λ c κs. search needs)
+    (λ c κs. search needs)
     label-at-requires
-    cast-or-here
-    or-here-requires
-    add-k
-    loop-less
+    (λ c. search needs)
+    (λ c κs. search needs)
+    (λ c. search needs)
+    (λ c. search needs)
     loop-again
     returns)

@@ -17,9 +17,6 @@ abbrev μ-loop : tie.MeasureT-loop
 loop-holds : tie.Need-loop-holds Inv-loop μ-loop
 loop-holds c = collect-start (c .before .before .before .before .pre)
 
-shared-slice-read-n : tie.Need-shared-slice-read-n Inv-loop μ-loop
-shared-slice-read-n c = omega arith
-
 cast-n : tie.Need-cast-n Inv-loop μ-loop
 cast-n c = omega (arith, c .before .before .before .before .before .before .before .pre .counts (c .before .before .loop .j))
 
@@ -31,20 +28,11 @@ label-at-requires c κs =
     let s = c .before .before .before .before .before .before .before .before .before in
     rw (c .place-at .ensures) (place-inside (s .pre) (c .before .before .before .before .loop .inv) (omega arith))
 
-cast-put : tie.Need-cast-put Inv-loop μ-loop
-cast-put c = search needs
-
 put-requires : tie.Need-put-requires Inv-loop μ-loop
 put-requires c κs =
     let s = c .before .before .before .before .before .before .before .before .before .before in
     rw (c .label-at .ensures, c .before .place-at .ensures)
     (put-needs (s .pre) (c .before .before .before .before .before .loop .inv) (omega arith))
-
-add-j : tie.Need-add-j Inv-loop μ-loop
-add-j c = search needs
-
-loop-less : tie.Need-loop-less Inv-loop μ-loop
-loop-less c = search needs
 
 loop-again : tie.Need-loop-again Inv-loop μ-loop
 loop-again c =
@@ -69,14 +57,14 @@ collect-labels-spec =
     Inv-loop
     μ-loop
     loop-holds
-    shared-slice-read-n
+    (λ c. omega arith)
     cast-n
     place-at-requires
     label-at-requires
-    cast-put
+    (λ c. search needs)
     put-requires
-    add-j
-    loop-less
+    (λ c. search needs)
+    (λ c. search needs)
     loop-again
     same-length
     returns)

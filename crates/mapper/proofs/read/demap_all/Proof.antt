@@ -25,20 +25,8 @@ loop-holds c =
     let s = c .before .before in
     demap-start (s .args .layouts .now) (s .args .xs .now) (s .args .ys .now) (s .args .labels .now) (s .pre .labelsLength)
 
-mul-label-by : tie.Need-mul-label-by Inv-loop μ-loop
-mul-label-by c = search needs
-
 shared-slice-read-label-by : tie.Need-shared-slice-read-label-by Inv-loop μ-loop
 shared-slice-read-label-by c = omega (arith, c .before .before .before .before .before .pre .points .layoutsLength)
-
-mul-label-by-2 : tie.Need-mul-label-by-2 Inv-loop μ-loop
-mul-label-by-2 c = search needs
-
-shared-slice-copy-out-label-by : tie.Need-shared-slice-copy-out-label-by Inv-loop μ-loop
-shared-slice-copy-out-label-by c = search needs
-
-mul-label-by-3 : tie.Need-mul-label-by-3 Inv-loop μ-loop
-mul-label-by-3 c = search needs
 
 shared-slice-copy-out-label-by-2 : tie.Need-shared-slice-copy-out-label-by-2 Inv-loop μ-loop
 shared-slice-copy-out-label-by-2 c = omega (arith, c .before .before .before .before .before .before .pre .points .ysLength)
@@ -49,17 +37,8 @@ label-by-requires c κs =
     let i = c .before .before .before .before .loop .i in
     is-layout (entry (s .args .layouts .now) i) (s .pre .points .ofTones i (omega arith))
 
-mul-labels : tie.Need-mul-labels Inv-loop μ-loop
-mul-labels c = search needs
-
 slice-write-labels : tie.Need-slice-write-labels Inv-loop μ-loop
 slice-write-labels c = omega (arith, c .before .before .before .before .before .loop .inv .labelsLength)
-
-add-i : tie.Need-add-i Inv-loop μ-loop
-add-i c = search needs
-
-loop-less : tie.Need-loop-less Inv-loop μ-loop
-loop-less c = search needs
 
 loop-again : tie.Need-loop-again Inv-loop μ-loop
 loop-again c =
@@ -83,17 +62,17 @@ demap-all-spec =
     Inv-loop
     μ-loop
     loop-holds
-    mul-label-by
+    (λ c. search needs)
     shared-slice-read-label-by
-    mul-label-by-2
-    shared-slice-copy-out-label-by
-    mul-label-by-3
+    (λ c. search needs)
+    (λ c. search needs)
+    (λ c. search needs)
     shared-slice-copy-out-label-by-2
     label-by-requires
-    mul-labels
+    (λ c. search needs)
     slice-write-labels
-    add-i
-    loop-less
+    (λ c. search needs)
+    (λ c. search needs)
     loop-again
     same-length
     returns)

@@ -4,20 +4,8 @@ use borrow.Author.Needs.{needs}
 use Rattle.mapper.proofs.read.demap_points.Statement.{statement}
 use Rattle.mapper.proofs.read.demap_points.Tie as tie
 
-demap-all-requires : tie.Need-demap-all-requires
-demap-all-requires c κs = search needs
-
-same-length : tie.Need-same-length
-same-length c = search needs
-
 returns : tie.Need-returns
 returns c = all-on (c .before .before .before .demap-all .ensures) (c .if1 .taken)
-
-first-offgrid-requires : tie.Need-first-offgrid-requires
-first-offgrid-requires c κs = search needs
-
-same-length-2 : tie.Need-same-length-2
-same-length-2 c = search needs
 
 returns-2 : tie.Need-returns-2
 returns-2 c =
@@ -29,9 +17,9 @@ pub demap-points-spec : {M : Type 1} → statement M
 demap-points-spec =
     tie.close
     (tie.spec
-    demap-all-requires
-    same-length
+    (λ c κs. search needs)
+    (λ c. search needs)
     returns
-    first-offgrid-requires
-    same-length-2
+    (λ c κs. search needs)
+    (λ c. search needs)
     returns-2)

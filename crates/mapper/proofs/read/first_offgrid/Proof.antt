@@ -26,12 +26,6 @@ returns c =
     let o = c .before .on-grid in
     (omega arith, rw (not-true (o .result) (c .if1 .taken)) at (o .ensures), c .before .before .before .loop .inv .1)
 
-add-i : tie.Need-add-i Inv-loop μ-loop
-add-i c = omega arith
-
-loop-less : tie.Need-loop-less Inv-loop μ-loop
-loop-less c = omega arith
-
 loop-again : tie.Need-loop-again Inv-loop μ-loop
 loop-again c =
     let o = c .before .on-grid in
@@ -50,7 +44,7 @@ first-offgrid-spec =
     loop-holds
     on-grid-requires
     returns
-    add-i
-    loop-less
+    (λ c. omega arith)
+    (λ c. omega arith)
     loop-again
     returns-2)

@@ -18,24 +18,6 @@ abbrev μ-loop : tie.MeasureT-loop
 loop-holds : tie.Need-loop-holds Inv-loop μ-loop
 loop-holds c = (c .pre, change-start (c .pre .inside))
 
-add-loop : tie.Need-add-loop Inv-loop μ-loop
-add-loop c = search needs
-
-mul-labels : tie.Need-mul-labels Inv-loop μ-loop
-mul-labels c = search needs
-
-slice-read-labels : tie.Need-slice-read-labels Inv-loop μ-loop
-slice-read-labels c = search needs
-
-add-labels : tie.Need-add-labels Inv-loop μ-loop
-add-labels c = search needs
-
-mul-labels-2 : tie.Need-mul-labels-2 Inv-loop μ-loop
-mul-labels-2 c = search needs
-
-slice-read-labels-2 : tie.Need-slice-read-labels-2 Inv-loop μ-loop
-slice-read-labels-2 c = search needs
-
 mul-labels-3 : tie.Need-mul-labels-3 Inv-loop μ-loop
 mul-labels-3 c =
     let l = c .before .before .before .loop in
@@ -45,15 +27,6 @@ add-labels-2 : tie.Need-add-labels-2 Inv-loop μ-loop
 add-labels-2 c =
     let l = c .before .before .before .loop in
     omega (arith, join-small (l .labels) (l .i) (omega arith) (l .inv .0))
-
-mul-labels-4 : tie.Need-mul-labels-4 Inv-loop μ-loop
-mul-labels-4 c = search needs
-
-slice-write-labels : tie.Need-slice-write-labels Inv-loop μ-loop
-slice-write-labels c = search needs
-
-add-i : tie.Need-add-i Inv-loop μ-loop
-add-i c = search needs
 
 loop-less : tie.Need-loop-less Inv-loop μ-loop
 loop-less c = omega (arith, c .before .before .before .loop .inv .1 .labelsLength)
@@ -76,17 +49,17 @@ join-shared-spec =
     Inv-loop
     μ-loop
     loop-holds
-    add-loop
-    mul-labels
-    slice-read-labels
-    add-labels
-    mul-labels-2
-    slice-read-labels-2
+    (λ c. search needs)
+    (λ c. search needs)
+    (λ c. search needs)
+    (λ c. search needs)
+    (λ c. search needs)
+    (λ c. search needs)
     mul-labels-3
     add-labels-2
-    mul-labels-4
-    slice-write-labels
-    add-i
+    (λ c. search needs)
+    (λ c. search needs)
+    (λ c. search needs)
     loop-less
     loop-again
     same-length

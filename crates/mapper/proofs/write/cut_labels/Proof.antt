@@ -15,20 +15,11 @@ Inv-loop frame start entries places labels₀ masks at₀ j₀ labels at j = Cut
 abbrev μ-loop : tie.MeasureT-loop
 μ-loop frame start entries places labels₀ masks at₀ j₀ labels at j = length entries - j
 
-mask-table-requires : tie.Need-mask-table-requires Inv-loop μ-loop
-mask-table-requires c κs = search needs
-
 loop-holds : tie.Need-loop-holds Inv-loop μ-loop
 loop-holds c = cut-start
 
-shared-slice-read-n : tie.Need-shared-slice-read-n Inv-loop μ-loop
-shared-slice-read-n c = omega arith
-
 cast-n : tie.Need-cast-n Inv-loop μ-loop
 cast-n c = omega (arith, c .before .before .before .before .before .before .before .before .pre .counts (c .before .before .loop .j))
-
-ahead-requires : tie.Need-ahead-requires Inv-loop μ-loop
-ahead-requires c κs = search needs
 
 lowest-by-requires : tie.Need-lowest-by-requires Inv-loop μ-loop
 lowest-by-requires c κs =
@@ -55,12 +46,6 @@ add-at c =
     let loop = c .before .before .before .before .before .before .before .before .before .before .loop in
     omega (arith, start .pre .small, next-inside (start .pre) (loop .inv) (omega arith))
 
-add-j : tie.Need-add-j Inv-loop μ-loop
-add-j c = search needs
-
-loop-less : tie.Need-loop-less Inv-loop μ-loop
-loop-less c = search needs
-
 loop-again : tie.Need-loop-again Inv-loop μ-loop
 loop-again c =
     let s = c .before .before .before .before .before .before .before .before .before .before .before .before .before .before .before .before in
@@ -80,18 +65,18 @@ cut-labels-spec =
     (tie.spec
     Inv-loop
     μ-loop
-    mask-table-requires
+    (λ c κs. search needs)
     loop-holds
-    shared-slice-read-n
+    (λ c. omega arith)
     cast-n
-    ahead-requires
+    (λ c κs. search needs)
     lowest-by-requires
     place-at-requires
     cast-put-label
     put-label-requires
     add-at
-    add-j
-    loop-less
+    (λ c. search needs)
+    (λ c. search needs)
     loop-again
     same-length
     returns)

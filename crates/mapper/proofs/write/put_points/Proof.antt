@@ -21,14 +21,8 @@ loop-holds c =
     let s = c .before .before in
     put-start (s .args .layouts .now) (s .args .labels .now) (s .args .xs .now) (s .args .ys .now) (s .pre .ysLength)
 
-mul-point-by : tie.Need-mul-point-by Inv-loop μ-loop
-mul-point-by c = search needs
-
 shared-slice-read-point-by : tie.Need-shared-slice-read-point-by Inv-loop μ-loop
 shared-slice-read-point-by c = omega (arith, c .before .before .before .before .before .pre .layoutsLength, c .before .before .loop .inv .xsLength)
-
-mul-point-by-2 : tie.Need-mul-point-by-2 Inv-loop μ-loop
-mul-point-by-2 c = search needs
 
 shared-slice-read-point-by-2 : tie.Need-shared-slice-read-point-by-2 Inv-loop μ-loop
 shared-slice-read-point-by-2 c =
@@ -40,22 +34,10 @@ point-by-requires c κs =
     let l = c .before .before .before .loop in
     c .before .before .before .before .before .before .pre .mappable (l .i) (omega (arith, l .inv .xsLength))
 
-mul-x : tie.Need-mul-x Inv-loop μ-loop
-mul-x c = search needs
-
-slice-set-from-x : tie.Need-slice-set-from-x Inv-loop μ-loop
-slice-set-from-x c = search needs
-
-mul-y : tie.Need-mul-y Inv-loop μ-loop
-mul-y c = search needs
-
 slice-set-from-y : tie.Need-slice-set-from-y Inv-loop μ-loop
 slice-set-from-y c =
     let l = c .before .before .before .before .before .before .loop in
     omega (arith, l .inv .xsLength, l .inv .ysLength)
-
-add-i : tie.Need-add-i Inv-loop μ-loop
-add-i c = search needs
 
 loop-less : tie.Need-loop-less Inv-loop μ-loop
 loop-less c = omega (arith, c .before .before .before .before .before .before .loop .inv .xsLength)
@@ -84,16 +66,16 @@ put-points-spec =
     Inv-loop
     μ-loop
     loop-holds
-    mul-point-by
+    (λ c. search needs)
     shared-slice-read-point-by
-    mul-point-by-2
+    (λ c. search needs)
     shared-slice-read-point-by-2
     point-by-requires
-    mul-x
-    slice-set-from-x
-    mul-y
+    (λ c. search needs)
+    (λ c. search needs)
+    (λ c. search needs)
     slice-set-from-y
-    add-i
+    (λ c. search needs)
     loop-less
     loop-again
     same-length

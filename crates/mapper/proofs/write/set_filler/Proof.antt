@@ -19,12 +19,6 @@ loop-holds c =
     let a = c .before .before .args in
     fill-start (a .monitored .now) (a .register) (a .labels .now)
 
-filler-label-requires : tie.Need-filler-label-requires Inv-loop μ-loop
-filler-label-requires c κs = search needs
-
-place-at-requires : tie.Need-place-at-requires Inv-loop μ-loop
-place-at-requires c κs = search needs
-
 cast-put-label : tie.Need-cast-put-label Inv-loop μ-loop
 cast-put-label c =
     let f = c .before .before .before .filler-label in
@@ -34,12 +28,6 @@ put-label-requires : tie.Need-put-label-requires Inv-loop μ-loop
 put-label-requires c κs =
     let l = c .before .before .before .before .before .loop in
     rw (c .before .place-at .ensures, l .inv .labelsLength) (c .before .before .before .before .before .before .before .before .pre .below (l .k) (omega arith))
-
-add-k : tie.Need-add-k Inv-loop μ-loop
-add-k c = search needs
-
-loop-less : tie.Need-loop-less Inv-loop μ-loop
-loop-less c = search needs
 
 loop-again : tie.Need-loop-again Inv-loop μ-loop
 loop-again c =
@@ -61,12 +49,12 @@ set-filler-spec =
     Inv-loop
     μ-loop
     loop-holds
-    filler-label-requires
-    place-at-requires
+    (λ c κs. search needs)
+    (λ c κs. search needs)
     cast-put-label
     put-label-requires
-    add-k
-    loop-less
+    (λ c. search needs)
+    (λ c. search needs)
     loop-again
     same-length
     returns)

@@ -18,33 +18,6 @@ abbrev μ-loop : tie.MeasureT-loop
 loop-holds : tie.Need-loop-holds Inv-loop μ-loop
 loop-holds c = change-start (c .pre)
 
-add-loop : tie.Need-add-loop Inv-loop μ-loop
-add-loop c = search needs
-
-mul-both : tie.Need-mul-both Inv-loop μ-loop
-mul-both c = search needs
-
-slice-read-both : tie.Need-slice-read-both Inv-loop μ-loop
-slice-read-both c = search needs
-
-mul-labels : tie.Need-mul-labels Inv-loop μ-loop
-mul-labels c = search needs
-
-slice-write-labels : tie.Need-slice-write-labels Inv-loop μ-loop
-slice-write-labels c = search needs
-
-add-labels : tie.Need-add-labels Inv-loop μ-loop
-add-labels c = search needs
-
-mul-labels-2 : tie.Need-mul-labels-2 Inv-loop μ-loop
-mul-labels-2 c = search needs
-
-slice-write-labels-2 : tie.Need-slice-write-labels-2 Inv-loop μ-loop
-slice-write-labels-2 c = search needs
-
-add-i : tie.Need-add-i Inv-loop μ-loop
-add-i c = search needs
-
 loop-less : tie.Need-loop-less Inv-loop μ-loop
 loop-less c = omega (arith, c .before .before .loop .inv .labelsLength)
 
@@ -66,15 +39,15 @@ split-shared-spec =
     Inv-loop
     μ-loop
     loop-holds
-    add-loop
-    mul-both
-    slice-read-both
-    mul-labels
-    slice-write-labels
-    add-labels
-    mul-labels-2
-    slice-write-labels-2
-    add-i
+    (λ c. search needs)
+    (λ c. search needs)
+    (λ c. search needs)
+    (λ c. search needs)
+    (λ c. search needs)
+    (λ c. search needs)
+    (λ c. search needs)
+    (λ c. search needs)
+    (λ c. search needs)
     loop-less
     loop-again
     same-length

@@ -26,15 +26,6 @@ fits c e =
 loop-holds : tie.Need-loop-holds Inv-loop μ-loop
 loop-holds c = (refl, ones-start)
 
-tone-at-requires : tie.Need-tone-at-requires Inv-loop μ-loop
-tone-at-requires c κs = search needs
-
-bits-at-requires : tie.Need-bits-at-requires Inv-loop μ-loop
-bits-at-requires c κs = search needs
-
-add-i : tie.Need-add-i Inv-loop μ-loop
-add-i c = search needs
-
 put-tone-requires : tie.Need-put-tone-requires Inv-loop μ-loop
 put-tone-requires c κs =
     let shared-slice-known2 = c .before .before .before .before .before .before .before .shared-slice-known2 in
@@ -48,9 +39,6 @@ add-one c =
     let if1 = c .before .before .before .before .if1 in
     omega (arith, fits (c .before .before .before .before .before) (if1 .taken), start .good)
 
-loop-less : tie.Need-loop-less Inv-loop μ-loop
-loop-less c = omega arith
-
 loop-again : tie.Need-loop-again Inv-loop μ-loop
 loop-again c =
     let loop = c .before .before .before .before .before .before .before .before .loop in
@@ -60,17 +48,11 @@ loop-again c =
     let put-tone = c .before .before .put-tone in
     (put-tone .kept .0 ∙ loop .inv .0, one-more (loop .inv .1) (tone-at .ensures) (bits-at .ensures) (omega arith) (if1 .taken) (put-tone .ensures))
 
-loop-less-2 : tie.Need-loop-less-2 Inv-loop μ-loop
-loop-less-2 c = omega arith
-
 loop-again-2 : tie.Need-loop-again-2 Inv-loop μ-loop
 loop-again-2 c =
     let loop = c .before .before .before .before .loop in
     let tone-at = c .before .before .tone-at in
     (loop .inv .0, one-past (loop .inv .1) (tone-at .ensures) (c .before .bits-at .ensures) (omega arith) (c .if1 .left))
-
-same-length : tie.Need-same-length Inv-loop μ-loop
-same-length c = search needs
 
 returns : tie.Need-returns Inv-loop μ-loop
 returns c = ones-end (c .before .loop .inv .1) (omega arith)
@@ -82,14 +64,14 @@ place-ones-spec =
     Inv-loop
     μ-loop
     loop-holds
-    tone-at-requires
-    bits-at-requires
-    add-i
+    (λ c κs. search needs)
+    (λ c κs. search needs)
+    (λ c. search needs)
     put-tone-requires
     add-one
-    loop-less
+    (λ c. omega arith)
     loop-again
-    loop-less-2
+    (λ c. omega arith)
     loop-again-2
-    same-length
+    (λ c. search needs)
     returns)

@@ -39,14 +39,8 @@ single (suc (suc n)) h e = absurd (omega arith)
 loop-holds : tie.Need-loop-holds Inv-loop μ-loop
 loop-holds c = (refl, refl, others-start)
 
-tone-at-requires : tie.Need-tone-at-requires Inv-loop μ-loop
-tone-at-requires c κs = search needs
-
 bits-of-requires : tie.Need-bits-of-requires Inv-loop μ-loop
 bits-of-requires c κs = omega (arith, c .tone-at .ensures, c .before .before .before .before .before .before .before .pre .below (c .before .before .loop .i) (omega arith))
-
-add-i : tie.Need-add-i Inv-loop μ-loop
-add-i c = search needs
 
 put-tone-requires : tie.Need-put-tone-requires Inv-loop μ-loop
 put-tone-requires c κs =
@@ -70,9 +64,6 @@ add-at c =
     let if1 = c .before .before .before .before .if1 in
     omega (arith, bits-fit (c .before .before .before .before .before) (if1 .taken), start .good)
 
-loop-less : tie.Need-loop-less Inv-loop μ-loop
-loop-less c = omega arith
-
 loop-again : tie.Need-loop-again Inv-loop μ-loop
 loop-again c =
     let tone-at = c .before .before .before .before .before .before .tone-at in
@@ -95,9 +86,6 @@ add-other-2 c =
     let if2 = c .before .before .before .before .if2 in
     omega (arith, tone-fits (c .before .before .before .before .before .before) (λ e. omega (arith, if2 .taken)), start .good)
 
-loop-less-2 : tie.Need-loop-less-2 Inv-loop μ-loop
-loop-less-2 c = omega arith
-
 loop-again-2 : tie.Need-loop-again-2 Inv-loop μ-loop
 loop-again-2 c =
     let tone-at = c .before .before .before .before .before .before .before .tone-at in
@@ -108,20 +96,11 @@ loop-again-2 c =
     let p = c .before .before .put-tone2 in
     (p .kept .0 ∙ l .inv .0, l .inv .1, others-zero (l .inv .2) (tone-at .ensures) (bits-of .ensures) (omega arith) (λ e. omega (arith, if2 .taken)) (p .ensures) (if1 .left))
 
-loop-less-3 : tie.Need-loop-less-3 Inv-loop μ-loop
-loop-less-3 c = omega arith
-
 loop-again-3 : tie.Need-loop-again-3 Inv-loop μ-loop
 loop-again-3 c =
     let l = c .before .before .before .before .before .loop in
     let e : c .before .before .bits-of .result ≡ 1 = single _ (c .before .if1 .left) (c .if2 .left) in
     (l .inv .0, l .inv .1, others-past (l .inv .2) (c .before .before .before .tone-at .ensures) (c .before .before .bits-of .ensures) (omega arith) e)
-
-same-length : tie.Need-same-length Inv-loop μ-loop
-same-length c = search needs
-
-same-length-2 : tie.Need-same-length-2 Inv-loop μ-loop
-same-length-2 c = search needs
 
 returns : tie.Need-returns Inv-loop μ-loop
 returns c = others-end (c .before .loop .inv .2) (omega arith)
@@ -133,21 +112,21 @@ place-others-spec =
     Inv-loop
     μ-loop
     loop-holds
-    tone-at-requires
+    (λ c κs. search needs)
     bits-of-requires
-    add-i
+    (λ c. search needs)
     put-tone-requires
     add-other
     slice-write-reordered-bits
     add-at
-    loop-less
+    (λ c. omega arith)
     loop-again
     put-tone-requires-2
     add-other-2
-    loop-less-2
+    (λ c. omega arith)
     loop-again-2
-    loop-less-3
+    (λ c. omega arith)
     loop-again-3
-    same-length
-    same-length-2
+    (λ c. search needs)
+    (λ c. search needs)
     returns)

@@ -29,9 +29,6 @@ behind c =
     let t = now (c .args .tones) in
     omega (arith, length-parts (oneBit b) t, length-singles b t, c .pre .0 .onesIs)
 
-fill-requires : tie.Need-fill-requires
-fill-requires c κs = search needs
-
 place-others-requires : tie.Need-place-others-requires
 place-others-requires c κs =
     let s = c .before .before .before .before .before .before .before .before .before .before in
@@ -60,12 +57,6 @@ fill-requires-2 c κs =
     let s = c .before .before .before .before .before .before .before .before .before .before .before .before .before .before .before .before .before .before .before .before in
     omega (arith, within s, s .pre .1 .bitsFit, fill .kept .0, place-others .kept .1 .1 .1 .1 .0)
 
-same-length : tie.Need-same-length
-same-length c = search needs
-
-same-length-2 : tie.Need-same-length-2
-same-length-2 c = search needs
-
 returns : tie.Need-returns
 returns c =
     let fill = c .before .before .before .before .before .before .before .before .before .before .before .before .before .before .before .before .before .fill in
@@ -85,12 +76,12 @@ pub write-coded-spec : {M : Type 1} → statement M
 write-coded-spec =
     tie.close
     (tie.spec
-    fill-requires
+    (λ c κs. search needs)
     place-others-requires
     sub-fill
     place-ones-requires
     sub-fill-2
     fill-requires-2
-    same-length
-    same-length-2
+    (λ c. search needs)
+    (λ c. search needs)
     returns)

@@ -9,16 +9,10 @@ use borrow.Author.Needs.{needs}
 use Rattle.ordering.proofs.order.write_order.Statement.{statement}
 use Rattle.ordering.proofs.order.write_order.Tie as tie
 
-enum-told : tie.Need-enum-told
-enum-told c = search needs
-
 write-uncoded-requires : tie.Need-write-uncoded-requires
 write-uncoded-requires c κs =
     let p = c .before .before .before .before .before .before .before .before .pre in
     (p .fits, p .below)
-
-enum-told-2 : tie.Need-enum-told-2
-enum-told-2 c = search needs
 
 sub-zeros : tie.Need-sub-zeros
 sub-zeros c =
@@ -42,20 +36,8 @@ write-coded-requires c κs =
     let o : a .sharers ≡ ones b t = rw e at (p .sharersAre) in
     (record { onesIs = o; even = rw (sym o) (p .even); zerosIs = omega (arith, n); below = p .below }, p .fits)
 
-same-length : tie.Need-same-length
-same-length c = search needs
-
-same-length-2 : tie.Need-same-length-2
-same-length-2 c = search needs
-
 returns : tie.Need-returns
 returns c = rw (c .before .before .before .before .before .before .before .enum-told .given .1) (c .before .before .before .before .write-uncoded .ensures)
-
-same-length-3 : tie.Need-same-length-3
-same-length-3 c = search needs
-
-same-length-4 : tie.Need-same-length-4
-same-length-4 c = search needs
 
 returns-2 : tie.Need-returns-2
 returns-2 c = rw (c .before .before .before .before .before .before .before .enum-told2 .given .1) (c .before .before .before .before .write-coded .ensures)
@@ -64,14 +46,14 @@ pub write-order-spec : {M : Type 1} → statement M
 write-order-spec =
     tie.close
     (tie.spec
-    enum-told
+    (λ c. search needs)
     write-uncoded-requires
-    enum-told-2
+    (λ c. search needs)
     sub-zeros
     write-coded-requires
-    same-length
-    same-length-2
+    (λ c. search needs)
+    (λ c. search needs)
     returns
-    same-length-3
-    same-length-4
+    (λ c. search needs)
+    (λ c. search needs)
     returns-2)

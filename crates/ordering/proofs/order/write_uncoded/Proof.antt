@@ -28,9 +28,6 @@ abbrev μ-loop : tie.MeasureT-loop
 loop-holds : tie.Need-loop-holds Inv-loop μ-loop
 loop-holds c = (omega arith, refl, refl, refl, refl)
 
-tone-at-requires : tie.Need-tone-at-requires Inv-loop μ-loop
-tone-at-requires c κs = search needs
-
 put-tone-requires : tie.Need-put-tone-requires Inv-loop μ-loop
 put-tone-requires c κs =
     let l = c .before .before .before .loop in
@@ -46,12 +43,6 @@ bits-of-requires c κs =
 
 put-bits-requires : tie.Need-put-bits-requires Inv-loop μ-loop
 put-bits-requires c κs = omega (arith, c .before .before .before .before .before .before .before .before .before .before .before .before .before .pre .0 .bitsFit)
-
-add-i : tie.Need-add-i Inv-loop μ-loop
-add-i c = search needs
-
-loop-less : tie.Need-loop-less Inv-loop μ-loop
-loop-less c = search needs
 
 loop-again : tie.Need-loop-again Inv-loop μ-loop
 loop-again c =
@@ -69,12 +60,6 @@ loop-again c =
       ap (λ (o : List ℕ). sets o (l .i + 1) (drop (l .i + 1) t)) (p .ensures) ∙ sets-step (l .reordered-tones) (l .i) (k .result .0) (tones-next t (l .i) (k .ensures) (omega arith)) (l .inv .3),
       ap (λ (o : List ℕ). sets o (l .i + 1) (bitsOf b (drop (l .i + 1) t))) (q .ensures) ∙ sets-step (l .reordered-bits) (l .i) (v .result) f (l .inv .4),
     )
-
-same-length : tie.Need-same-length Inv-loop μ-loop
-same-length c = search needs
-
-same-length-2 : tie.Need-same-length-2 Inv-loop μ-loop
-same-length-2 c = search needs
 
 returns : tie.Need-returns Inv-loop μ-loop
 unfolding reorderedTones reorderedBits
@@ -97,13 +82,13 @@ write-uncoded-spec =
     Inv-loop
     μ-loop
     loop-holds
-    tone-at-requires
+    (λ c κs. search needs)
     put-tone-requires
     bits-of-requires
     put-bits-requires
-    add-i
-    loop-less
+    (λ c. search needs)
+    (λ c. search needs)
     loop-again
-    same-length
-    same-length-2
+    (λ c. search needs)
+    (λ c. search needs)
     returns)

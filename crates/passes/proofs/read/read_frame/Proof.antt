@@ -7,12 +7,6 @@ use Rattle.passes.proofs.read.read_frame.Tie as tie
 join-shared-requires : tie.Need-join-shared-requires
 join-shared-requires c κs = join-needs (c .before .before .before .before .before .pre .4)
 
-enum-told : tie.Need-enum-told
-enum-told c = search needs
-
-new-requires : tie.Need-new-requires
-new-requires c κs = search needs
-
 collect-labels-requires : tie.Need-collect-labels-requires
 collect-labels-requires c κs =
     let start = c .before .before .before .before .before .before .before .before .before .before .before .before .before in
@@ -31,12 +25,6 @@ finish-requires c κs =
     let e = rw (new .ensures, join-shared .ensures) at (w .ensures) in
     (collect-fits (s .pre .4) (enum-told .given .1) e (w .kept .1 .1 .1 .1 .0), e .waits)
 
-enum-told-2 : tie.Need-enum-told-2
-enum-told-2 c = search needs
-
-new-requires-2 : tie.Need-new-requires-2
-new-requires-2 c κs = search needs
-
 read-labels-requires : tie.Need-read-labels-requires
 read-labels-requires c κs =
     let start = c .before .before .before .before .before .before .before .before .before .before .before .before .before in
@@ -44,15 +32,6 @@ read-labels-requires c κs =
     let enum-told2 = c .before .before .before .enum-told2 in
     let new2 = c .before .before .new2 in
     rw (new2 .ensures, join-shared .ensures) (trellis-needs (start .pre .4) (enum-told2 .given .1))
-
-enum-known-broken : tie.Need-enum-known-broken
-enum-known-broken c = search needs
-
-same-length : tie.Need-same-length
-same-length c = search needs
-
-same-length-2 : tie.Need-same-length-2
-same-length-2 c = search needs
 
 returns : tie.Need-returns
 returns c =
@@ -62,9 +41,6 @@ returns c =
     let p = c .before .before .before .before .before .before .read-labels in
     let e = rw (new2 .ensures, join-shared .ensures) at (p .ensures) in
     λ cs d ms layouts w. broken-found w (enum-told2 .given .1) e (p .last .1 .1 .1 .1 .0) (c .before .broken .given .1)
-
-enum-told-3 : tie.Need-enum-told-3
-enum-told-3 c = search needs
 
 finish-requires-2 : tie.Need-finish-requires-2
 finish-requires-2 c κs =
@@ -76,12 +52,6 @@ finish-requires-2 c κs =
     let e = rw (new2 .ensures, join-shared .ensures) at (p .ensures) in
     (read-fits (s .pre .4) (enum-told2 .given .1) e (c .before .enum-told3 .given .1) (p .kept .1 .1 .1 .1 .0), e .waits)
 
-same-length-3 : tie.Need-same-length-3
-same-length-3 c = search needs
-
-same-length-4 : tie.Need-same-length-4
-same-length-4 c = search needs
-
 returns-2 : tie.Need-returns-2
 returns-2 c =
     let join-shared = c .before .before .before .before .before .before .before .before .before .before .before .before .before .before .join-shared in
@@ -91,12 +61,6 @@ returns-2 c =
     let e = rw (new .ensures, join-shared .ensures) at (w .ensures) in
     let f = c .before .before .finish in
     λ cs d ms layouts s. collected s (enum-told .given .1) e (w .kept .1 .1 .1 .1 .0) (f .kept .1 .0) (f .ensures)
-
-same-length-5 : tie.Need-same-length-5
-same-length-5 c = search needs
-
-same-length-6 : tie.Need-same-length-6
-same-length-6 c = search needs
 
 returns-3 : tie.Need-returns-3
 returns-3 c =
@@ -114,22 +78,22 @@ read-frame-spec =
     tie.close
     (tie.spec
     join-shared-requires
-    enum-told
-    new-requires
+    (λ c. search needs)
+    (λ c κs. search needs)
     collect-labels-requires
     finish-requires
-    enum-told-2
-    new-requires-2
+    (λ c. search needs)
+    (λ c κs. search needs)
     read-labels-requires
-    enum-known-broken
-    same-length
-    same-length-2
+    (λ c. search needs)
+    (λ c. search needs)
+    (λ c. search needs)
     returns
-    enum-told-3
+    (λ c. search needs)
     finish-requires-2
-    same-length-3
-    same-length-4
+    (λ c. search needs)
+    (λ c. search needs)
     returns-2
-    same-length-5
-    same-length-6
+    (λ c. search needs)
+    (λ c. search needs)
     returns-3)

@@ -9,32 +9,17 @@ use Rattle.passes.proofs.read.read_places.Tie as tie
 demap-points-requires : tie.Need-demap-points-requires
 demap-points-requires c κs = demap-needs (c .before .before .before .before .pre .4)
 
-enum-known-offgrid : tie.Need-enum-known-offgrid
-enum-known-offgrid c = search needs
-
-same-length : tie.Need-same-length
-same-length c = search needs
-
 returns : tie.Need-returns
 returns c =
     let d = c .before .before .before .before .before .demap-points in
     let o = c .before .offgrid in
     λ cs from es ps w. off-found w (d .ensures) (o .given .1) _
 
-enum-told : tie.Need-enum-told
-enum-told c = search needs
-
 check-filler-requires : tie.Need-check-filler-requires
 check-filler-requires c κs =
     let s = c .before .before .before .before .before .before .before .before .before .before in
     let d = c .before .before .before .before .before .demap-points in
     filler-needs (s .pre .4) (d .last .1 .1 .1 .0) (d .ensures .labelsLength ∙ s .pre .4 .xsLength)
-
-enum-known-monitor : tie.Need-enum-known-monitor
-enum-known-monitor c = search needs
-
-same-length-2 : tie.Need-same-length-2
-same-length-2 c = search needs
 
 returns-2 : tie.Need-returns-2
 returns-2 c =
@@ -43,12 +28,6 @@ returns-2 c =
     let k = c .before .before .before .check-filler in
     let m = c .before .monitor in
     λ cs from es ps w. filler-found w (d .ensures) (e .given .1) (k .ensures) (m .given .1)
-
-enum-told-2 : tie.Need-enum-told-2
-enum-told-2 c = search needs
-
-same-length-3 : tie.Need-same-length-3
-same-length-3 c = search needs
 
 returns-3 : tie.Need-returns-3
 returns-3 c =
@@ -63,14 +42,14 @@ read-places-spec =
     tie.close
     (tie.spec
     demap-points-requires
-    enum-known-offgrid
-    same-length
+    (λ c. search needs)
+    (λ c. search needs)
     returns
-    enum-told
+    (λ c. search needs)
     check-filler-requires
-    enum-known-monitor
-    same-length-2
+    (λ c. search needs)
+    (λ c. search needs)
     returns-2
-    enum-told-2
-    same-length-3
+    (λ c. search needs)
+    (λ c. search needs)
     returns-3)

@@ -28,9 +28,6 @@ slice-aggregate-read-places-2 c =
     let s = c .before .before .before .before .before .before .before .before .before in
     sym (length-take-le _ (s .args .layouts .now) (s .pre .fits .layoutsFit))
 
-slice-relend-prefix-read-places : tie.Need-slice-relend-prefix-read-places
-slice-relend-prefix-read-places c = search needs
-
 slice-aggregate-read-places-3 : tie.Need-slice-aggregate-read-places-3
 slice-aggregate-read-places-3 c =
     let s = c .before .before .before .before .before .before .before .before .before .before in
@@ -41,19 +38,10 @@ read-places-requires c κs =
     let s = c .before .before .before .before .before .before .before .before .before .before in
     (_, _, _, _, places-of (s .pre .planned))
 
-enum-known-t : tie.Need-enum-known-t
-enum-known-t c = search needs
-
-same-length : tie.Need-same-length
-same-length c = search needs
-
 returns : tie.Need-returns
 returns c =
     let d = c .before .before .before .before .before .read-places in
     λ T g. place-refused g (d .ensures) (c .before .t .given .1)
-
-enum-known-t-2 : tie.Need-enum-known-t-2
-enum-known-t-2 c = search needs
 
 slice-aggregate-read-frame : tie.Need-slice-aggregate-read-frame
 slice-aggregate-read-frame c =
@@ -64,9 +52,6 @@ slice-aggregate-read-frame-2 : tie.Need-slice-aggregate-read-frame-2
 slice-aggregate-read-frame-2 c =
     let s = c .before .before .before .before .before .before .before .before .before .before .before .before .before .before .before .before .before .before in
     sym (length-take-le _ (s .args .places .now) (s .pre .fits .placesFit))
-
-slice-relend-prefix-read-frame : tie.Need-slice-relend-prefix-read-frame
-slice-relend-prefix-read-frame c = search needs
 
 slice-aggregate-read-frame-3 : tie.Need-slice-aggregate-read-frame-3
 slice-aggregate-read-frame-3 c =
@@ -81,24 +66,12 @@ read-frame-requires c κs =
     let t = c .before .before .before .before .before .t2 in
     (_, _, _, _, frame-of (s .pre .planned) (p .read-places .ensures) (t .given .1) (lent-again p))
 
-enum-known-broken : tie.Need-enum-known-broken
-enum-known-broken c = search needs
-
-same-length-2 : tie.Need-same-length-2
-same-length-2 c = search needs
-
-same-length-3 : tie.Need-same-length-3
-same-length-3 c = search needs
-
 returns-2 : tie.Need-returns-2
 returns-2 c =
     let b = c .before .before .before .before .before .before .before in
     let t = b .before .before .before .before .before .before .t2 in
     let p = b .before .before .before .before .before .before .before .before .before .before in
     λ T g. pair-refused g (p .read-places .ensures) (t .given .1) (lent-again p) (b .read-frame .ensures) (c .before .broken .given .1)
-
-enum-told : tie.Need-enum-told
-enum-told c = search needs
 
 copy-requires : tie.Need-copy-requires
 copy-requires c κs =
@@ -108,15 +81,6 @@ copy-requires c κs =
     let f = b .read-frame in
     let s = p .before .before .before .before .before .before .before .before .before .before .before in
     frame-fits (s .pre .planned) (p .read-places .ensures) (t .given .1) (lent-again p) (f .ensures) (f .kept .1 .1 .1 .1 .1 .0)
-
-same-length-4 : tie.Need-same-length-4
-same-length-4 c = search needs
-
-same-length-5 : tie.Need-same-length-5
-same-length-5 c = search needs
-
-same-length-6 : tie.Need-same-length-6
-same-length-6 c = search needs
 
 returns-3 : tie.Need-returns-3
 returns-3 c =
@@ -135,25 +99,25 @@ read-symbol-spec =
     (tie.spec
     slice-aggregate-read-places
     slice-aggregate-read-places-2
-    slice-relend-prefix-read-places
+    (λ c. search needs)
     slice-aggregate-read-places-3
     read-places-requires
-    enum-known-t
-    same-length
+    (λ c. search needs)
+    (λ c. search needs)
     returns
-    enum-known-t-2
+    (λ c. search needs)
     slice-aggregate-read-frame
     slice-aggregate-read-frame-2
-    slice-relend-prefix-read-frame
+    (λ c. search needs)
     slice-aggregate-read-frame-3
     read-frame-requires
-    enum-known-broken
-    same-length-2
-    same-length-3
+    (λ c. search needs)
+    (λ c. search needs)
+    (λ c. search needs)
     returns-2
-    enum-told
+    (λ c. search needs)
     copy-requires
-    same-length-4
-    same-length-5
-    same-length-6
+    (λ c. search needs)
+    (λ c. search needs)
+    (λ c. search needs)
     returns-3)

@@ -3,28 +3,16 @@ use borrow.Author.Needs.{needs}
 use Rattle.passes.proofs.write.label_frame.Statement.{statement}
 use Rattle.passes.proofs.write.label_frame.Tie as tie
 
-enum-told : tie.Need-enum-told
-enum-told c = search needs
-
 cut-labels-requires : tie.Need-cut-labels-requires
 cut-labels-requires c κs = rw (c .before .enum-told .given .1) at (c .before .before .before .before .before .before .before .pre)
 
-enum-told-2 : tie.Need-enum-told-2
-enum-told-2 c = search needs
-
 encode-labels-requires : tie.Need-encode-labels-requires
 encode-labels-requires c κs = rw (c .before .enum-told2 .given .1) at (c .before .before .before .before .before .before .before .pre)
-
-same-length : tie.Need-same-length
-same-length c = search needs
 
 returns : tie.Need-returns
 returns c =
     let e = c .before .before .cut-labels .ensures in
     rw (c .before .before .before .before .enum-told .given .1) (record { bitsAre = e .whole; within = e .within })
-
-same-length-2 : tie.Need-same-length-2
-same-length-2 c = search needs
 
 returns-2 : tie.Need-returns-2
 returns-2 c =
@@ -35,11 +23,11 @@ pub label-frame-spec : {M : Type 1} → statement M
 label-frame-spec =
     tie.close
     (tie.spec
-    enum-told
+    (λ c. search needs)
     cut-labels-requires
-    enum-told-2
+    (λ c. search needs)
     encode-labels-requires
-    same-length
+    (λ c. search needs)
     returns
-    same-length-2
+    (λ c. search needs)
     returns-2)

@@ -25,12 +25,6 @@ same-length c =
     let set-filler = c .before .before .before .before .before .before .before .before .set-filler in
     set-filler .kept .1 .1 .0 ∙ split-shared .kept .0
 
-same-length-2 : tie.Need-same-length-2
-same-length-2 c = search needs
-
-same-length-3 : tie.Need-same-length-3
-same-length-3 c = search needs
-
 returns : tie.Need-returns
 returns c =
     let split-shared = c .before .before .before .before .before .before .before .before .before .before .before .before .split-shared in
@@ -48,6 +42,6 @@ write-points-spec =
     set-filler-requires
     put-points-requires
     same-length
-    same-length-2
-    same-length-3
+    (λ c. search needs)
+    (λ c. search needs)
     returns)

@@ -28,9 +28,6 @@ slice-aggregate-label-frame-2 c =
     let s = c .before .before .before .before .before .before .before .before in
     sym (length-take-le _ (s .args .places .now) (s .pre .fits .placesFit))
 
-slice-relend-prefix-label-frame : tie.Need-slice-relend-prefix-label-frame
-slice-relend-prefix-label-frame c = search needs
-
 slice-aggregate-label-frame-3 : tie.Need-slice-aggregate-label-frame-3
 slice-aggregate-label-frame-3 c =
     let s = c .before .before .before .before .before .before .before .before .before in
@@ -49,9 +46,6 @@ slice-aggregate-write-points-2 c =
     let s = c .before .before .before .before .before .before .before .before .before .before .before .before .before .before in
     sym (length-take-le _ (s .args .layouts .now) (s .pre .fits .layoutsFit))
 
-slice-relend-prefix-write-points : tie.Need-slice-relend-prefix-write-points
-slice-relend-prefix-write-points c = search needs
-
 slice-aggregate-write-points-3 : tie.Need-slice-aggregate-write-points-3
 slice-aggregate-write-points-3 c =
     let l = c .before .before .before .before .before .label-frame in
@@ -63,15 +57,6 @@ write-points-requires c κs =
     let l = c .before .before .before .before .before .before .before in
     let s = l .before .before .before .before .before .before .before .before .before .before in
     (_, _, _, _, points-of (s .pre .planned) (l .label-frame .kept .1 .1 .1 .1 .1 .0) (lent-again l) (l .label-frame .ensures))
-
-same-length : tie.Need-same-length
-same-length c = search needs
-
-same-length-2 : tie.Need-same-length-2
-same-length-2 c = search needs
-
-same-length-3 : tie.Need-same-length-3
-same-length-3 c = search needs
 
 returns : tie.Need-returns
 returns c =
@@ -86,15 +71,15 @@ write-symbol-spec =
     (tie.spec
     slice-aggregate-label-frame
     slice-aggregate-label-frame-2
-    slice-relend-prefix-label-frame
+    (λ c. search needs)
     slice-aggregate-label-frame-3
     label-frame-requires
     slice-aggregate-write-points
     slice-aggregate-write-points-2
-    slice-relend-prefix-write-points
+    (λ c. search needs)
     slice-aggregate-write-points-3
     write-points-requires
-    same-length
-    same-length-2
-    same-length-3
+    (λ c. search needs)
+    (λ c. search needs)
+    (λ c. search needs)
     returns)

@@ -29,9 +29,6 @@ loop-holds c =
     let s = c .before .before .before .before .before .before .before in
     (omega arith, omega arith, s .pre .0 .arrays, record { placeIs = refl; layoutsAre = refl; entriesAre = refl; placesAre = refl; monitoredAre = refl; entryMost = omega arith; monitoredMost = omega arith })
 
-tone-at-requires : tie.Need-tone-at-requires Inv-loop μ-loop
-tone-at-requires c κs = search needs
-
 bits-of-requires : tie.Need-bits-of-requires Inv-loop μ-loop
 bits-of-requires c κs =
     let s = c .before .before .before .before .before .before .before .before .before .before in
@@ -41,9 +38,6 @@ gain-of-requires : tie.Need-gain-of-requires Inv-loop μ-loop
 gain-of-requires c κs =
     let s = c .before .before .before .before .before .before .before .before .before .before .before in
     rw (c .before .tone-at .ensures, s .pre .0 .gains) (s .pre .0 .below (c .before .before .before .loop .i) (omega arith))
-
-tone-of-requires : tie.Need-tone-of-requires Inv-loop μ-loop
-tone-of-requires c κs = search needs
 
 file-tone-requires : tie.Need-file-tone-requires Inv-loop μ-loop
 file-tone-requires c κs =
@@ -67,9 +61,6 @@ add-i : tie.Need-add-i Inv-loop μ-loop
 add-i c =
     let most = c .before .before .before .before .before .before .before .before .before .before .before .before .before .before .before .before .before .before .before .before .before .before .before .before .before .before .pre .0 .most in
     omega arith
-
-loop-less : tie.Need-loop-less Inv-loop μ-loop
-loop-less c = omega arith
 
 loop-again : tie.Need-loop-again Inv-loop μ-loop
 loop-again c =
@@ -96,18 +87,6 @@ loop-again c =
     } in
     (omega (arith, l .inv .0, one-place (a .least) cs t (l .inv .3) w), omega (arith, i), arrays, rw (classes-more (a .least) (a .bits .now) (a .gains .now) (a .tones .now) (l .i) (omega (arith, i))) g)
 
-same-length : tie.Need-same-length Inv-loop μ-loop
-same-length c = search needs
-
-same-length-2 : tie.Need-same-length-2 Inv-loop μ-loop
-same-length-2 c = search needs
-
-same-length-3 : tie.Need-same-length-3 Inv-loop μ-loop
-same-length-3 c = search needs
-
-same-length-4 : tie.Need-same-length-4 Inv-loop μ-loop
-same-length-4 c = search needs
-
 returns : tie.Need-returns Inv-loop μ-loop
 returns c =
     let s = c .before .before .before .before .before .before .before .before .before in
@@ -121,16 +100,16 @@ file-tones-spec =
     Inv-loop
     μ-loop
     loop-holds
-    tone-at-requires
+    (λ c κs. search needs)
     bits-of-requires
     gain-of-requires
-    tone-of-requires
+    (λ c κs. search needs)
     file-tone-requires
     add-i
-    loop-less
+    (λ c. omega arith)
     loop-again
-    same-length
-    same-length-2
-    same-length-3
-    same-length-4
+    (λ c. search needs)
+    (λ c. search needs)
+    (λ c. search needs)
+    (λ c. search needs)
     returns)

@@ -27,17 +27,11 @@ mul-p c = omega (arith, c .before .before .pre .most)
 add-p : tie.Need-add-p Inv-loop μ-loop
 add-p c = omega (arith, c .before .before .before .pre .most)
 
-mul-layouts : tie.Need-mul-layouts Inv-loop μ-loop
-mul-layouts c = search needs
-
 slice-write-layouts : tie.Need-slice-write-layouts Inv-loop μ-loop
 slice-write-layouts c = omega (arith, c .before .before .before .pre .most, c .before .before .before .pre .layoutsLength, c .before .before .loop .inv .2)
 
 add-layouts : tie.Need-add-layouts Inv-loop μ-loop
 add-layouts c = omega (arith, c .before .before .before .pre .most)
-
-mul-layouts-2 : tie.Need-mul-layouts-2 Inv-loop μ-loop
-mul-layouts-2 c = search needs
 
 slice-write-layouts-2 : tie.Need-slice-write-layouts-2 Inv-loop μ-loop
 slice-write-layouts-2 c =
@@ -56,17 +50,11 @@ cast-places c = record { fits = omega (arith, c .before .before .before .pre .mo
 add-places : tie.Need-add-places Inv-loop μ-loop
 add-places c = omega (arith, c .before .before .before .pre .most, c .before .before .before .pre .atMost)
 
-mul-places : tie.Need-mul-places Inv-loop μ-loop
-mul-places c = search needs
-
 slice-write-places : tie.Need-slice-write-places Inv-loop μ-loop
 slice-write-places c = omega (arith, c .before .before .before .pre .most, c .before .before .before .pre .atMost, c .before .before .before .pre .placesLength, c .before .before .loop .inv .4)
 
 add-j : tie.Need-add-j Inv-loop μ-loop
 add-j c = omega (arith, c .before .before .before .pre .most)
-
-loop-less : tie.Need-loop-less Inv-loop μ-loop
-loop-less c = omega arith
 
 loop-again : tie.Need-loop-again Inv-loop μ-loop
 loop-again c =
@@ -107,19 +95,19 @@ share-entries-spec =
     loop-holds
     mul-p
     add-p
-    mul-layouts
+    (λ c. search needs)
     slice-write-layouts
     add-layouts
-    mul-layouts-2
+    (λ c. search needs)
     slice-write-layouts-2
     add-entries
     slice-write-entries
     cast-places
     add-places
-    mul-places
+    (λ c. search needs)
     slice-write-places
     add-j
-    loop-less
+    (λ c. omega arith)
     loop-again
     same-length
     same-length-2

@@ -9,14 +9,8 @@ use borrow.Author.Needs.{needs}
 use Rattle.symbol.proofs.encoding.check_inputs.Statement.{statement}
 use Rattle.symbol.proofs.encoding.check_inputs.Tie as tie
 
-enum-known-planned : tie.Need-enum-known-planned
-enum-known-planned c = search needs
-
 returns : tie.Need-returns
 returns c = tables-refused (c .before .planned .given .1)
-
-enum-known-planned-2 : tie.Need-enum-known-planned-2
-enum-known-planned-2 c = search needs
 
 returns-2 : tie.Need-returns-2
 unfolding encodeInputs
@@ -35,9 +29,6 @@ returns-3 c =
     let y = c .if2 in
     inputs-refused (p .given .1) _ (test-here 10 _ (room-y (s .args .x-len) (s .args .y-len) (s .args .nsc) (x .left) (y .taken)))
 
-frame-refused-requires : tie.Need-frame-refused-requires
-frame-refused-requires c κs = search needs
-
 returns-4 : tie.Need-returns-4
 unfolding encodeInputs
 returns-4 c =
@@ -49,9 +40,6 @@ returns-4 c =
     let z = c .if3 in
     let room = room-none (s .args .x-len) (s .args .y-len) (s .args .nsc) (x .left) (y .left) in
     inputs-refused (p .given .1) _ (test-past 10 room (test-here 11 _ (sym (f .ensures) ∙ z .taken)))
-
-seed-refused-requires : tie.Need-seed-refused-requires
-seed-refused-requires c κs = search needs
 
 returns-5 : tie.Need-returns-5
 unfolding encodeInputs
@@ -85,13 +73,13 @@ pub check-inputs-spec : {M : Type 1} → statement M
 check-inputs-spec =
     tie.close
     (tie.spec
-    enum-known-planned
+    (λ c. search needs)
     returns
-    enum-known-planned-2
+    (λ c. search needs)
     returns-2
     returns-3
-    frame-refused-requires
+    (λ c κs. search needs)
     returns-4
-    seed-refused-requires
+    (λ c κs. search needs)
     returns-5
     returns-6)

@@ -10,14 +10,8 @@ use borrow.Author.Needs.{needs}
 use Rattle.symbol.proofs.reading.check_inputs.Statement.{statement}
 use Rattle.symbol.proofs.reading.check_inputs.Tie as tie
 
-enum-known-planned : tie.Need-enum-known-planned
-enum-known-planned c = search needs
-
 returns : tie.Need-returns
 returns c = tables-refused (c .before .planned .given .1)
-
-enum-known-planned-2 : tie.Need-enum-known-planned-2
-enum-known-planned-2 c = search needs
 
 returns-2 : tie.Need-returns-2
 unfolding readInputs
@@ -34,9 +28,6 @@ returns-3 c =
     let y = room-y (a .x-len) (a .y-len) (a .nsc) (c .before .if1 .left) (c .if2 .taken) in
     inputs-refused (p .given .1) _ (test-here 10 _ (rooms-two (a .x-len) (a .y-len) (a .nsc) (a .frame-len) (bytesFor (p .given .0 .0 .size)) y))
 
-bytes-for-requires : tie.Need-bytes-for-requires
-bytes-for-requires c κs = search needs
-
 returns-4 : tie.Need-returns-4
 unfolding readInputs
 returns-4 c =
@@ -46,9 +37,6 @@ returns-4 c =
     let y = c .before .before .if2 .left in
     let n = c .before .bytes-for .ensures in
     inputs-refused (p .given .1) _ (test-here 10 _ (rooms-frame (a .x-len) (a .y-len) (a .nsc) (a .frame-len) (bytesFor (p .given .0 .0 .size)) x y (λ e. c .if3 .taken (e ∙ sym n))))
-
-seed-refused-requires : tie.Need-seed-refused-requires
-seed-refused-requires c κs = search needs
 
 returns-5 : tie.Need-returns-5
 unfolding readInputs
@@ -76,13 +64,13 @@ pub check-inputs-spec : {M : Type 1} → statement M
 check-inputs-spec =
     tie.close
     (tie.spec
-    enum-known-planned
+    (λ c. search needs)
     returns
-    enum-known-planned-2
+    (λ c. search needs)
     returns-2
     returns-3
-    bytes-for-requires
+    (λ c κs. search needs)
     returns-4
-    seed-refused-requires
+    (λ c κs. search needs)
     returns-5
     returns-6)

@@ -22,27 +22,6 @@ abbrev μ-loop : tie.MeasureT-loop
 loop-holds : tie.Need-loop-holds Inv-loop μ-loop
 loop-holds c = (omega arith, any-none _)
 
-element-copy-out-is-fault : tie.Need-element-copy-out-is-fault Inv-loop μ-loop
-element-copy-out-is-fault c = search needs
-
-shared-slice-read-is-fault : tie.Need-shared-slice-read-is-fault Inv-loop μ-loop
-shared-slice-read-is-fault c = search needs
-
-mul-is-fault : tie.Need-mul-is-fault Inv-loop μ-loop
-mul-is-fault c = search needs
-
-shared-slice-read-is-fault-2 : tie.Need-shared-slice-read-is-fault-2 Inv-loop μ-loop
-shared-slice-read-is-fault-2 c = search needs
-
-is-fault-requires : tie.Need-is-fault-requires Inv-loop μ-loop
-is-fault-requires c κs = search needs
-
-add-i : tie.Need-add-i Inv-loop μ-loop
-add-i c = search needs
-
-loop-less : tie.Need-loop-less Inv-loop μ-loop
-loop-less c = search needs
-
 loop-again : tie.Need-loop-again Inv-loop μ-loop
 loop-again c =
     let a = c .before .before .before .before .before .before .before .before .before .args in
@@ -61,12 +40,12 @@ any-index-fault-spec =
     Inv-loop
     μ-loop
     loop-holds
-    element-copy-out-is-fault
-    shared-slice-read-is-fault
-    mul-is-fault
-    shared-slice-read-is-fault-2
-    is-fault-requires
-    add-i
-    loop-less
+    (λ c. search needs)
+    (λ c. search needs)
+    (λ c. search needs)
+    (λ c. search needs)
+    (λ c κs. search needs)
+    (λ c. search needs)
+    (λ c. search needs)
     loop-again
     returns)

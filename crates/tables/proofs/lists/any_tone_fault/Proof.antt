@@ -17,23 +17,8 @@ Inv-loop g tones end any₀ i₀ any i = (i ≤ length tones) × (any ≡ anyBel
 abbrev μ-loop : tie.MeasureT-loop
 μ-loop g tones end any₀ i₀ any i = length tones - i
 
-cast-end : tie.Need-cast-end Inv-loop μ-loop
-cast-end c = search needs
-
 loop-holds : tie.Need-loop-holds Inv-loop μ-loop
 loop-holds c = (omega arith, any-none _)
-
-mul-any : tie.Need-mul-any Inv-loop μ-loop
-mul-any c = search needs
-
-shared-slice-read-any : tie.Need-shared-slice-read-any Inv-loop μ-loop
-shared-slice-read-any c = search needs
-
-add-i : tie.Need-add-i Inv-loop μ-loop
-add-i c = search needs
-
-loop-less : tie.Need-loop-less Inv-loop μ-loop
-loop-less c = search needs
 
 loop-again : tie.Need-loop-again Inv-loop μ-loop
 loop-again c = (omega arith, any-more _ (c .before .before .loop .i) (c .before .before .loop .inv .1) refl)
@@ -47,11 +32,11 @@ any-tone-fault-spec =
     (tie.spec
     Inv-loop
     μ-loop
-    cast-end
+    (λ c. search needs)
     loop-holds
-    mul-any
-    shared-slice-read-any
-    add-i
-    loop-less
+    (λ c. search needs)
+    (λ c. search needs)
+    (λ c. search needs)
+    (λ c. search needs)
     loop-again
     returns)

@@ -8,31 +8,13 @@ use borrow.Author.Needs.{needs}
 use Rattle.tables.proofs.lists.check_indices.Statement.{statement}
 use Rattle.tables.proofs.lists.check_indices.Tie as tie
 
-any-index-fault-requires : tie.Need-any-index-fault-requires
-any-index-fault-requires c κs = search needs
-
 returns : tie.Need-returns
 returns c =
     let a = c .before .before .before .before .before .args in
     indices-passed (now (a .bits)) (now (a .gains)) (now (a .tones)) (sym (c .before .any-index-fault .ensures) ∙ not-true _ (c .if1 .taken))
 
-first-index-requires : tie.Need-first-index-requires
-first-index-requires c κs = search needs
-
-enum-known-k : tie.Need-enum-known-k
-enum-known-k c = search needs
-
 returns-2 : tie.Need-returns-2
 returns-2 c = found-here 4 _ (sym (c .before .before .before .first-index .ensures) ∙ c .before .k .given .1)
-
-enum-told : tie.Need-enum-told
-enum-told c = search needs
-
-first-index-requires-2 : tie.Need-first-index-requires-2
-first-index-requires-2 c κs = search needs
-
-enum-known-k-2 : tie.Need-enum-known-k-2
-enum-known-k-2 c = search needs
 
 returns-3 : tie.Need-returns-3
 returns-3 c =
@@ -40,15 +22,6 @@ returns-3 c =
     let enum-told = c .before .before .before .before .enum-told in
     let first-index2 = c .before .before .before .first-index2 in
     found-past 4 (sym (first-index .ensures) ∙ enum-told .given .1) (found-here 5 _ (sym (first-index2 .ensures) ∙ c .before .k2 .given .1))
-
-enum-told-2 : tie.Need-enum-told-2
-enum-told-2 c = search needs
-
-first-index-requires-3 : tie.Need-first-index-requires-3
-first-index-requires-3 c κs = search needs
-
-enum-known-k-3 : tie.Need-enum-known-k-3
-enum-known-k-3 c = search needs
 
 returns-4 : tie.Need-returns-4
 returns-4 c =
@@ -59,9 +32,6 @@ returns-4 c =
     let first-index3 = c .before .before .before .first-index3 in
     found-past 4 (sym (first-index .ensures) ∙ enum-told .given .1)
     (found-past 5 (sym (first-index2 .ensures) ∙ enum-told2 .given .1) (found-here 6 _ (sym (first-index3 .ensures) ∙ c .before .k3 .given .1)))
-
-enum-told-3 : tie.Need-enum-told-3
-enum-told-3 c = search needs
 
 returns-5 : tie.Need-returns-5
 returns-5 c =
@@ -77,18 +47,18 @@ pub check-indices-spec : {M : Type 1} → statement M
 check-indices-spec =
     tie.close
     (tie.spec
-    any-index-fault-requires
+    (λ c κs. search needs)
     returns
-    first-index-requires
-    enum-known-k
+    (λ c κs. search needs)
+    (λ c. search needs)
     returns-2
-    enum-told
-    first-index-requires-2
-    enum-known-k-2
+    (λ c. search needs)
+    (λ c κs. search needs)
+    (λ c. search needs)
     returns-3
-    enum-told-2
-    first-index-requires-3
-    enum-known-k-3
+    (λ c. search needs)
+    (λ c κs. search needs)
+    (λ c. search needs)
     returns-4
-    enum-told-3
+    (λ c. search needs)
     returns-5)

@@ -25,39 +25,24 @@ toned c =
     let first-tone = c .before .before .first-tone in
     sym (first-tone .ensures) ∙ c .enum-told .given .1
 
-wrong-size-requires : tie.Need-wrong-size-requires
-wrong-size-requires c κs = search needs
-
 returns : tie.Need-returns
 returns c = refused-size _ _ _ (sym (c .before .wrong-size .ensures) ∙ c .if1 .taken)
 
 first-tone-requires : tie.Need-first-tone-requires
 first-tone-requires c κs = sizes c .most
 
-enum-known-p : tie.Need-enum-known-p
-enum-known-p c = search needs
-
 returns-2 : tie.Need-returns-2
 returns-2 c = refused-tone _ _ _ (sized (c .before .before .before .before)) (sym (c .before .before .before .first-tone .ensures) ∙ c .before .p .given .1)
-
-enum-told : tie.Need-enum-told
-enum-told c = search needs
 
 first-twice-requires : tie.Need-first-twice-requires
 first-twice-requires c κs =
     let start = c .before .before .before .before .before .before .before .before .before in
     (refl, tones-below (now (start .args .tones)) (sizes (c .before .before .before .before) .most) (toned (c .before)))
 
-enum-known-p-2 : tie.Need-enum-known-p-2
-enum-known-p-2 c = search needs
-
 returns-3 : tie.Need-returns-3
 returns-3 c =
     let first-twice = c .before .before .before .first-twice in
     refused-twice _ _ _ (sized (c .before .before .before .before .before .before .before .before)) (toned (c .before .before .before .before .before)) (sym (first-twice .ensures .0) ∙ c .before .p2 .given .1)
-
-enum-told-2 : tie.Need-enum-told-2
-enum-told-2 c = search needs
 
 check-indices-requires : tie.Need-check-indices-requires
 check-indices-requires c κs =
@@ -74,15 +59,15 @@ pub check-lists-spec : {M : Type 1} → statement M
 check-lists-spec =
     tie.close
     (tie.spec
-    wrong-size-requires
+    (λ c κs. search needs)
     returns
     first-tone-requires
-    enum-known-p
+    (λ c. search needs)
     returns-2
-    enum-told
+    (λ c. search needs)
     first-twice-requires
-    enum-known-p-2
+    (λ c. search needs)
     returns-3
-    enum-told-2
+    (λ c. search needs)
     check-indices-requires
     returns-4)

@@ -21,24 +21,6 @@ Inv-loop seen n₀ i₀ n i = (i ≤ mostTones) × (n + trues (drop i seen) ≡ 
 abbrev μ-loop : tie.MeasureT-loop
 μ-loop seen n₀ i₀ n i = mostTones - i
 
-loop-holds : tie.Need-loop-holds Inv-loop μ-loop
-loop-holds c = omega arith
-
-element-copy-out-one-if : tie.Need-element-copy-out-one-if Inv-loop μ-loop
-element-copy-out-one-if c = search needs
-
-one-if-requires : tie.Need-one-if-requires Inv-loop μ-loop
-one-if-requires c κs = search needs
-
-add-n : tie.Need-add-n Inv-loop μ-loop
-add-n c = search needs
-
-add-i : tie.Need-add-i Inv-loop μ-loop
-add-i c = search needs
-
-loop-less : tie.Need-loop-less Inv-loop μ-loop
-loop-less c = search needs
-
 loop-again : tie.Need-loop-again Inv-loop μ-loop
 loop-again c =
     let seen = now (c .before .before .before .before .args .seen) in
@@ -46,9 +28,6 @@ loop-again c =
     let e : drop i seen ≡ getD seen i false ∷ drop (i + 1) seen = rw add-one (drop-cons seen i false (omega (arith, c .before .before .before .before .pre))) in
     let f = ap trues e in
     omega arith
-
-cast-result : tie.Need-cast-result Inv-loop μ-loop
-cast-result c = search needs
 
 returns : tie.Need-returns Inv-loop μ-loop
 returns c =
@@ -61,12 +40,12 @@ count-marks-spec =
     (tie.spec
     Inv-loop
     μ-loop
-    loop-holds
-    element-copy-out-one-if
-    one-if-requires
-    add-n
-    add-i
-    loop-less
+    (λ c. omega arith)
+    (λ c. search needs)
+    (λ c κs. search needs)
+    (λ c. search needs)
+    (λ c. search needs)
+    (λ c. search needs)
     loop-again
-    cast-result
+    (λ c. search needs)
     returns)

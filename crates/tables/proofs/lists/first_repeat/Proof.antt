@@ -38,9 +38,6 @@ marked c =
 loop-holds : tie.Need-loop-holds Inv-loop μ-loop
 loop-holds c = (omega arith, first-none _, ap length (c .before .pre .0) ∙ length-replicate mostTones false, marks-none (now (c .before .args .tones)) (c .before .pre .0))
 
-tone-at-requires : tie.Need-tone-at-requires Inv-loop μ-loop
-tone-at-requires c κs = search needs
-
 is-marked-requires : tie.Need-is-marked-requires Inv-loop μ-loop
 is-marked-requires c κs = below (c .before)
 
@@ -49,12 +46,6 @@ returns c = first-at _ _ _ (c .before .before .before .before .before .loop .inv
 
 mark-requires : tie.Need-mark-requires Inv-loop μ-loop
 mark-requires c κs = below (c .before .before .before .before)
-
-add-i : tie.Need-add-i Inv-loop μ-loop
-add-i c = search needs
-
-loop-less : tie.Need-loop-less Inv-loop μ-loop
-loop-less c = search needs
 
 loop-again : tie.Need-loop-again Inv-loop μ-loop
 loop-again c =
@@ -79,11 +70,11 @@ first-repeat-spec =
     Inv-loop
     μ-loop
     loop-holds
-    tone-at-requires
+    (λ c κs. search needs)
     is-marked-requires
     returns
     mark-requires
-    add-i
-    loop-less
+    (λ c. search needs)
+    (λ c. search needs)
     loop-again
     returns-2)

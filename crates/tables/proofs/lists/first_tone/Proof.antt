@@ -21,17 +21,11 @@ Inv-loop g tones i₀ i = (i ≤ length tones) × (first (toneTest g tones) i �
 abbrev μ-loop : tie.MeasureT-loop
 μ-loop g tones i₀ i = length tones - i
 
-any-tone-fault-requires : tie.Need-any-tone-fault-requires Inv-loop μ-loop
-any-tone-fault-requires c κs = search needs
-
 returns : tie.Need-returns Inv-loop μ-loop
 returns c = sym (any-nothing _ _ (sym (c .before .any-tone-fault .ensures) ∙ not-true _ (c .if1 .taken)))
 
 loop-holds : tie.Need-loop-holds Inv-loop μ-loop
 loop-holds c = (omega arith, first-none _)
-
-tone-at-requires : tie.Need-tone-at-requires Inv-loop μ-loop
-tone-at-requires c κs = search needs
 
 returns-2 : tie.Need-returns-2 Inv-loop μ-loop
 returns-2 c =
@@ -39,12 +33,6 @@ returns-2 c =
     let loop = c .before .before .before .before .loop in
     let tone-at = c .before .before .tone-at in
     first-at _ _ _ (loop .inv .1) (ap (leb (start .args .g)) (sym (tone-at .ensures)) ∙ le-leb _ _ (c .if2 .taken)) (omega arith)
-
-add-i : tie.Need-add-i Inv-loop μ-loop
-add-i c = search needs
-
-loop-less : tie.Need-loop-less Inv-loop μ-loop
-loop-less c = search needs
 
 loop-again : tie.Need-loop-again Inv-loop μ-loop
 loop-again c =
@@ -62,12 +50,12 @@ first-tone-spec =
     (tie.spec
     Inv-loop
     μ-loop
-    any-tone-fault-requires
+    (λ c κs. search needs)
     returns
     loop-holds
-    tone-at-requires
+    (λ c κs. search needs)
     returns-2
-    add-i
-    loop-less
+    (λ c. search needs)
+    (λ c. search needs)
     loop-again
     returns-3)

@@ -6,9 +6,6 @@ use borrow.Author.Needs.{needs}
 use Rattle.tables.proofs.lists.first_twice.Statement.{statement}
 use Rattle.tables.proofs.lists.first_twice.Tie as tie
 
-mark-tones-requires : tie.Need-mark-tones-requires
-mark-tones-requires c κs = search needs
-
 count-marks-requires : tie.Need-count-marks-requires
 count-marks-requires c κs =
     let s = c .before .before .before .before in
@@ -22,9 +19,6 @@ returns c =
       marks-all (now (s .args .tones)) (now (s .args .seen)) (s .pre .0) (s .pre .1) m,
     )
 
-first-repeat-requires : tie.Need-first-repeat-requires
-first-repeat-requires c κs = search needs
-
 returns-2 : tie.Need-returns-2
 returns-2 c =
     let s = c .before .before .before .before .before .before .before .before in
@@ -33,4 +27,4 @@ returns-2 c =
 pub first-twice-spec : {M : Type 1} → statement M
 first-twice-spec =
     tie.close
-    (tie.spec mark-tones-requires count-marks-requires returns first-repeat-requires returns-2)
+    (tie.spec (λ c κs. search needs) count-marks-requires returns (λ c κs. search needs) returns-2)

@@ -6,14 +6,8 @@ use borrow.Author.Needs.{needs}
 use Rattle.tables.proofs.lists.is_fault.Statement.{statement}
 use Rattle.tables.proofs.lists.is_fault.Tie as tie
 
-is-stray-requires : tie.Need-is-stray-requires
-is-stray-requires c κs = search needs
-
-is-wrong-gain-requires : tie.Need-is-wrong-gain-requires
-is-wrong-gain-requires c κs = search needs
-
 returns : tie.Need-returns
 returns c = ap (λ z. ltb 15 (c .before .before .args .bits) || z) (ap₂ _||_ (c .before .is-stray .ensures) (c .is-wrong-gain .ensures))
 
 pub is-fault-spec : {M : Type 1} → statement M
-is-fault-spec = tie.close (tie.spec is-stray-requires is-wrong-gain-requires returns)
+is-fault-spec = tie.close (tie.spec (λ c κs. search needs) (λ c κs. search needs) returns)

@@ -7,15 +7,6 @@ use borrow.Author.Needs.{needs}
 use Rattle.tables.proofs.sizes.size_frame.Statement.{statement}
 use Rattle.tables.proofs.sizes.size_frame.Tie as tie
 
-count-tones-requires : tie.Need-count-tones-requires
-count-tones-requires c κs = search needs
-
-enum-told : tie.Need-enum-told
-enum-told c = search needs
-
-enum-told-2 : tie.Need-enum-told-2
-enum-told-2 c = search needs
-
 returns : tie.Need-returns
 returns c = rw (c .before .before .enum-told2 .given .1) (record { answer = coded-odd (c .before .before .before .before .count-tones .ensures) (c .if1 .taken); shares = tt })
 
@@ -60,9 +51,9 @@ pub size-frame-spec : {M : Type 1} → statement M
 size-frame-spec =
     tie.close
     (tie.spec
-    count-tones-requires
-    enum-told
-    enum-told-2
+    (λ c κs. search needs)
+    (λ c. search needs)
+    (λ c. search needs)
     returns
     sub-n
     returns-2

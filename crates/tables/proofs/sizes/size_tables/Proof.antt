@@ -8,15 +8,6 @@ use borrow.Author.Needs.{needs}
 use Rattle.tables.proofs.sizes.size_tables.Statement.{statement}
 use Rattle.tables.proofs.sizes.size_tables.Tie as tie
 
-check-lists-requires : tie.Need-check-lists-requires
-check-lists-requires c κs = search needs
-
-enum-known-r : tie.Need-enum-known-r
-enum-known-r c = search needs
-
-enum-told : tie.Need-enum-told
-enum-told c = search needs
-
 size-frame-requires : tie.Need-size-frame-requires
 size-frame-requires c κs = lists-pass _ _ _ (ap verdictOf (sym (c .enum-told .given .1)) ∙ c .before .before .check-lists .ensures)
 
@@ -35,4 +26,4 @@ returns-2 c =
 pub size-tables-spec : {M : Type 1} → statement M
 size-tables-spec =
     tie.close
-    (tie.spec check-lists-requires enum-known-r enum-told size-frame-requires returns returns-2)
+    (tie.spec (λ c κs. search needs) (λ c. search needs) (λ c. search needs) size-frame-requires returns returns-2)

@@ -24,42 +24,12 @@ high c =
     got-high true (a .c .state) (a .x) (a .y) (a .frame .now) (a .c .at) _ (g .result) i (n .xRange .0) (n .yRange .0) (n .bits) refl (g .ensures) refl (n .xRange .1) (n .yRange .1) in
     omega (arith, h)
 
-add-n : tie.Need-add-n
-add-n c = search needs
-
-sub-n : tie.Need-sub-n
-sub-n c = search needs
-
-get-requires : tie.Need-get-requires
-get-requires c κs = search needs
-
-forced-step-requires : tie.Need-forced-step-requires
-forced-step-requires c κs = search needs
-
-add-lowest : tie.Need-add-lowest
-add-lowest c = search needs
-
-sub-lowest : tie.Need-sub-lowest
-sub-lowest c = search needs
-
-lowest-requires : tie.Need-lowest-requires
-lowest-requires c κs = search needs
-
 label-requires : tie.Need-label-requires
 label-requires c κs =
     let start = c .before .before .before .before .before .before .before .before in
     let get = c .before .before .before .before .before .before .get in
     let f = (get .result) / 2 in
     rw (c .lowest .ensures) (lt-of-le-of-lt (mod-le f (2 ^ (start .args .x - 2))) (high (c .before .before .before .before .before .before)))
-
-sub-label : tie.Need-sub-label
-sub-label c = search needs
-
-cast-label : tie.Need-cast-label
-cast-label c = search needs
-
-shr-label : tie.Need-shr-label
-shr-label c = search needs
 
 label-requires-2 : tie.Need-label-requires-2
 label-requires-2 c κs =
@@ -87,16 +57,16 @@ pub code-forced-pair-spec : {M : Type 1} → statement M
 code-forced-pair-spec =
     tie.close
     (tie.spec
-    add-n
-    sub-n
-    get-requires
-    forced-step-requires
-    add-lowest
-    sub-lowest
-    lowest-requires
+    (λ c. search needs)
+    (λ c. search needs)
+    (λ c κs. search needs)
+    (λ c κs. search needs)
+    (λ c. search needs)
+    (λ c. search needs)
+    (λ c κs. search needs)
     label-requires
-    sub-label
-    cast-label
-    shr-label
+    (λ c. search needs)
+    (λ c. search needs)
+    (λ c. search needs)
     label-requires-2
     returns)

@@ -37,9 +37,6 @@ at-pair c =
       isForced = sym (lt-ltb (length (s .args .entries .now) - l .i) 6 (omega (arith, l .inv .2)));
     }
 
-state-of-requires : tie.Need-state-of-requires Inv-loop μ-loop
-state-of-requires c κs = search needs
-
 loop-holds : tie.Need-loop-holds Inv-loop μ-loop
 loop-holds c =
     let s = c .before .before .before .before .before in
@@ -97,7 +94,7 @@ code-forced-pairs-spec =
     (tie.spec
     Inv-loop
     μ-loop
-    state-of-requires
+    (λ c κs. search needs)
     loop-holds
     add-loop
     entry-requires

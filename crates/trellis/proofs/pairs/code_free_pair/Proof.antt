@@ -9,42 +9,6 @@ use borrow.Author.Needs.{needs}
 use Rattle.trellis.proofs.pairs.code_free_pair.Statement.{statement}
 use Rattle.trellis.proofs.pairs.code_free_pair.Tie as tie
 
-ahead-requires : tie.Need-ahead-requires
-ahead-requires c κs = search needs
-
-step-requires : tie.Need-step-requires
-step-requires c κs = search needs
-
-sub-lowest-by : tie.Need-sub-lowest-by
-sub-lowest-by c = search needs
-
-lowest-by-requires : tie.Need-lowest-by-requires
-lowest-by-requires c κs = search needs
-
-mul-t14 : tie.Need-mul-t14
-mul-t14 c = search needs
-
-add-t15 : tie.Need-add-t15
-add-t15 c = search needs
-
-sub-lowest-by-2 : tie.Need-sub-lowest-by-2
-sub-lowest-by-2 c = search needs
-
-add-lowest-by : tie.Need-add-lowest-by
-add-lowest-by c = search needs
-
-shr-lowest-by : tie.Need-shr-lowest-by
-shr-lowest-by c = search needs
-
-lowest-by-requires-2 : tie.Need-lowest-by-requires-2
-lowest-by-requires-2 c κs = search needs
-
-mul-t21 : tie.Need-mul-t21
-mul-t21 c = search needs
-
-add-t22 : tie.Need-add-t22
-add-t22 c = search needs
-
 returns : tie.Need-returns
 returns c =
     let s = c .before .before .before .before .before .before .before .before in
@@ -63,16 +27,16 @@ pub code-free-pair-spec : {M : Type 1} → statement M
 code-free-pair-spec =
     tie.close
     (tie.spec
-    ahead-requires
-    step-requires
-    sub-lowest-by
-    lowest-by-requires
-    mul-t14
-    add-t15
-    sub-lowest-by-2
-    add-lowest-by
-    shr-lowest-by
-    lowest-by-requires-2
-    mul-t21
-    add-t22
+    (λ c κs. search needs)
+    (λ c κs. search needs)
+    (λ c. search needs)
+    (λ c κs. search needs)
+    (λ c. search needs)
+    (λ c. search needs)
+    (λ c. search needs)
+    (λ c. search needs)
+    (λ c. search needs)
+    (λ c κs. search needs)
+    (λ c. search needs)
+    (λ c. search needs)
     returns)

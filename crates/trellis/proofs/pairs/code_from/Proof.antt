@@ -39,15 +39,6 @@ at-pair c =
       isForced = sym (le-ltb (length (s .args .entries .now) - l .i) 6 (free-inside (c .before .before .loop-test .taken) .six));
     }
 
-step-table-requires : tie.Need-step-table-requires Inv-loop μ-loop
-step-table-requires c κs = search needs
-
-mask-table-requires : tie.Need-mask-table-requires Inv-loop μ-loop
-mask-table-requires c κs = search needs
-
-state-number-requires : tie.Need-state-number-requires Inv-loop μ-loop
-state-number-requires c κs = search needs
-
 loop-holds : tie.Need-loop-holds Inv-loop μ-loop
 loop-holds c =
     let s = c .before .before .before .before .before .before .before in
@@ -139,9 +130,9 @@ code-from-spec =
     (tie.spec
     Inv-loop
     μ-loop
-    step-table-requires
-    mask-table-requires
-    state-number-requires
+    (λ c κs. search needs)
+    (λ c κs. search needs)
+    (λ c κs. search needs)
     loop-holds
     add-loop
     entry-requires

@@ -7,9 +7,6 @@ use borrow.Author.Needs.{needs}
 use Rattle.trellis.proofs.pairs.lowest.Statement.{statement}
 use Rattle.trellis.proofs.pairs.lowest.Tie as tie
 
-power-requires : tie.Need-power-requires
-power-requires c κs = search needs
-
 sub-result : tie.Need-sub-result
 sub-result c = rw (c .power .ensures) (pow-pos _)
 
@@ -17,4 +14,4 @@ returns : tie.Need-returns
 returns c = ap (λ (p : ℕ). bitAnd (c .before .args .value) (p - 1)) (c .power .ensures) ∙ and-mask (c .before .args .value) (c .before .args .n)
 
 pub lowest-spec : {M : Type 1} → statement M
-lowest-spec = tie.close (tie.spec power-requires sub-result returns)
+lowest-spec = tie.close (tie.spec (λ c κs. search needs) sub-result returns)

@@ -8,19 +8,10 @@ use borrow.Author.Needs.{needs}
 use Rattle.trellis.proofs.pairs.put_pair.Statement.{statement}
 use Rattle.trellis.proofs.pairs.put_pair.Tie as tie
 
-put-entry-requires : tie.Need-put-entry-requires
-put-entry-requires c κs = search needs
-
-add-put-entry : tie.Need-add-put-entry
-add-put-entry c = search needs
-
 put-entry-requires-2 : tie.Need-put-entry-requires-2
 put-entry-requires-2 c κs =
     let p = c .before .before .before .before .before .before .before .pre in
     (search needs, p .2, rw (c .before .before .before .put-entry .kept .0) (p .3))
-
-same-length : tie.Need-same-length
-same-length c = search needs
 
 returns : tie.Need-returns
 returns c =
@@ -29,4 +20,4 @@ returns c =
 
 pub put-pair-spec : {M : Type 1} → statement M
 put-pair-spec =
-    tie.close (tie.spec put-entry-requires add-put-entry put-entry-requires-2 same-length returns)
+    tie.close (tie.spec (λ c κs. search needs) (λ c. search needs) put-entry-requires-2 (λ c. search needs) returns)

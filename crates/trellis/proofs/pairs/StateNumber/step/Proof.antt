@@ -7,15 +7,6 @@ use borrow.Author.Needs.{needs}
 use Rattle.trellis.proofs.pairs.StateNumber.step.Statement.{statement}
 use Rattle.trellis.proofs.pairs.StateNumber.step.Tie as tie
 
-mul-t : tie.Need-mul-t
-mul-t c = search needs
-
-add-t : tie.Need-add-t
-add-t c = search needs
-
-element-copy-out-t : tie.Need-element-copy-out-t
-element-copy-out-t c = search needs
-
 cast-t : tie.Need-cast-t
 cast-t c =
     let s = c .before .before in
@@ -33,4 +24,4 @@ returns c =
     record { nextIs = ap (λ (n : ℕ). n / 16) (f .0); vIs = ap (λ (n : ℕ). n % 4) (f .0); wIs = ap (λ (n : ℕ). n / 4 % 4) (f .0); small = rw (← f .0) (f .1) }
 
 pub step-spec : {M : Type 1} → statement M
-step-spec = tie.close (tie.spec mul-t add-t element-copy-out-t cast-t cast-t5 returns)
+step-spec = tie.close (tie.spec (λ c. search needs) (λ c. search needs) (λ c. search needs) cast-t cast-t5 returns)
