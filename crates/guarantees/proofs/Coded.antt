@@ -112,7 +112,7 @@ module _ (T : Tables) (ok : AcceptedTables T) (m : T .mode ≡ Coded) (f : List 
       let es : List ℕ = entries (T .bits) (T .tones) in
       let sent : sentIn T f ≡ encodePairs zeroState (pairsIn T) g = ap (λ (n : Mode). sentOf n (pairsIn T) g) m in
       let low : map (take 2) (labelsOf es (encodePairs zeroState (pairsIn T) g)) ≡ lowest (pairsIn T) (wordsIn T f) =
-      rw (c .pairs) (pairs-low es zeroState g (allTwo-entries (T .bits) (T .tones)) (c .fewEntries) (taken-bits ∙ ap takenTotal (c .pairs))) in
+      rw (c .pairs) (pairs-low es zeroState g (allTwo-entries (T .bits) (T .tones)) (c .enoughEntries) (taken-bits ∙ ap takenTotal (c .pairs))) in
       ap (λ (d : List Bool). map (take 2) (labelsOf es d)) sent ∙ low
 
   -- the entries before those of the 1-bit tones, and the places

@@ -136,7 +136,7 @@ module _ (T : Tables) (ok : tableVerdict T .number ≡ 0) where
               let needs : FrameNeeds f 0 es =
               record {
                 wide = rw (coded-is e) (c .entriesRange);
-                enough = rw (coded-is e) (c .fewEntries);
+                enough = rw (coded-is e) (c .enoughEntries);
                 many = coded-many e;
                 bits = omega arith;
                 small = omega arith;
@@ -164,7 +164,7 @@ module _ (T : Tables) (ok : tableVerdict T .number ≡ 0) where
         go Uncoded e = (plain-most e, omega (arith, plain-sum e, known .sizeMost))
         go Coded e =
             let c = known .coded e in
-            (rw (coded-is e) (c .entriesRange), rw (coded-is e) (c .fewEntries), coded-many e, omega (arith, coded-taken e, known .sizeMost))
+            (rw (coded-is e) (c .entriesRange), rw (coded-is e) (c .enoughEntries), coded-many e, omega (arith, coded-taken e, known .sizeMost))
 
     -- the reading of the gathered bits is document 01's
     pub reading-is : (q : List Point) → readingOf (T .mode) (pairsOf es) (gatherBits (classesOf T) q) ≡ readingIn T q
