@@ -77,11 +77,12 @@ abbrev pub labelsOf : List ℕ → List Bool → List (List Bool)
 labelsOf [] d = []
 labelsOf (n ∷ ns) d = take n d ∷ labelsOf ns (drop n d)
 
--- the two lowest bits of entry n of the N, for a frame
+-- the two lowest bits of the label of entry n of the N, for a frame
 abbrev pub lowestAt : Tables → List ℕ → ℕ → List Bool
 lowestAt T f n = getD (lowest (pairsIn T) (wordsIn T f)) n []
 
--- the 1-bit tones stand last in t'; the place of the first of the j-th two of them, and the entry that the two share
+-- how many 1-bit tones there are, which stand last in t'; the place of the first of the j-th two of them, and the entry that the two
+-- share, j from 0
 abbrev pub oneBitTones : Tables → ℕ
 oneBitTones T = ones (T .bits) (T .tones)
 
