@@ -2,9 +2,9 @@
 ghost use Prim.Native.Nat.{_≤_};
 ghost use lib.ListN.{length};
 ghost use Rattle.g9932.specs.Sizes.{mostTones};
+use figure_lines::Figure;
+use figure_lines::line;
 use g9932::MOST_TONES;
-use lines::Figure;
-use lines::line;
 
 // Bench table A, with this gain of tone 4.
 pub fn table_a(gain: u16, figure: Figure) {

@@ -3,8 +3,8 @@ mod bench; // the bench tables
 
 use bench::equal_tones;
 use bench::table_a;
+use figure_lines::Figure;
 use g9932::Mode;
-use lines::Figure;
 use print::entry;
 use print::number;
 use print::text;

@@ -1,10 +1,10 @@
--- `lines::half_turn::turn` ends, and the list keeps its length.
+-- `figure_lines::half_turn::turn` ends, and the list keeps its length.
 use borrow.Author.Needs.{needs}
 use Prim.Native.Nat.{_-_}
 use lib.ListN.{length}
 use mathlib.Core.Path.{_≡_}
-use Rattle.lines.proofs.half_turn.turn.Statement.{statement}
-use Rattle.lines.proofs.half_turn.turn.Tie as tie
+use Rattle.figure_lines.proofs.half_turn.turn.Statement.{statement}
+use Rattle.figure_lines.proofs.half_turn.turn.Tie as tie
 
 abbrev Inv-loop : tie.InvT-loop
 Inv-loop list₀ i₀ list i = length list ≡ length list₀
