@@ -10,9 +10,9 @@ use lib.Dec.{eqb}
 use lib.IntN.{ℤ}
 use lib.ListN.{length, take, drop, getD}
 use Rattle.g9932.specs.Bits.{_⊕_, bits, bit, num, odd}
-use Rattle.g9932.specs.Sizes.{Tables, unpack, Point, origin}
-use Rattle.g9932.specs.Refusals.{accepted, refused, tableVerdict}
-use Rattle.g9932.specs.Order.{sum, count, filter, oneBit, bitsOf, entryCount, entries, pairCount}
+use Rattle.g9932.specs.Sizes.{Tables, entry, unpack, Point, origin}
+use Rattle.g9932.specs.Refusals.{accepted, refused, refuseIf, oddTest, fewTest, modeVerdict, tableVerdict}
+use Rattle.g9932.specs.Order.{sum, count, filter, oneBit, bitsOf, entryCount, entries, pairCount, frameSize}
 use Rattle.g9932.specs.Trellis.{Word, zeroState, lowBits, lowBitsOf, sentBits}
 use Rattle.g9932.specs.Points.{pointOf, negated}
 use Rattle.g9932.specs.Filler.{nextRegister, drawn, registerAfter}
@@ -20,12 +20,14 @@ use Rattle.g9932.specs.Symbol.{reorderedTonesOf, reorderedBitsOf, classesOf, pa
 use Rattle.g9932.specs.Answers.{reorderOf, encodeOf, Read, readOf, toneDone, mapLabel, readPoint}
 use Rattle.g9932.specs.Figures.{MarkedFigures}
 use Rattle.g9932.specs.declared.Found.the-variants.{At, Nothing}
+use Rattle.g9932.specs.declared.Mode.{Mode}
 use Rattle.g9932.specs.declared.Mode.the-variants.{Uncoded, Coded}
 use Rattle.g9932.proofs.Figures as Figures
+use Rattle.g9932.proofs.Nine as Nine
 use Rattle.g9932.proofs.Packed as Packed
 use Rattle.g9932.proofs.Reordering as Reordering
 use Rattle.g9932.proofs.Verdicts as Verdicts
-use Rattle.guarantees.specs.Words.{AcceptedTables, AcceptedFrame, ValidRegister, RightLength, Ready, nonZero, wordsIn, stateAfter, labelsOf, lowest, lowestAt, oneBitTones, firstOfTwo, sharedEntry, table10-2, bitOne, fillerBit, turned}
+use Rattle.guarantees.specs.Words.{AcceptedTables, AcceptedFrame, ValidRegister, RightLength, Ready, nonZero, pairAt, wordsIn, stateAfter, labelsOf, lowest, lowestAt, oneBitTones, firstOfTwo, sharedEntry, table10-2, bitOne, fillerBit, turned}
 use Rattle.guarantees.proofs.Coded as Coded
 use Rattle.guarantees.proofs.EntryBits as EntryBits
 use Rattle.guarantees.proofs.HalfTurn as HalfTurn
@@ -111,6 +113,13 @@ refused-ordering = Operations.refused-ordering
 pub refused-checking : (T : Tables) → tableVerdict T .number ≢ 0 → tableVerdict T .size ≡ 0
 refused-checking T = Verdicts.table-size T .none
 
+-- No tables that pass 1 to 8 lead to 9, in either mode: without its test, the verdict is the same.
+pub never-nine : (T : Tables) → tableVerdict T .number ≢ 9
+never-nine = Nine.never-nine
+
+pub without-nine : (m : Mode) (b t : List ℕ) → modeVerdict m b t ≡ refuseIf 7 (oddTest m b t) (refuseIf 8 (fewTest m b t) (accepted (frameSize m b t)))
+without-nine = Nine.without-nine
+
 -- ---- how many bits
 
 -- Coded, the bits on the tones number the frame's bits, one per coded pair, and four (sum of bits = L + P + 4);
@@ -155,6 +164,16 @@ module _ (T : Tables) (ok : AcceptedTables T) where
   pub counts : T .mode ≡ Coded
       → (nonZero T ≡ entryCount (T .bits) (T .tones)) × (length (pairsIn T) ≡ pairCount (T .bits) (T .tones))
   counts = Totals.counts T ok
+
+  -- Coded, an entry of b' is 0 or at least 2. So no pair holds an entry of 1, and only the first may hold a 0, in front.
+  pub no-one : T .mode ≡ Coded → (k : ℕ) → k < length (reorderedBitsOf T) → entry (reorderedBitsOf T) k ≢ 1
+  no-one = Totals.no-one T ok
+
+  pub no-one-in-pairs : (k : ℕ) → k < length (pairsIn T) → (pairAt T k .x ≢ 1) × (pairAt T k .y ≢ 1)
+  no-one-in-pairs = Totals.no-one-in-pairs T ok
+
+  pub zero-in-first : (k : ℕ) → k < length (pairsIn T) → (pairAt T k .x ≡ 0 → k ≡ 0) × (pairAt T k .y ≢ 0)
+  zero-in-first = Totals.zero-in-first T ok
 
 -- ---- which bits go where
 

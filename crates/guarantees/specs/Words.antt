@@ -9,7 +9,7 @@ use lib.ListN.{length, take, drop, getD}
 use Rattle.g9932.specs.Bits.{bit, odd}
 use Rattle.g9932.specs.Sizes.{Tables, bytesFor, frameBits}
 use Rattle.g9932.specs.Refusals.{tableVerdict, frameTest, seedTest}
-use Rattle.g9932.specs.Order.{Pair, count, ones}
+use Rattle.g9932.specs.Order.{Pair, pair, count, ones}
 use Rattle.g9932.specs.Trellis.{Word, zeroState, lastTwo, taken, lowBitsOf, nextOf, wordAt}
 use Rattle.g9932.specs.Filler.{resetRegister, drawn}
 use Rattle.g9932.specs.Symbol.{reorderedBitsOf, pairsIn, sizeOf}
@@ -42,6 +42,10 @@ pub record Ready (T : Tables) (r : ℕ) (xs ys : List ℤ) (f : List ℕ) : Type
 -- The count of non-zero re-ordered entries is N. The 0 put in front of an odd count isn't in it.
 abbrev pub nonZero : Tables → ℕ
 nonZero T = count (ltb 0) (reorderedBitsOf T)
+
+-- pair k of the coded pairs
+abbrev pub pairAt : Tables → ℕ → Pair
+pairAt T k = getD (pairsIn T) k (pair 0 0)
 
 -- Half a turn puts (−X, −Y) for (X, Y) at every place in t', whatever the tone's class: on each of the two lists.
 abbrev pub turned : List ℤ → List ℤ
