@@ -63,7 +63,7 @@
  *   6    a gain is above 4095, or bits come with gain 0                  smallest sub-carrier
  *   7    coded: the number of 1-bit tones is odd                         0
  *   8    coded: fewer than 4 non-zero entries in b'                      0
- *   9    coded: a pair of entries of b' holds a 1 (never happens)        number of the pair
+ *   9    unused: no call gives it
  *   10   a lent output or a point list has not its exact length          0
  *   11   the frame's length is wrong, or an unused bit of it is 1        0
  *   12   the register is 0 or above 8388607                              0
@@ -123,7 +123,6 @@ enum {
     CLEVISROOT_GAIN = 6,
     CLEVISROOT_ODD = 7,
     CLEVISROOT_FEW = 8,
-    CLEVISROOT_PAIR = 9,
     CLEVISROOT_ROOM = 10,
     CLEVISROOT_FRAME = 11,
     CLEVISROOT_SEED = 12,
@@ -172,7 +171,7 @@ static inline size_t clevisroot_frame_bytes(uint32_t size)
     return ((size_t)size + 7) / 8;
 }
 
-/* Checks the tables and tells L. Refusals 1 to 9. */
+/* Checks the tables and tells L. Refusals 1 to 8. */
 clevisroot_answer clevisroot_check(
     uint8_t coded, const uint8_t *bits, size_t bits_len,
     const uint16_t *gains, size_t gains_len, const uint16_t *tones, size_t tones_len);
@@ -182,7 +181,7 @@ clevisroot_answer clevisroot_check(
  * Uncoded, b' has the bits in t order. Coded, it has zeros first, as many as NSC is above the number
  * of the others, then the counts of at least 2 in t' order, then a 2 for each two 1-bit tones that
  * follow each other in t'.
- * Refusals 1 to 9, then 10 if an output has not NSC entries.
+ * Refusals 1 to 8, then 10 if an output has not NSC entries.
  */
 clevisroot_answer clevisroot_reorder(
     uint8_t coded, const uint8_t *bits, size_t bits_len,
@@ -191,7 +190,7 @@ clevisroot_answer clevisroot_reorder(
 
 /*
  * Writes the points of a frame to x and y, NSC entries each.
- * Refusals 1 to 9, then 10 if x or y has not NSC entries, 11 for the frame, 12 for the register.
+ * Refusals 1 to 8, then 10 if x or y has not NSC entries, 11 for the frame, 12 for the register.
  */
 clevisroot_answer clevisroot_encode(
     uint8_t coded, const uint8_t *bits, size_t bits_len,
@@ -202,7 +201,7 @@ clevisroot_answer clevisroot_encode(
 /*
  * Reads points that carry no noise and writes their frame, (L + 7) / 8 bytes. It reads exactly
  * the points that clevisroot_encode writes for some frame, and gives that frame.
- * Refusals 1 to 9, then 10 if x or y has not NSC entries or the frame not its bytes, 12 for the
+ * Refusals 1 to 8, then 10 if x or y has not NSC entries or the frame not its bytes, 12 for the
  * register, then 13 at every place, 14 at every place, 15.
  */
 clevisroot_answer clevisroot_read(

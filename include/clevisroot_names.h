@@ -24,7 +24,6 @@ static inline const char *clevisroot_refusal_name(uint32_t number)
     case CLEVISROOT_GAIN: return "GAIN";
     case CLEVISROOT_ODD: return "ODD";
     case CLEVISROOT_FEW: return "FEW";
-    case CLEVISROOT_PAIR: return "PAIR";
     case CLEVISROOT_ROOM: return "ROOM";
     case CLEVISROOT_FRAME: return "FRAME";
     case CLEVISROOT_SEED: return "SEED";

@@ -18,6 +18,9 @@ use Operation::*;
 
 const OPERATIONS: [Operation; 7] = [Check, Reorder, Encode, Read, MapLabel, ReadPoint, Draw];
 
+/// How many numbers there are from DONE to the largest, unused ones included.
+const NUMBERS: usize = LABEL as usize + 1;
+
 impl Operation {
     /// The name after `clevisroot_`.
     pub fn name(self) -> &'static str {
@@ -32,7 +35,7 @@ impl Operation {
         }
     }
 
-    /// The numbers that must turn up. Document 01 has 9 PAIR too, but nothing reaches it.
+    /// The numbers that must turn up; no others may.
     fn numbers(self) -> Vec<u32> {
         match self {
             Check => (DONE..=FEW).collect(),
@@ -48,7 +51,7 @@ impl Operation {
 
 #[derive(Default)]
 pub struct Coverage {
-    counts: [[u64; ALL.len()]; OPERATIONS.len()],
+    counts: [[u64; NUMBERS]; OPERATIONS.len()],
 }
 
 impl Coverage {
@@ -63,10 +66,10 @@ impl Coverage {
     /// Every number an operation can give turned up, and no other.
     pub fn verdict(&self) -> Result<(), String> {
         for operation in OPERATIONS {
-            for &(number, name) in ALL {
-                let came = self.counts[operation as usize][number as usize] > 0;
+            for (number, &count) in (DONE..).zip(&self.counts[operation as usize]) {
+                let came = count > 0;
                 let can = operation.numbers().contains(&number);
-                let told = format!("{number} {name} came from {}", operation.name());
+                let told = format!("{number} {} came from {}", name(number), operation.name());
                 if came && !can {
                     return Err(told);
                 }

@@ -21,7 +21,7 @@ refusals! {
     GAIN = 6,
     ODD = 7,
     FEW = 8,
-    PAIR = 9,
+    // 9 is unused
     ROOM = 10,
     FRAME = 11,
     SEED = 12,

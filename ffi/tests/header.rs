@@ -57,6 +57,7 @@ fn every_number_has_its_name_for_logs() {
 #[test]
 fn a_number_that_is_none_is_unknown() {
     assert_eq!(refusals::name(refusals::TRELLIS), "TRELLIS");
+    assert_eq!(refusals::name(9), "UNKNOWN");
     assert_eq!(refusals::name(99), "UNKNOWN");
     assert!(NAMES.contains("default: return \"UNKNOWN\";"));
 }

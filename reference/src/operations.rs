@@ -41,12 +41,12 @@ fn answer<C>(given: u32, outcome: Result<Done<C>, Refusal>) -> Answer<C> {
     }
 }
 
-/// Checks the tables and tells L: 1 to 9.
+/// Checks the tables and tells L: 1 to 8.
 pub fn check(tables: &Tables) -> Answer<()> {
     answer(0, test_tables(tables).map(|()| (frame_size(tables), 0, ())))
 }
 
-/// t' and b' for lent lists of these lengths: 1 to 10.
+/// t' and b' for lent lists of these lengths: 1 to 8 and 10.
 pub fn reorder(
     tables: &Tables,
     tones_room: usize,
@@ -69,7 +69,7 @@ pub fn reorder(
     answer(0, outcome())
 }
 
-/// The points of a frame for lent lists of these lengths: 1 to 12.
+/// The points of a frame for lent lists of these lengths: 1 to 8 and 10 to 12.
 pub fn encode(
     tables: &Tables,
     frame: &[u8],
@@ -89,7 +89,7 @@ pub fn encode(
     answer(register, outcome())
 }
 
-/// The frame of the points, for a lent frame of this length: 1 to 10 and 12 to 15.
+/// The frame of the points, for a lent frame of this length: 1 to 8, 10 and 12 to 15.
 pub fn read(
     tables: &Tables,
     x: &[i16],

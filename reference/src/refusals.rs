@@ -1,9 +1,9 @@
-//! "Refusal numbers": each refusal with its number, name and place, and the tests of 1 to 9.
+//! "Refusal numbers": each refusal with its number, name and place, and the tests of 1 to 8.
 
 use crate::forms::{Mode, Place, Subcarrier, Tables};
-use crate::reordering::{nonzero_entries, pairs, reordered_bits};
+use crate::reordering::{nonzero_entries, reordered_bits};
 
-/// One case for each number, carrying the place where it has one.
+/// One case for each number, carrying the place where it has one. Number 9 is unused.
 #[derive(Clone, Copy, Debug, PartialEq, Eq)]
 pub enum Refusal {
     Size,
@@ -14,7 +14,6 @@ pub enum Refusal {
     Gain(Subcarrier),
     Odd,
     Few,
-    Pair(usize),
     Room,
     Frame,
     Seed,
@@ -37,7 +36,6 @@ impl Refusal {
             Gain(_) => 6,
             Odd => 7,
             Few => 8,
-            Pair(_) => 9,
             Room => 10,
             Frame => 11,
             Seed => 12,
@@ -52,23 +50,23 @@ impl Refusal {
         let place = match self {
             Tone(Place(p)) | Twice(Place(p)) | Offgrid(Place(p)) | Monitor(Place(p)) => p,
             Bits(Subcarrier(i)) | Stray(Subcarrier(i)) | Gain(Subcarrier(i)) => i,
-            Pair(number) | Trellis(number) => number,
+            Trellis(number) => number,
             Size | Odd | Few | Room | Frame | Seed | Label => 0,
         };
         u32::try_from(place).expect("places are below 2 to the 16")
     }
 }
 
-/// The name that the page gives a number.
+/// The name that the page gives a number; 9 has none.
 pub fn name(number: u32) -> &'static str {
     const NAMES: [&str; 17] = [
-        "DONE", "SIZE", "TONE", "TWICE", "BITS", "STRAY", "GAIN", "ODD", "FEW", "PAIR", "ROOM",
+        "DONE", "SIZE", "TONE", "TWICE", "BITS", "STRAY", "GAIN", "ODD", "FEW", "UNKNOWN", "ROOM",
         "FRAME", "SEED", "OFFGRID", "MONITOR", "TRELLIS", "LABEL",
     ];
     NAMES[number as usize]
 }
 
-/// The smallest of 1 to 9 that applies. Each test may rely on the ones before it.
+/// The smallest of 1 to 8 that applies. Each test may rely on the ones before it.
 pub fn test_tables(tables: &Tables) -> Result<(), Refusal> {
     test_size(tables)?;
     test_tone(tables)?;
@@ -79,7 +77,6 @@ pub fn test_tables(tables: &Tables) -> Result<(), Refusal> {
     if tables.mode == Mode::Coded {
         test_odd(tables)?;
         test_few(tables)?;
-        test_pair(tables)?;
     }
     Ok(())
 }
@@ -137,14 +134,6 @@ fn test_odd(tables: &Tables) -> Result<(), Refusal> {
 
 fn test_few(tables: &Tables) -> Result<(), Refusal> {
     refuse_if(nonzero_entries(&reordered_bits(tables)) < 4, Few)
-}
-
-/// No tables that pass 1 to 8 lead here, yet the page has it.
-fn test_pair(tables: &Tables) -> Result<(), Refusal> {
-    for (number, pair) in pairs(&reordered_bits(tables)).iter().enumerate() {
-        refuse_if(pair.x == 1 || pair.y == 1, Pair(number))?;
-    }
-    Ok(())
 }
 
 fn subcarriers(tables: &Tables) -> impl Iterator<Item = Subcarrier> {

@@ -58,7 +58,7 @@ pub fn pairs(entries: &[usize]) -> Vec<Pair> {
     row.chunks(2).map(cut).collect()
 }
 
-/// L, for tables that none of 1 to 9 refuses.
+/// L, for tables that none of 1 to 8 refuses.
 pub fn frame_size(tables: &Tables) -> usize {
     let sum: usize = tables.t().iter().map(|&tone| tables.bits_of(tone)).sum();
     match tables.mode {

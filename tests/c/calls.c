@@ -106,6 +106,7 @@ static void header(void)
     CHECK(clevisroot_frame_bytes(CLEVISROOT_MAX_TONES * 15) == CLEVISROOT_MAX_FRAME);
     CHECK(strcmp(clevisroot_refusal_name(CLEVISROOT_DONE), "DONE") == 0);
     CHECK(strcmp(clevisroot_refusal_name(CLEVISROOT_LABEL), "LABEL") == 0);
+    CHECK(strcmp(clevisroot_refusal_name(9), "UNKNOWN") == 0);
     CHECK(strcmp(clevisroot_refusal_name(17), "UNKNOWN") == 0);
     CHECK(strcmp(clevisroot_refusal_name(UINT32_MAX), "UNKNOWN") == 0);
 }

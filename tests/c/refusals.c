@@ -7,7 +7,7 @@
 
 enum { CHECKING, REORDERING, ENCODING, READING, MAPPING, LABELLING, DRAWING, FUNCTIONS };
 
-/* The numbers that each function can give, but 9, which never happens: a bit for each. */
+/* The numbers that each function can give: a bit for each. */
 #define UP_TO_8 0x1ffu
 static const uint32_t can_give[FUNCTIONS] = {
     UP_TO_8,

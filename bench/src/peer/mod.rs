@@ -28,7 +28,6 @@ const STRAY: u32 = 5;
 const GAIN: u32 = 6;
 const ODD: u32 = 7;
 const FEW: u32 = 8;
-// 9 can't apply after 1 to 8: an entry of b' is 0 or at least 2.
 const ROOM: u32 = 10;
 const FRAME: u32 = 11;
 const SEED: u32 = 12;

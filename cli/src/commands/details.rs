@@ -2,7 +2,7 @@
 
 pub const CHECK: &str = "\
 Checks the table set and tells L, the bits of a frame; also how the tones are loaded, and
-whether a clip that is the wrong way round would show. Refusals are 1 to 9.
+whether a clip that is the wrong way round would show. Refusals are 1 to 8.
 
 example
   clevisroot check examples/bench-a.txt
@@ -11,7 +11,7 @@ example
 pub const ORDER: &str = "\
 Writes the re-ordered tone table t' and the re-ordered bit table b', 16 numbers a line. Points
 are in the order of t'. In coded mode b' does not run beside t': its zeros come first, and two
-1-bit tones share an entry of 2. Refusals are 1 to 10.
+1-bit tones share an entry of 2. Refusals are 1 to 8 and 10.
 
 example
   clevisroot order examples/bench-a.txt --out order.txt
@@ -20,7 +20,7 @@ example
 pub const ENCODE: &str = "\
 Writes the points of a frame, x,y, a line a place in t' order, and tells the register for the
 next symbol. What it prints is a POINTS file. The frame has L bits: bit k is in byte k / 8, at
-weight 2 to the (k mod 8); unused high bits are 0. Refusals are 1 to 12.
+weight 2 to the (k mod 8); unused high bits are 0. Refusals are 1 to 8 and 10 to 12.
 
 The file may hold many frames, with an empty line between them. The register goes from one to
 the next; a refused frame hands it back as it was. Totals come last. The exit status is that of
@@ -35,8 +35,8 @@ pub const READ: &str = "\
 Reads exact points back to the frame, hex, 32 bytes a line. What it prints is a FRAME file. The
 register must be the one the points were written with; --register find works it out from the
 monitored tones, 12 of one symbol or 32 of several that follow each other, and where it cannot
-there is no frame and the status is 33. Refusals are 1 to 10 and 12 to 15; with 13, 14 and 15 the
-picture of --svg is drawn too and shows what was refused.
+there is no frame and the status is 33. Refusals are 1 to 8, 10 and 12 to 15; with 13, 14 and 15
+the picture of --svg is drawn too and shows what was refused.
 
 The file may hold many symbols, with an empty line or a header x,y between them. The register
 goes from one to the next; a refused symbol hands it back as it was, so that the symbols after it
@@ -60,7 +60,7 @@ code tells without any register.
 docs/FIND-THE-REGISTER.md has the reasons.
 
 Exit status: 0 straight, 32 turned, 36 perhaps (straight or turned), 33 cannot tell, 34 neither
-way is read; 1 to 10 and 12 if the tables, the count of points or the register are refused. A
+way is read; 1 to 8, 10 and 12 if the tables, the count of points or the register are refused. A
 file may hold many symbols, as for read; the status is then that of all of them together.
 
 examples

@@ -7,7 +7,7 @@ use crate::files::TableSet;
 use crate::index::{Place, Subcarrier};
 use crate::json::{Fields, Json};
 use clevisroot_sys::refusals::{
-    BITS, FRAME, GAIN, MONITOR, OFFGRID, PAIR, ROOM, SEED, STRAY, TONE, TRELLIS, TWICE,
+    BITS, FRAME, GAIN, MONITOR, OFFGRID, ROOM, SEED, STRAY, TONE, TRELLIS, TWICE,
 };
 use clevisroot_sys::Answer;
 
@@ -28,7 +28,7 @@ pub fn of(question: &Question, answer: &Answer) -> Found {
         TONE | TWICE => at_place_in_t(question.set, place),
         BITS | STRAY | GAIN => at_subcarrier(question.set, subcarrier_of(answer)),
         OFFGRID | MONITOR => at_point(question, place),
-        PAIR | TRELLIS => at_pair(question, answer),
+        TRELLIS => at_pair(question, answer),
         ROOM => whole("the list of points as a whole"),
         FRAME => whole("the frame as a whole"),
         SEED => whole("the register"),
@@ -45,7 +45,7 @@ pub fn is_of_points(number: u32) -> bool {
 pub fn refused_places(set: &TableSet, order: &Order, answer: &Answer) -> Vec<Place> {
     match answer.number {
         OFFGRID | MONITOR => vec![place_of(answer)],
-        PAIR | TRELLIS => places_of_pair(set, order, answer),
+        TRELLIS => places_of_pair(set, order, answer),
         _ => Vec::new(),
     }
 }

@@ -7,8 +7,7 @@ use crate::files::{Class, TableSet};
 use crate::index::Place;
 use crate::words::{count, shown, size_words};
 use clevisroot_sys::refusals::{
-    BITS, FEW, FRAME, GAIN, MONITOR, ODD, OFFGRID, PAIR, ROOM, SEED, SIZE, STRAY, TONE, TRELLIS,
-    TWICE,
+    BITS, FEW, FRAME, GAIN, MONITOR, ODD, OFFGRID, ROOM, SEED, SIZE, STRAY, TONE, TRELLIS, TWICE,
 };
 use clevisroot_sys::{self as library, Answer};
 
@@ -28,9 +27,6 @@ pub fn sentence(question: &Question, answer: &Answer) -> String {
         GAIN => gain(set, answer),
         ODD => odd(set),
         FEW => few(set),
-        PAIR => "A pair holds a 1, which re-ordering never leaves there: this is a fault of the \
-                 library."
-            .to_string(),
         ROOM => room(question),
         FRAME => frame(question),
         SEED => seed(question),

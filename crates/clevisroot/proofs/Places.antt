@@ -1,17 +1,17 @@
 -- Every place and every L fits the 32 bits of a C answer.
-use Prim.Native.Nat.{ℕ, zero, suc, _+_, _/_, _≤_}
+use Prim.Native.Nat.{ℕ, zero, suc, _≤_}
 use mathlib.Core.Bool.{Bool, true, false, cond}
 use mathlib.Core.List.{List, [], _∷_}
 use mathlib.Core.Path.{_≡_, refl}
 use native.Mathlib.Omega.{arith}
 use borrow.Author.Tests.{eqb-true, eqb-false}
-use lib.Dec.{eqb, leb}
+use lib.Dec.{ltb, eqb}
 use lib.IntN.{ℤ}
-use lib.ListN.{length, drop, length-append, length-map, length-replicate, replicate}
+use lib.ListN.{length, drop, length-map}
 use Rattle.g9932.specs.Bits.{orAt, first}
 use Rattle.g9932.specs.Sizes.{Tables, entry, mostTones, mostBits, Point, points}
 use Rattle.g9932.specs.Refusals.{Verdict, refuseIf, refuseAt, verdictBy, andThen, sizeTest, listVerdict, modeVerdict, tableVerdict}
-use Rattle.g9932.specs.Order.{Pair, filter, isOne, bitsOf, ones, entries, reorderedTones, codedPairs}
+use Rattle.g9932.specs.Order.{Pair, bitsOf, codedPairs}
 use Rattle.g9932.specs.Trellis.{Reading, frame, breaks, after, zeroState, readPairs, readingOf, obeysCode, lastTwo, decodedAt, nextOf, takenBits, width}
 use Rattle.g9932.specs.Symbol.{classesOf, pairsIn, sizeOf, gatherBits, readingIn}
 use Rattle.g9932.specs.Answers.{breakIn, orderVerdict, encodeInputs, encodeVerdict, placesVerdict, pointsVerdict, readInputs, readVerdict}
@@ -20,11 +20,8 @@ use Rattle.g9932.specs.declared.Found.the-variants.{At, Nothing}
 use Rattle.g9932.specs.declared.Mode.{Mode}
 use Rattle.g9932.specs.declared.Mode.the-variants.{Uncoded, Coded}
 use Rattle.g9932.specs.declared.TrellisState.{TrellisState}
-use Rattle.g9932.proofs.Verdicts.{test-none}
-use Rattle.g9932.proofs.Accepted.{accepted-tables, size-facts}
-use Rattle.g9932.proofs.Counts.{count-filter, count-most}
-use Rattle.g9932.proofs.Formed.{length-pairsOf}
-use Rattle.g9932.proofs.Reordering.{length-order}
+use Rattle.g9932.proofs.Accepted.{Accepted, accepted-tables, size-facts}
+use Rattle.g9932.proofs.Counts.{count-most}
 use Rattle.g9932.proofs.Sent.{length-classes}
 use Rattle.clevisroot.specs.CAnswers.{Small}
 
@@ -85,22 +82,6 @@ module _ (m : ℕ) where
 
 -- ---- the tables
 
-entries-most : (b t : List ℕ) → length (entries b t) ≤ length t + length t / 2
-entries-most b t =
-    let o = length-order b t Coded in
-    let s = length-map (reorderedTones Coded b t) (entry b) in
-    let f = count-filter (leb 2) (bitsOf b (reorderedTones Coded b t)) in
-    let k = count-most (leb 2) (bitsOf b (reorderedTones Coded b t)) in
-    let c = count-most isOne (bitsOf b t) in
-    let n = length-map t (entry b) in
-    let r = length-replicate {A = ℕ} (ones b t / 2) 2 in
-    rw (length-append (filter (leb 2) (bitsOf b (reorderedTones Coded b t))) (replicate (ones b t / 2) 2)) (omega arith)
-
-pairs-most : (m : Mode) (b t : List ℕ) → length t ≤ mostTones → length (codedPairs m b t) ≤ mostTones
-unfolding codedPairs
-pairs-most Uncoded b t h = omega arith
-pairs-most Coded b t h = let e = entries-most b t in rw (length-pairsOf (entries b t)) (omega arith)
-
 table-place : (T : Tables) → tableVerdict T .place ≤ mostTones
 unfolding tableVerdict listVerdict modeVerdict
 table-place T =
@@ -116,12 +97,7 @@ table-place T =
     (place-first mostTones 5 _ (length b) _ (s .most)
     (place-first mostTones 6 _ (length b) _ (s .most)
     (omega arith)))))))
-    (λ e.
-    let s = size-facts (length b) (length g) (length t) (test-none 0 (sizeTest (length b) (length g) (length t)) _ e .0) in
-    place-if mostTones 7 _ _
-    (place-if mostTones 8 _ _
-    (place-first mostTones 9 _ (length (codedPairs (T .mode) b t)) _ (pairs-most (T .mode) b t (omega (arith, s .most, s .tonesFit)))
-    (omega arith))))
+    (λ _. place-if mostTones 7 _ _ (place-if mostTones 8 _ _ (omega arith)))
 
 -- ---- every call
 
@@ -176,6 +152,14 @@ small-encode T f r a b =
     small-then T _ (λ _. place-if mostTones 10 _ _ (place-if mostTones 11 _ _ (place-if mostTones 12 _ _ (omega arith))))
     (size-if 9 _ _ (sizeOf T) (size-if 10 _ _ (sizeOf T) (size-if 11 _ _ (sizeOf T) (λ _. refl))))
 
+pairs-most : (T : Tables) → Accepted T → length (pairsIn T) ≤ length (T .tones)
+unfolding codedPairs
+pairs-most T k = go (T .mode) refl
+  where
+    go : (m : Mode) → T .mode ≡ m → length (pairsIn T) ≤ length (T .tones)
+    go Uncoded e = rw e (omega arith)
+    go Coded e = omega (arith, k .coded e .pairsLength, count-most (ltb 0) (bitsOf (T .bits) (T .tones)), length-map (T .tones) (entry (T .bits)))
+
 break-inside : (T : Tables) (q : List Point) → index (breakIn (readingIn T q)) ≤ length (pairsIn T)
 unfolding readingIn readingOf index
 break-inside T q = go (T .mode)
@@ -195,7 +179,7 @@ small-read T xs ys r a =
     let n : length (T .tones) ≤ mostTones = omega (arith, k .tonesMost, k .tableMost) in
     let l = length-classes T in
     let i = break-inside T q in
-    let c = pairs-most (T .mode) (T .bits) (T .tones) n in
+    let c = pairs-most T k in
     place-and mostTones inputs (pointsVerdict T q r)
     (place-if mostTones 10 _ _ (place-if mostTones 12 _ _ (omega arith)))
     (λ _. place-and mostTones (placesVerdict (classesOf T) q r) _

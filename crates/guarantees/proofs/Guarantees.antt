@@ -11,19 +11,18 @@ use lib.IntN.{ℤ}
 use lib.ListN.{length, take, drop, getD}
 use Rattle.g9932.specs.Bits.{_⊕_, bits, bit, num, odd}
 use Rattle.g9932.specs.Sizes.{Tables, entry, unpack, Point, origin}
-use Rattle.g9932.specs.Refusals.{accepted, refused, refuseIf, oddTest, fewTest, modeVerdict, tableVerdict}
-use Rattle.g9932.specs.Order.{sum, count, filter, oneBit, bitsOf, entryCount, entries, pairCount, frameSize}
+use Rattle.g9932.specs.Refusals.{numberOf, accepted, refused, tableVerdict}
+use Rattle.g9932.specs.Order.{sum, count, filter, oneBit, bitsOf, entryCount, entries, pairCount}
 use Rattle.g9932.specs.Trellis.{Word, zeroState, lowBits, lowBitsOf, sentBits}
 use Rattle.g9932.specs.Points.{pointOf, negated}
 use Rattle.g9932.specs.Filler.{nextRegister, drawn, registerAfter}
 use Rattle.g9932.specs.Symbol.{reorderedTonesOf, reorderedBitsOf, classesOf, pairsIn, sizeOf, sentIn, writtenPoints, firstMonitored}
-use Rattle.g9932.specs.Answers.{reorderOf, encodeOf, Read, readOf, toneDone, mapLabel, readPoint}
+use Rattle.g9932.specs.Answers.{reorderOf, encodeOf, Read, readOf, toneDone, mapLabel, readPoint, drawAnswer}
 use Rattle.g9932.specs.Figures.{MarkedFigures}
 use Rattle.g9932.specs.declared.Found.the-variants.{At, Nothing}
-use Rattle.g9932.specs.declared.Mode.{Mode}
 use Rattle.g9932.specs.declared.Mode.the-variants.{Uncoded, Coded}
+use Rattle.g9932.specs.declared.Refusal.{Refusal}
 use Rattle.g9932.proofs.Figures as Figures
-use Rattle.g9932.proofs.Nine as Nine
 use Rattle.g9932.proofs.Packed as Packed
 use Rattle.g9932.proofs.Reordering as Reordering
 use Rattle.g9932.proofs.Verdicts as Verdicts
@@ -111,14 +110,21 @@ refused-ordering = Operations.refused-ordering
 
 -- and checking.
 pub refused-checking : (T : Tables) → tableVerdict T .number ≢ 0 → tableVerdict T .size ≡ 0
-refused-checking T = Verdicts.table-size T .none
+refused-checking T = Verdicts.table-told T .noSize
 
--- No tables that pass 1 to 8 lead to 9, in either mode: without its test, the verdict is the same.
-pub never-nine : (T : Tables) → tableVerdict T .number ≢ 9
-never-nine = Nine.never-nine
+-- Number 9 is unused: no refusal has it,
+pub nine-unused : (x : Refusal) → numberOf x ≢ 9
+nine-unused = Verdicts.nine-unused
 
-pub without-nine : (m : Mode) (b t : List ℕ) → modeVerdict m b t ≡ refuseIf 7 (oddTest m b t) (refuseIf 8 (fewTest m b t) (accepted (frameSize m b t)))
-without-nine = Nine.without-nine
+-- and no call answers it, whatever the inputs: with tables,
+pub nine-with-tables : (T : Tables) (tones bits f f₀ : List ℕ) (xs ys : List ℤ) (r : ℕ)
+    → (tableVerdict T .number ≢ 9) × (reorderOf T tones bits .verdict .number ≢ 9)
+    × (encodeOf T f r xs ys .report .verdict .number ≢ 9) × (readOf T xs ys r f₀ .report .verdict .number ≢ 9)
+nine-with-tables = Operations.nine-with-tables
+
+-- and without.
+pub nine-without-tables : (b l r : ℕ) (p : Point) → (mapLabel b l .number ≢ 9) × (readPoint b p .number ≢ 9) × (drawAnswer r .number ≢ 9)
+nine-without-tables = Operations.nine-without-tables
 
 -- ---- how many bits
 
@@ -165,7 +171,8 @@ module _ (T : Tables) (ok : AcceptedTables T) where
       → (nonZero T ≡ entryCount (T .bits) (T .tones)) × (length (pairsIn T) ≡ pairCount (T .bits) (T .tones))
   counts = Totals.counts T ok
 
-  -- Coded, an entry of b' is 0 or at least 2. So no pair holds an entry of 1, and only the first may hold a 0, in front.
+  -- Coded, an entry of b' is 0 or at least 2. So no pair holds an entry of 1, and only the first may hold a 0, as its x. (Uncoded there
+  -- are no pairs.)
   pub no-one : T .mode ≡ Coded → (k : ℕ) → k < length (reorderedBitsOf T) → entry (reorderedBitsOf T) k ≢ 1
   no-one = Totals.no-one T ok
 

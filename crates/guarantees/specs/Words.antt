@@ -15,7 +15,7 @@ use Rattle.g9932.specs.Filler.{resetRegister, drawn}
 use Rattle.g9932.specs.Symbol.{reorderedBitsOf, pairsIn, sizeOf}
 use Rattle.g9932.specs.declared.TrellisState.{TrellisState}
 
--- Tables are accepted in a mode when none of 1 to 9 applies, a frame of bytes when 11 doesn't. A register is valid when 12 doesn't
+-- Tables are accepted in a mode when none of 1 to 8 applies, a frame of bytes when 11 doesn't. A register is valid when 12 doesn't
 -- apply.
 abbrev pub AcceptedTables : Tables → Type 0
 AcceptedTables T = tableVerdict T .number ≡ 0
@@ -43,15 +43,15 @@ pub record Ready (T : Tables) (r : ℕ) (xs ys : List ℤ) (f : List ℕ) : Type
 abbrev pub nonZero : Tables → ℕ
 nonZero T = count (ltb 0) (reorderedBitsOf T)
 
--- pair k of the coded pairs
-abbrev pub pairAt : Tables → ℕ → Pair
-pairAt T k = getD (pairsIn T) k (pair 0 0)
-
 -- Half a turn puts (−X, −Y) for (X, Y) at every place in t', whatever the tone's class: on each of the two lists.
 abbrev pub turned : List ℤ → List ℤ
 turned xs = map negℤ xs
 
--- ---- coded: the words u of the pairs, and where their bits go
+-- ---- coded: the pairs, their words u, and where their bits go
+
+-- pair k, from 0; (0, 0) past the last
+abbrev pub pairAt : Tables → ℕ → Pair
+pairAt T k = getD (pairsIn T) k (pair 0 0)
 
 -- the words of pairs, in order, and the state after them
 abbrev pub wordsOf : TrellisState → List Pair → List Bool → List Word

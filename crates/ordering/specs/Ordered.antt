@@ -38,7 +38,7 @@ pub record Placing (b t : List ℕ) (from : ℕ) (ts bs tsAfter bsAfter : List �
   pub tones : tsAfter ≡ sets ts 0 (others b t)
   pub bits : bsAfter ≡ sets bs from (filter (leb 2) (bitsOf b t))
 
--- what writing t' and b' asks in either mode: what refusals 1 to 9 leave of the tables, and that t' and b' fit
+-- what writing t' and b' asks in either mode: what refusals 1 to 8 leave of the tables, and that t' and b' fit
 pub record WriteNeeds (m : Mode) (entries sharers : ℕ) (b t ts bs : List ℕ) : Type 0 where
   pub fits : OrderNeeds t ts bs
   pub below : Below (length b) t

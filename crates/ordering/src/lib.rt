@@ -12,7 +12,7 @@ ghost use Rattle.g9932.specs.Answers.{verdictOf, Reorders};
 
 mod order; // t' and b'
 
-// Checks the tables and tells L: refusals 1 to 9.
+// Checks the tables and tells L: refusals 1 to 8.
 pub fn check_tables(mode: Mode, bits: &[u8], gains: &[u16], tones: &[u16]) -> Checked
     ensures { λ r. ⌜ verdictOf r ≡ tableVerdict (tables mode (now (bits .entry)) (now (gains .entry)) (now (tones .entry))) ⌝ }
 {
@@ -23,7 +23,7 @@ pub fn check_tables(mode: Mode, bits: &[u8], gains: &[u16], tones: &[u16]) -> Ch
     }
 }
 
-// Re-orders: refusals 1 to 10. Where nothing is refused, writes t' and b'; else writes nothing.
+// Re-orders: refusals 1 to 8 and 10. Where nothing is refused, writes t' and b'; else writes nothing.
 pub fn reorder(
     mode: Mode,
     bits: &[u8],

@@ -82,7 +82,7 @@ fn file_plan(
     }
 }
 
-// Refusals 1 to 9. Where nothing is refused, the plan stands in four lent arrays of 4,096, as far as the answer says. Only proved code
+// Refusals 1 to 8. Where nothing is refused, the plan stands in four lent arrays of 4,096, as far as the answer says. Only proved code
 // calls it, and shows their lengths.
 pub fn plan_tables(
     mode: Mode,

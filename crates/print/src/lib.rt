@@ -12,7 +12,7 @@ ghost use mathlib.Core.Path.{_≡_};
 ghost use lib.IntN.{pos, _+ℤ_};
 use libc::STDOUT_FILENO;
 
-// The refusal that tells a pair: TRELLIS. (PAIR has one too, and is never given.)
+// The refusal that tells a pair: TRELLIS.
 const AT_PAIR: u32 = 15;
 
 pub fn text(bytes: &[u8]) {
@@ -97,12 +97,12 @@ fn word(n: usize, words: &[u8]) {
     }
 }
 
-// The number and the name of a refusal.
+// The number and the name of a refusal; 9 is unused.
 pub fn refused(n: u32) {
     entry(n as u64);
     word(
         n as usize,
-        b" SIZE TONE TWICE BITS STRAY GAIN ODD FEW PAIR ROOM FRAME SEED OFFGRID MONITOR TRELLIS LABEL",
+        b" SIZE TONE TWICE BITS STRAY GAIN ODD FEW UNKNOWN ROOM FRAME SEED OFFGRID MONITOR TRELLIS LABEL",
     );
 }
 

@@ -10,7 +10,7 @@ use g9932::MOST_TONES;
 use g9932::Mode;
 use plan::Planned;
 
-// Encodes a frame: refusals 1 to 12. Where nothing is refused, writes all of X and Y, and answers L and the register after
+// Encodes a frame: refusals 1 to 8 and 10 to 12. Where nothing is refused, writes all of X and Y, and answers L and the register after
 // the draws; else writes nothing. A call takes some 44 KiB of stack, no heap and no global.
 pub fn encode(
     mode: Mode,
@@ -66,7 +66,7 @@ pub fn encode(
     }
 }
 
-// Reads a symbol: refusals 1 to 10 and 12, then 13 at every place, 14 at every place, and 15. Where nothing is refused, writes
+// Reads a symbol: refusals 1 to 8, 10 and 12, then 13 at every place, 14 at every place, and 15. Where nothing is refused, writes
 // all of the frame, and answers L and the register after the draws; else writes nothing. A call takes some 52 KiB of stack, no
 // heap and no global.
 pub fn read(

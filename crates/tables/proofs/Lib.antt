@@ -3,5 +3,4 @@ pub mod Faults
 pub mod Marks
 pub mod Counting
 pub mod Modes
-pub mod Pairs
 pub mod Answers

@@ -1,4 +1,4 @@
--- Laws of refusals 7 to 9: none applies uncoded; coded, the counts decide 7, 8 and L.
+-- Laws of refusals 7 and 8: neither applies uncoded; coded, the counts decide both, and L.
 use mathlib.Core.Bool.{false}
 use mathlib.Core.List.{List}
 use mathlib.Core.Path.{_≡_, refl, sym, ap, _∙_}
@@ -9,24 +9,16 @@ use borrow.Author.Tests.{eq-eqb, ne-eqb, lt-ltb, le-ltb}
 use native.Mathlib.Omega.{arith}
 use Rattle.g9932.proofs.Formed.{isOne-even, formed-size, formed-pairsOf, length-pairsOf, total-pairsOf}
 use Rattle.g9932.proofs.Reordering.{entries-fit, sum-entries, length-entries, allTwo-entries, nonzero-entries}
-use Rattle.g9932.proofs.Search.{first-none}
-use Rattle.g9932.proofs.Verdicts.{test-here, test-past, found-past}
-use Rattle.g9932.specs.Bits.{first}
-use Rattle.g9932.specs.Order.{sum, count, isOne, bitsOf, ones, entryCount, entries, pairsOf, reorderedBits, codedPairs, frameSize}
-use Rattle.g9932.specs.Refusals.{Verdict, refused, accepted, refuseAt, pairTest, modeVerdict}
-use Rattle.g9932.specs.declared.Found.the-variants.{Nothing}
-use Rattle.g9932.specs.declared.Found.{Found}
+use Rattle.g9932.proofs.Verdicts.{test-here, test-past}
+use Rattle.g9932.specs.Order.{sum, count, isOne, bitsOf, ones, entryCount, entries, pairsOf, reorderedBits, frameSize}
+use Rattle.g9932.specs.Refusals.{refused, accepted, modeVerdict}
 use Rattle.g9932.specs.declared.Mode.the-variants.{Uncoded, Coded}
 use Rattle.tables.specs.Counted.{CountsAre}
 use Rattle.tables.specs.declared.Counts.{Counts}
 
 pub uncoded-verdict : (b t : List ℕ) {l : ℕ} → l ≡ sum (bitsOf b t) → accepted l ≡ modeVerdict Uncoded b t
-unfolding modeVerdict codedPairs frameSize
-uncoded-verdict b t e = test-past 7 refl (test-past 8 refl (found-past 9 (first-none _) (ap accepted e)))
-
--- the first pair with an entry of 1
-abbrev pub pairIn : List ℕ → Found
-pairIn es = first (pairTest (pairsOf es)) (length (pairsOf es))
+unfolding modeVerdict frameSize
+uncoded-verdict b t e = test-past 7 refl (test-past 8 refl (ap accepted e))
 
 -- coded, from the counts of the tones
 module _ {b t : List ℕ} {c : Counts} (k : CountsAre c b t) where
@@ -59,15 +51,11 @@ module _ {b t : List ℕ} {c : Counts} (k : CountsAre c b t) where
     coded-few h = test-past 7 not-odd (test-here 8 _ (ap (λ (n : ℕ). ltb n 4) counted ∙ lt-ltb _ _ h))
 
     module _ (some : 4 ≤ c .loaded - c .ones / 2) where
-      past-few : {x : Verdict} → x ≡ refuseAt 9 (pairIn (entries b t)) (accepted (frameSize Coded b t)) → x ≡ modeVerdict Coded b t
-      unfolding modeVerdict codedPairs
-      past-few q = test-past 7 not-odd (test-past 8 (ap (λ (n : ℕ). ltb n 4) counted ∙ le-ltb _ _ some) q)
-
-      pub coded-done : pairIn (entries b t) ≡ Nothing → accepted (c .sum - (c .loaded - c .ones / 2 + 1) / 2 - 4) ≡ modeVerdict Coded b t
-      unfolding frameSize
-      coded-done e =
-          past-few
-          (found-past 9 e
+      pub coded-done : accepted (c .sum - (c .loaded - c .ones / 2 + 1) / 2 - 4) ≡ modeVerdict Coded b t
+      unfolding modeVerdict frameSize
+      coded-done =
+          test-past 7 not-odd
+          (test-past 8 (ap (λ (n : ℕ). ltb n 4) counted ∙ le-ltb _ _ some)
           (ap (λ (s : ℕ). accepted (s - (c .loaded - c .ones / 2 + 1) / 2 - 4)) (k .sumIs)
           ∙ ap (λ (n : ℕ). accepted (sum (bitsOf b t) - (n + 1) / 2 - 4)) coded-count))
 

@@ -1,4 +1,4 @@
--- Refusals 7 to 9 and L, and what the mode makes of the tones.
+-- Refusals 7 and 8 and L, and what the mode makes of the tones.
 use Prim.Native.Nat.{ℕ, _-_, _/_, _%_}
 use mathlib.Core.List.{List}
 use mathlib.Core.Path.{_≡_}
@@ -23,7 +23,7 @@ abbrev pub SharersAre : Mode → List ℕ → List ℕ → Sized → Type 0
 SharersAre m b t (Frame size entries sharers) = (entries ≡ loaded b t - sharing m b t / 2) × (sharers ≡ sharing m b t) × (sharers % 2 ≡ 0)
 SharersAre m b t (Refused x) = Unit {0}
 
--- by the verdict of refusals 7 to 9 alone, or of 1 to 9
+-- by the verdict of refusals 7 and 8 alone, or of 1 to 8
 pub record SizedBy (v : Verdict) (m : Mode) (b t : List ℕ) (r : Sized) : Type 0 where
   pub answer : sizedVerdict r ≡ v
   pub shares : SharersAre m b t r

@@ -1,4 +1,4 @@
-// The bit, gain and tone tables: what stands at a place and at a sub-carrier, counts over the tones, and refusals 1 to 9.
+// The bit, gain and tone tables: what stands at a place and at a sub-carrier, counts over the tones, and refusals 1 to 8.
 use g9932::Class;
 use g9932::Place;
 use g9932::Subcarrier;
@@ -11,7 +11,7 @@ ghost use Rattle.g9932.specs.Sizes.{entry, toneOf};
 ghost use Rattle.tables.specs.Counted.{CountsAre, ListsPass};
 
 mod lists; // refusals 1 to 6
-pub mod sizes; // refusals 1 to 9 and L
+pub mod sizes; // refusals 1 to 8 and L
 
 // The sub-carrier at a place of a tone table; 0 past its end.
 pub fn tone_at(tones: &[u16], p: Place) -> Subcarrier

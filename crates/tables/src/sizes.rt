@@ -1,4 +1,4 @@
-// Refusals 1 to 9 and the frame size L: after those of the lists, the ones that depend on the mode.
+// Refusals 1 to 8 and the frame size L: after those of the lists, the ones that depend on the mode.
 use super::count_tones;
 use super::lists::check_lists;
 use g9932::Checked;
@@ -19,8 +19,7 @@ pub enum Sized {
     Refused(Refusal),
 }
 
-// Refusals 7 and 8, and L. Re-ordering leaves no entry of 1, so that 9 never applies (this crate's proofs/Pairs). Its caller shows that
-// refusals 1 to 6 do not apply.
+// Refusals 7 and 8, and L. Its caller shows that refusals 1 to 6 do not apply.
 fn size_frame(mode: Mode, bits: &[u8], tones: &[u16]) -> Sized
     requires { ⌜ ListsPass (now bits) (now tones) ⌝ }
     ensures { λ r. ⌜ SizedBy (modeVerdict mode (now (bits .entry)) (now (tones .entry))) mode (now (bits .entry)) (now (tones .entry)) r ⌝ }
@@ -49,7 +48,7 @@ fn size_frame(mode: Mode, bits: &[u8], tones: &[u16]) -> Sized
     }
 }
 
-// Refusals 1 to 9, and L.
+// Refusals 1 to 8, and L.
 pub fn size_tables(mode: Mode, bits: &[u8], gains: &[u16], tones: &[u16]) -> Sized
     ensures { λ r. ⌜ SizedBy (tableVerdict (tables mode (now (bits .entry)) (now (gains .entry)) (now (tones .entry)))) mode (now (bits .entry)) (now (tones .entry)) r ⌝ }
 {

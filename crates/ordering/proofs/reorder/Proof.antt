@@ -1,4 +1,4 @@
--- `ordering::reorder` meets its contract: a lent buffer is written only where none of 1 to 10 refuses.
+-- `ordering::reorder` meets its contract: a lent buffer is written only where neither 1 to 8 nor 10 refuses.
 use mathlib.Core.Path.{sym, ap, _∙_}
 use denote.Ref.{now}
 use borrow.Author.Tests.{eq-eqb, ne-eqb}

@@ -1,4 +1,4 @@
--- `plan::plan_tables` meets its contract: refusals 1 to 9, or the plan.
+-- `plan::plan_tables` meets its contract: refusals 1 to 8, or the plan.
 use mathlib.Core.Path.{sym, ap, _∙_}
 use native.Mathlib.Omega.{arith}
 use Rattle.g9932.proofs.Accepted.{accepted-tables}

@@ -1,8 +1,7 @@
--- `tables::sizes::size_frame` meets its contract: the counts of the tones decide 7, 8 and L, and 9 never applies.
+-- `tables::sizes::size_frame` meets its contract: the counts of the tones decide 7, 8 and L.
 use mathlib.Core.Path.{refl}
 use native.Mathlib.Omega.{arith}
 use Rattle.tables.proofs.Modes.{uncoded-verdict, coded-odd, coded-few, coded-done, half-loaded, coded-within, coded-fits}
-use Rattle.tables.proofs.Pairs.{no-pair}
 use borrow.Author.Needs.{needs}
 use Rattle.tables.proofs.sizes.size_frame.Statement.{statement}
 use Rattle.tables.proofs.sizes.size_frame.Tie as tie
@@ -45,7 +44,7 @@ returns-4 c =
     let enum-told2 = c .before .before .before .before .before .before .enum-told2 in
     let if1 = c .before .before .before .before .if1 in
     let k = c .before .before .before .before .before .before .before .before .count-tones in
-    rw (enum-told2 .given .1) (record { answer = coded-done (k .ensures) (if1 .left) (c .before .if2 .left) (no-pair _ _); shares = (omega (arith, k .ensures .loadedIs, k .ensures .onesIs), k .ensures .onesIs, omega (arith, if1 .left)) })
+    rw (enum-told2 .given .1) (record { answer = coded-done (k .ensures) (if1 .left) (c .before .if2 .left); shares = (omega (arith, k .ensures .loadedIs, k .ensures .onesIs), k .ensures .onesIs, omega (arith, if1 .left)) })
 
 pub size-frame-spec : {M : Type 1} → statement M
 size-frame-spec =
