@@ -10,6 +10,7 @@ use lib.Bits.{bitAnd, bitOr, and-step, or-step, and-zero-r, or-zero-r}
 use lib.ListN.{length, take, drop, replicate}
 use lib.Pow.{shl-exact}
 use Rattle.g9932.specs.Bits.{weight, num, odd, bits}
+use Rattle.g9932.proofs.Lists.{map-take}
 use Rattle.g9932.proofs.Words.{half-weight, weight-le, num-bits, num-append, num-take, num-drop}
 
 pub data Slot : Type 0 where
@@ -96,11 +97,6 @@ map-drop zero l = refl
 map-drop (suc k) [] = refl
 map-drop (suc k) (s ∷ l) = map-drop k l
 
-map-take : (k : ℕ) (l : List Slot) → map value (take k l) ≡ take k (map value l)
-map-take zero l = refl
-map-take (suc k) [] = refl
-map-take (suc k) (s ∷ l) = ap (λ (z : List Bool). value s ∷ z) (map-take k l)
-
 shr-worth : (k : ℕ) (l : List Slot) → worth l / 2 ^ k ≡ worth (drop k l)
 shr-worth k l = sym (ap num (map-drop k l) ∙ num-drop k (map value l))
 
@@ -118,7 +114,7 @@ gaps-worth zero = refl
 gaps-worth (suc k) = omega (arith, gaps-worth k)
 
 shl-worth : (k : ℕ) (l : List Slot) → worth l * 2 ^ k % 2 ^ 32 ≡ worth (take 32 (gaps k ++ l))
-shl-worth k l = sym (ap num (map-take 32 (gaps k ++ l)) ∙ num-take 32 (map value (gaps k ++ l)) ∙ ap (λ (n : ℕ). n % 2 ^ 32) (up-worth k l))
+shl-worth k l = sym (ap num (map-take value 32 (gaps k ++ l)) ∙ num-take 32 (map value (gaps k ++ l)) ∙ ap (λ (n : ℕ). n % 2 ^ 32) (up-worth k l))
 
 pub shl-one : (k : ℕ) → k < 32 → 1 * 2 ^ k % 2 ^ 32 ≡ 2 ^ k
 shl-one k h = shl-exact {a = 1} 1 k 32 (omega arith) (omega arith) ∙ one-mul (2 ^ k)

@@ -1,10 +1,10 @@
--- Laws of lists of numbers: what stands in a list by rule, and the two entries in front of what is left.
+-- Laws of lists: what stands in a list by rule, the two entries in front of what is left, and the first ones of a mapped list.
 use Prim.Native.Nat.{ℕ, zero, suc, _+_, _<_}
-use mathlib.Core.List.{List, _∷_}
-use mathlib.Core.Path.{_≡_, ap, _∙_}
+use mathlib.Core.List.{List, [], _∷_, map}
+use mathlib.Core.Path.{_≡_, refl, ap, _∙_}
 use native.Mathlib.Numerals.{add-one, add-two}
 use native.Mathlib.Omega.{arith}
-use lib.ListN.{length, drop, getD}
+use lib.ListN.{length, take, drop, getD}
 use lib.Seq.{drop-cons}
 use Rattle.g9932.specs.Bits.{valuesFrom}
 
@@ -21,3 +21,8 @@ drop-two l i h =
     let a : drop i l ≡ getD l i 0 ∷ drop (suc i) l = drop-cons l i 0 (omega arith) in
     let b : drop (suc i) l ≡ getD l (suc i) 0 ∷ drop (suc (suc i)) l = drop-cons l (suc i) 0 (omega arith) in
     rw (add-one, add-two, a, b)
+
+pub map-take : {A B : Type 0} (f : A → B) (k : ℕ) (l : List A) → map f (take k l) ≡ take k (map f l)
+map-take f zero l = refl
+map-take f (suc k) [] = refl
+map-take {B = B} f (suc k) (a ∷ l) = ap (λ (z : List B). f a ∷ z) (map-take f k l)

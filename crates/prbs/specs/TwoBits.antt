@@ -1,4 +1,4 @@
--- The label of a monitored tone: two filler bits.
+-- The two bits of a 0-bit tone as a label, and the register after them.
 use Prim.Native.Nat.{ℕ}
 use mathlib.Core.Path.{_≡_}
 use Rattle.g9932.specs.Bits.{num}

@@ -1,4 +1,4 @@
-// The filler bit generator: the pseudo-random sequence that monitored tones carry.
+// The filler bit generator: the pseudo-random sequence that 0-bit tones draw, and monitored ones carry.
 ghost use mathlib.Core.Path.{_≡_};
 ghost use Rattle.g9932.specs.Filler.{drawOf};
 ghost use Rattle.g9932.specs.Answers.{drawAnswer, drawnOf};
@@ -19,21 +19,20 @@ fn next_bit(register: u32) -> FillerBit
     }
 }
 
-// The label of a monitored tone, and the register after its two bits.
+// The two bits of a 0-bit tone as a label, v0 the lower, and the register after them.
 pub struct FillerLabel {
     pub label: u32,
     pub register: u32,
 }
 
-// Draws v0, then v1: the two lowest bits of the register.
+// Draws v0, then v1, at once: they are the two lowest bits of the register, and each bit fed back is the one that its own draw feeds.
 pub fn filler_label(register: u32) -> FillerLabel
     ensures { λ r. ⌜ TwoDrawn register r ⌝ }
 {
-    let v0 = next_bit(register);
-    let v1 = next_bit(v0.register);
+    let feed = (register ^ (register / 32)) % 4;
     FillerLabel {
         label: register % 4,
-        register: v1.register,
+        register: register / 4 + 2097152 * feed,
     }
 }
 
