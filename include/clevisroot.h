@@ -43,8 +43,9 @@
  * THE REGISTER
  *
  * The filler bits come from a register, 1 to 8388607, CLEVISROOT_RESET at the start. Encoding and
- * reading are given the register and hand it back after the draws: two bits for each monitored
- * tone. Give it to the next symbol. A reader must be given what the writer was given.
+ * reading are given the register and hand it back after the draws: two bits for each tone with 0
+ * bits, in the order of t'; those of a silent tone are thrown away. Give it to the next symbol. A
+ * reader must be given what the writer was given.
  *
  * ANSWERS AND REFUSALS
  *

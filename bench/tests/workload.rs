@@ -1,6 +1,7 @@
-//! The load of many table sets: no two are alike, and library and peer agree on each.
+//! The load of many table sets: no two are alike, and library and peer agree on each. They agree too
+//! where one tone in two is silent.
 
-use bench::workload::{Workload, ROTATING};
+use bench::workload::{Workload, HALF_SILENT, ROTATING};
 use std::collections::BTreeSet;
 
 #[test]
@@ -8,5 +9,11 @@ fn every_symbol_of_the_rotating_load_has_another_table_set() {
     let mut workload = Workload::new(ROTATING, 256);
     let tables: BTreeSet<&[u16]> = workload.tone_tables().collect();
     assert_eq!((tables.len(), workload.cycle()), (64, 64));
+    assert!(workload.agrees(clevisroot_sys::encode, clevisroot_sys::read));
+}
+
+#[test]
+fn library_and_peer_agree_among_silent_tones() {
+    let mut workload = Workload::new(HALF_SILENT, 1024);
     assert!(workload.agrees(clevisroot_sys::encode, clevisroot_sys::read));
 }

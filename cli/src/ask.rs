@@ -70,11 +70,14 @@ impl Order {
         self.bits.iter().filter(|&&bits| bits > 0).count()
     }
 
-    /// The places of the monitored tones, in the order of their draws.
-    pub fn monitored<'a>(&'a self, set: &'a TableSet) -> impl Iterator<Item = Place> + 'a {
-        let monitored = move |tone| set.class_of(tone) == Class::Monitored;
-        let places = self.places().filter(move |&(_, tone)| monitored(tone));
-        places.map(|(place, _)| place)
+    /// The tones without bits, monitored or silent, in the order of their draws.
+    pub fn without_bits<'a>(
+        &'a self,
+        set: &'a TableSet,
+    ) -> impl Iterator<Item = (Place, Class)> + 'a {
+        let places = self.places();
+        let classes = places.map(|(place, tone)| (place, set.class_of(tone)));
+        classes.filter(|(_, class)| !matches!(class, Class::Data(_)))
     }
 
     /// The places of each coded pair. Two 1-bit tones share an entry; the first entry of an odd

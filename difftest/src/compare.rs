@@ -2,10 +2,13 @@
 
 use crate::coverage::{Coverage, Operation};
 use crate::lent::Lent;
+use crate::points::classes;
 use crate::random::Random;
 use crate::tables::GivenTables;
 use crate::under_test::Core;
+use clevisroot_sys::refusals::{DONE, MONITOR};
 use clevisroot_sys::{Answer, Drawn, Label, Point};
+use reference::forms::Class;
 use std::fmt::Debug;
 
 /// The operation, both answers and the inputs, for a person to read.
@@ -68,6 +71,7 @@ impl Comparison<'_> {
         let expected = (answer(&told), x_after, y_after);
         let actual = (actual, x.whole().to_vec(), y.whole().to_vec());
         let inputs = (given, frame, register, rooms);
+        self.record_filler(Operation::Encode, &answer(&told), given);
         self.hold(Operation::Encode, told.number, &expected, &actual, inputs)
     }
 
@@ -85,6 +89,7 @@ impl Comparison<'_> {
         let actual = self.core.read(given.lent(), x, y, register, frame.buffer());
         let actual = (actual, frame.whole().to_vec());
         let inputs = (given, x, y, register, room);
+        self.record_filler(Operation::Read, &answer(&told), given);
         self.hold(Operation::Read, told.number, &expected, &actual, inputs)
     }
 
@@ -126,6 +131,23 @@ impl Comparison<'_> {
         let expected = Drawn { number, bit, reg };
         let actual = self.core.draw(register);
         self.hold(Operation::Draw, number, &expected, &actual, register)
+    }
+
+    /// Counts the symbols with a monitored tone behind a silent one, which has drawn before it; where
+    /// 14 refuses, the refused tone must be such.
+    fn record_filler(&mut self, operation: Operation, told: &Answer, given: &GivenTables) {
+        if ![DONE, MONITOR].contains(&told.number) {
+            return;
+        }
+        let classes = classes(&given.tables);
+        let silent = classes.iter().position(|&class| class == Class::Silent);
+        let monitored = match told.number {
+            MONITOR => Some(told.place as usize),
+            _ => classes.iter().rposition(|&class| class == Class::Monitored),
+        };
+        if silent.is_some() && silent < monitored {
+            self.coverage.record_behind_silent(operation, told.number);
+        }
     }
 
     fn hold<A: PartialEq + Debug>(

@@ -51,19 +51,36 @@ impl Operation {
 
 #[derive(Default)]
 pub struct Coverage {
-    counts: [[u64; NUMBERS]; OPERATIONS.len()],
+    counts: Counts,
+    /// Of symbols with a monitored tone behind a silent one.
+    behind_silent: Counts,
 }
+
+type Counts = [[u64; NUMBERS]; OPERATIONS.len()];
+
+/// What must turn up where a monitored tone stands behind a silent one, which has drawn before it.
+const BEHIND_SILENT: [(Operation, u32); 3] = [(Encode, DONE), (Read, DONE), (Read, MONITOR)];
 
 impl Coverage {
     pub fn record(&mut self, operation: Operation, number: u32) {
         self.counts[operation as usize][number as usize] += 1;
     }
 
+    pub fn record_behind_silent(&mut self, operation: Operation, number: u32) {
+        self.behind_silent[operation as usize][number as usize] += 1;
+    }
+
+    fn behind_silent(&self) -> [u64; 3] {
+        BEHIND_SILENT
+            .map(|(operation, number)| self.behind_silent[operation as usize][number as usize])
+    }
+
     pub fn total(&self) -> u64 {
         self.counts.iter().flatten().sum()
     }
 
-    /// Every number an operation can give turned up, and no other.
+    /// Every number an operation can give turned up, and no other, and so did every outcome for a
+    /// monitored tone behind a silent one.
     pub fn verdict(&self) -> Result<(), String> {
         for operation in OPERATIONS {
             for (number, &count) in (DONE..).zip(&self.counts[operation as usize]) {
@@ -76,6 +93,14 @@ impl Coverage {
                 if can && !came {
                     return Err(format!("never {told}"));
                 }
+            }
+        }
+        for ((operation, number), count) in BEHIND_SILENT.into_iter().zip(self.behind_silent()) {
+            if count == 0 {
+                let told = format!("{number} {} came from {}", name(number), operation.name());
+                return Err(format!(
+                    "never {told} for a monitored tone behind a silent one"
+                ));
             }
         }
         Ok(())
@@ -99,6 +124,10 @@ impl fmt::Display for Coverage {
                 }
             }
         }
-        Ok(())
+        let [encoded, read, monitor] = self.behind_silent();
+        write!(
+            f,
+            "\na monitored tone behind a silent one: encoded {encoded}, read {read}, 14 MONITOR {monitor}"
+        )
     }
 }

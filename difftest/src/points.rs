@@ -99,7 +99,8 @@ fn small_point(random: &mut Random) -> Point {
     (coordinate(), coordinate())
 }
 
-fn classes(tables: &Tables) -> Vec<Class> {
+/// The classes of the tones in t' order.
+pub fn classes(tables: &Tables) -> Vec<Class> {
     let tones = reordered_tones(tables);
     tones.iter().map(|&tone| tables.class_of(tone)).collect()
 }

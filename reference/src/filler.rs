@@ -33,7 +33,7 @@ impl Filler {
         self.to_come.remove(0)
     }
 
-    /// The label of a monitored tone: v0 is drawn, then v1.
+    /// The two bits of a 0-bit tone, v0 and then v1: a monitored one's label.
     pub fn draw_label(&mut self) -> [bool; 2] {
         let v0 = self.draw();
         let v1 = self.draw();

@@ -1,5 +1,5 @@
-//! A second implementation of document 01, written from its text alone: lists of bits and plain
-//! loops, with one module for each section and the section's letters.
+//! A second implementation of document 01, as amended, written from its text alone: lists of bits
+//! and plain loops, with one module for each section and the section's letters.
 //!
 //! The seven calls are in [`operations`]. Each answers for all inputs.
 

@@ -15,7 +15,8 @@ fn classes(tables: &Tables) -> Vec<Class> {
         .collect()
 }
 
-/// The points of a frame's L bits, and the register after the draws.
+/// The points of a frame's L bits, and the register after the draws. Every 0-bit tone draws two
+/// bits; a silent one's are thrown away.
 pub fn write_points(tables: &Tables, frame: &[bool], register: u32) -> (Vec<Point>, u32) {
     let sent = match tables.mode {
         Mode::Uncoded => frame.to_vec(),
@@ -31,7 +32,10 @@ pub fn write_points(tables: &Tables, frame: &[bool], register: u32) -> (Vec<Poin
                 point_of(&sent[taken - b..taken])
             }
             Class::Monitored => point_of(&filler.draw_label()),
-            Class::Silent => (0, 0),
+            Class::Silent => {
+                filler.draw_label();
+                (0, 0)
+            }
         });
     }
     (points, filler.register())
@@ -74,14 +78,16 @@ fn read_labels(classes: &[Class], points: &[Point]) -> Result<Vec<bool>, Refusal
     Ok(sent)
 }
 
-/// The register after the draws, or MONITOR.
+/// The register after the draws, or MONITOR. A silent tone's bits are thrown away.
 fn test_monitored(classes: &[Class], points: &[Point], register: u32) -> Result<u32, Refusal> {
     let mut filler = Filler::from_register(register);
     for (p, (&class, &point)) in classes.iter().zip(points).enumerate() {
-        if class == Class::Monitored {
-            let given = point_of(&filler.draw_label());
-            refuse_if(point != given, Refusal::Monitor(Place(p)))?;
+        if matches!(class, Class::Data(_)) {
+            continue;
         }
+        let given = point_of(&filler.draw_label());
+        let wrong = class == Class::Monitored && point != given;
+        refuse_if(wrong, Refusal::Monitor(Place(p)))?;
     }
     Ok(filler.register())
 }

@@ -30,9 +30,14 @@ fn small_tables(random: &mut Random) -> Tables {
         tones.swap(k, random.below(k as u64 + 1) as usize);
     }
     let bits: Vec<u8> = tones.iter().map(|_| random.below(4) as u8).collect();
-    let monitored = random.below(2) == 1;
-    let gain = |&b: &u8| if b > 0 || monitored { 512 } else { 0 };
-    let gains = bits.iter().map(gain).collect();
+    let mut gain = |&b: &u8| {
+        if b > 0 || random.below(2) == 1 {
+            512
+        } else {
+            0
+        }
+    };
+    let gains = bits.iter().map(&mut gain).collect();
     let mode = if random.below(4) > 0 {
         Mode::Coded
     } else {

@@ -1,4 +1,4 @@
-//! Every bench figure of document 01, marked (*) and unmarked.
+//! Every bench figure of document 01, as amended, marked (*) and unmarked.
 
 use clevisroot_sys::refusals::{DONE, FEW, FRAME, ODD};
 use reference::figures::{equal_tones, table_a, table_a_silent};
@@ -50,11 +50,12 @@ fn silent_table_a_reads_frame_15() {
     let (x, y) = lists_of(&points);
     let answer = read(&table_a_silent(), &x, &y, RESET, 1);
     assert_eq!((answer.number, answer.contents.unwrap()), (0, vec![15]));
+    assert_eq!(answer.register, 2_097_151);
 }
 
 #[test]
-fn silent_table_a_draws_nothing() {
-    assert_eq!(write(&table_a_silent(), 0).register, RESET);
+fn silent_table_a_draws_as_the_monitored_one_does() {
+    assert_eq!(write(&table_a_silent(), 0).register, 2_097_151);
 }
 
 #[test]

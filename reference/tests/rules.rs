@@ -1,11 +1,12 @@
-//! Rules of document 01 that a table of its own shows: the code's equations, the points, the draws.
+//! Rules of document 01, as amended, that a table of its own shows: the code's equations, the
+//! points, the draws.
 
 use reference::coding::{encode_pairs, read_pairs, State};
 use reference::filler::{Filler, RESET};
 use reference::forms::{bits_of_frame, frame_of_bits, Subcarrier};
-use reference::points::{bits_of_number, constellation, label_of, number_of};
+use reference::points::{bits_of_number, constellation, label_of, number_of, point_of};
 use reference::reordering::{pairs, reordered_tones, Pair};
-use reference::{read_point, Mode, Tables};
+use reference::{encode, read_point, Mode, Tables};
 
 #[test]
 fn forcing_clears_the_state_in_two_pairs() {
@@ -114,6 +115,30 @@ fn register_shifts_down() {
         let bit_22 = (register ^ register >> 5) & 1;
         assert_eq!(filler.register(), register >> 1 | bit_22 << 22);
     }
+}
+
+/// Of twenty 0-bit tones, every third monitored, each draws two bits, and each monitored one has
+/// the point of its own two.
+#[test]
+fn every_0_bit_tone_draws_two_bits() {
+    let tables = Tables {
+        mode: Mode::Uncoded,
+        bits: vec![0; 20],
+        gains: (0..20).map(|tone| 512 * u16::from(tone % 3 == 2)).collect(),
+        tones: (0..20).collect(),
+    };
+    let mut filler = Filler::from_register(4711);
+    let d: Vec<bool> = (0..40).map(|_| filler.draw()).collect();
+    let own = |tone: usize| match tone % 3 {
+        2 => point_of(&d[2 * tone..2 * tone + 2]),
+        _ => (0, 0),
+    };
+    let written = encode(&tables, &[], 4711, 20, 20);
+    assert_eq!(written.register, filler.register());
+    assert_eq!(
+        written.contents.unwrap(),
+        (0..20).map(own).collect::<Vec<_>>()
+    );
 }
 
 #[test]

@@ -57,6 +57,25 @@ static void every_frame(void)
     }
 }
 
+/* A silent tone draws two filler bits as a monitored one does, and its point is (0, 0). */
+static void silent_tone(void)
+{
+    table_set a = table_a();
+    uint16_t gains[A_CARRIERS];
+    memcpy(gains, a_gains, sizeof gains);
+    gains[4] = 0;
+    a.gains = gains;
+    int16_t x[A_TONES], y[A_TONES];
+    uint8_t frame = 0, back = 1;
+    clevisroot_answer written =
+        clevisroot_encode(TABLES(&a), &frame, 1, CLEVISROOT_RESET, x, A_TONES, y, A_TONES);
+    CHECK(written.number == CLEVISROOT_DONE && written.size == 5 && written.reg == 2097151);
+    CHECK(x[3] == 0 && y[3] == 0);
+    clevisroot_answer read =
+        clevisroot_read(TABLES(&a), x, A_TONES, y, A_TONES, CLEVISROOT_RESET, &back, 1);
+    CHECK(read.number == CLEVISROOT_DONE && read.reg == written.reg && back == frame);
+}
+
 /* Any mode byte but 0 is coded. */
 static void modes(void)
 {
@@ -116,6 +135,7 @@ int main(void)
     check_and_reorder();
     encode_and_read();
     every_frame();
+    silent_tone();
     modes();
     one_tone();
     filler_bits();

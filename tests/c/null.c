@@ -83,17 +83,20 @@ static void every_way(uint8_t coded)
     }
 }
 
-/* L is 0 where no tone has data: the empty frame is accepted and read, also as a null pointer. */
+/*
+ * L is 0 where no tone has data: the empty frame is accepted and read, also as a null pointer. Of register
+ * 4 the silent tone draws 0 and 0, the monitored one 1 and 0.
+ */
 static void empty_frame(void)
 {
     static const uint8_t bits[2] = {0, 0};
     static const uint16_t gains[2] = {0, 512}, tones[2] = {0, 1};
     table_set set = {0, bits, 2, gains, 2, tones, 2};
     int16_t x[2], y[2];
-    clevisroot_answer a = clevisroot_encode(TABLES(&set), NULL, 0, 1, x, 2, y, 2);
+    clevisroot_answer a = clevisroot_encode(TABLES(&set), NULL, 0, 4, x, 2, y, 2);
     CHECK(a.number == CLEVISROOT_DONE && a.size == 0);
     CHECK(x[0] == 0 && y[0] == 0 && x[1] == 1 && y[1] == -1);
-    clevisroot_answer b = clevisroot_read(TABLES(&set), x, 2, y, 2, 1, NULL, 0);
+    clevisroot_answer b = clevisroot_read(TABLES(&set), x, 2, y, 2, 4, NULL, 0);
     CHECK(b.number == CLEVISROOT_DONE && b.size == 0 && b.reg == a.reg);
 }
 

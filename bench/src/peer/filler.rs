@@ -18,7 +18,7 @@ impl Filler {
         Filler(r >> 2 | ((r ^ r >> 5) & 3) << 21)
     }
 
-    /// The point of the next monitored tone: v0 gives the sign of Y, v1 that of X.
+    /// The point of the next two bits: v0 gives the sign of Y, v1 that of X.
     #[inline]
     pub fn draw_point(&mut self) -> (i16, i16) {
         let (v0, v1) = (self.0 & 1, self.0 >> 1 & 1);

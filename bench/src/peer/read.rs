@@ -82,8 +82,9 @@ fn test_monitored(
     y: &[i16],
     mut filler: Filler,
 ) -> Result<Filler, Refusal> {
-    for (place, _) in plan.unloaded().filter(|&(_, monitored)| monitored) {
-        if filler.draw_point() != (x[place], y[place]) {
+    for (place, monitored) in plan.unloaded() {
+        let own = filler.draw_point();
+        if monitored && own != (x[place], y[place]) {
             return Err(Refusal(MONITOR, place));
         }
     }

@@ -45,13 +45,12 @@ fn write_one_bit_tones(plan: &Plan, labels: &[u16], x: &mut [i16], y: &mut [i16]
     }
 }
 
+/// Every tone without bits draws; a silent one has the point (0, 0) all the same.
 fn write_unloaded(plan: &Plan, mut filler: Filler, x: &mut [i16], y: &mut [i16]) -> Filler {
     for (place, monitored) in plan.unloaded() {
-        (x[place], y[place]) = if monitored {
-            filler.draw_point()
-        } else {
-            (0, 0)
-        };
+        let (own_x, own_y) = filler.draw_point();
+        let size = i16::from(monitored);
+        (x[place], y[place]) = (size * own_x, size * own_y);
     }
     filler
 }

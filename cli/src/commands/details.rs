@@ -34,9 +34,10 @@ examples
 pub const READ: &str = "\
 Reads exact points back to the frame, hex, 32 bytes a line. What it prints is a FRAME file. The
 register must be the one the points were written with; --register find works it out from the
-monitored tones, 12 of one symbol or 32 of several that follow each other, and where it cannot
-there is no frame and the status is 33. Refusals are 1 to 8, 10 and 12 to 15; with 13, 14 and 15
-the picture of --svg is drawn too and shows what was refused.
+monitored tones, 12 of one symbol or 32 of several that follow each other, or a few more where
+silent tones stand between them; where it cannot, there is no frame and the status is 33. Refusals
+are 1 to 8, 10 and 12 to 15; with 13, 14 and 15 the picture of --svg is drawn too and shows what
+was refused.
 
 The file may hold many symbols, with an empty line or a header x,y between them. The register
 goes from one to the next; a refused symbol hands it back as it was, so that the symbols after it
@@ -55,8 +56,8 @@ Without --register the value at reset is assumed; then the verdict is only perha
 monitored tones of one symbol agree, or 32 of several. With --register N it holds if N is the
 writer's register. With --register find the register is worked out from the monitored tones, and
 the verdict holds whatever the register was: 12 tones of one symbol are enough, or 32 of several
-that follow each other. Coded, and with an odd count of non-zero re-ordered entries, the trellis
-code tells without any register.
+that follow each other. It may take a few more where silent tones stand between them. Coded, and
+with an odd count of non-zero re-ordered entries, the trellis code tells without any register.
 docs/FIND-THE-REGISTER.md has the reasons.
 
 Exit status: 0 straight, 32 turned, 36 perhaps (straight or turned), 33 cannot tell, 34 neither
@@ -83,8 +84,8 @@ example
 ";
 
 pub const FIGURES: &str = "\
-Works out the bench figures of document 01 and prints each beside the page's value. The ones
-with a * are the page's small set. Exit status: 0 if all agree, else 35.
+Works out the bench figures of document 01, as amended, and prints each beside the page's value.
+The ones with a * are the page's small set. Exit status: 0 if all agree, else 35.
 
 example
   clevisroot figures

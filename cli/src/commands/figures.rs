@@ -1,4 +1,5 @@
-//! `figures`: document 01's bench figures, worked out now, each beside the page's value.
+//! `figures`: document 01's bench figures, as amended, worked out now, each beside the
+//! page's value.
 
 use crate::ask;
 use crate::call::Call;
@@ -140,7 +141,7 @@ fn table_a_figures() -> Vec<Figure> {
         ),
         marked(
             "A, gain of 4 is 0: register",
-            "8388607",
+            "2097151",
             register(&silent, 0),
         ),
         unmarked("A, frame byte 32", "11 FRAME", points(&a, 32)),

@@ -4,9 +4,9 @@ use super::reading::{Reading, Tables};
 use super::verdict::{Ground, Known, Origin, Verdict, Way};
 use super::verdict_words::{ground_fields, sentence};
 use crate::ask::trellis_tells;
-use crate::files::{hex_lines, PointList, TableSet};
+use crate::files::{hex_lines, PointList};
 use crate::json::{Fields, Json};
-use crate::register::Search;
+use crate::register::{Reach, Search};
 use crate::report::{fields, refusal_fields, Report};
 use crate::words::size_words;
 use clevisroot_sys::refusals::{MONITOR, OFFGRID};
@@ -24,22 +24,24 @@ pub struct Judged {
 impl Judged {
     pub fn of(tables: &Tables, points: &PointList, known: Option<Known>) -> Judged {
         let turned = points.turned();
-        let (fitted, tones) = fitted(tables, points, &turned);
-        let by_trellis = only_way(&fitted).filter(|_| trellis_tells(&tables.set, &tables.order));
+        let fitted = fitted(tables, points, &turned);
+        // Some register reads the points this way, and none the other way.
+        let one_way = only_way(&fitted);
         let readings = match known {
             Some(Known { register, .. }) => {
                 [points, &turned].map(|points| tables.read(points, register))
             }
             None => fitted,
         };
+        // Where the register was found and read with, both speak; the register is the news.
         let found = known.is_some_and(Known::is_found) && only_way(&readings).is_some();
-        let (verdict, ground) = match (by_trellis, known) {
-            // Where the register was found and read with, both speak; the register is the news.
-            (Some(way), _) if !found => {
-                (Verdict::sure(way), Ground::Trellis(tables.order.loaded()))
+        let by_trellis = trellis_tells(&tables.set, &tables.order) && !found;
+        let (verdict, ground) = match (one_way, known) {
+            (Some(way), known) if by_trellis || known.is_none() => {
+                (Verdict::sure(way), whatever_the_register(tables))
             }
-            (_, Some(known)) => by_register(&readings, known, tables.monitored),
-            (_, None) => without_register(&readings, tones),
+            (_, Some(known)) => by_register(tables, &readings, known, one_way),
+            (_, None) => without_register(&readings, tables.reaches.alone()),
         };
         Judged {
             readings,
@@ -63,8 +65,8 @@ impl Judged {
         }
     }
 
-    pub fn report(&self, set: &TableSet) -> Report {
-        let sentence = sentence(self.verdict, set, &self.ground);
+    pub fn report(&self, tables: &Tables) -> Report {
+        let sentence = sentence(self.verdict, tables, &self.ground);
         let [straight, turned] = &self.readings;
         let mut json = self.fields(straight);
         json.retain(|(key, _)| *key != "sentence");
@@ -121,17 +123,28 @@ impl Judged {
     }
 }
 
-/// Reads both ways with registers that fit the monitored points as far as any does, so that only
-/// the trellis code decides where many fit. Tells the count of monitored tones too.
-fn fitted(tables: &Tables, points: &PointList, turned: &PointList) -> ([Reading; 2], usize) {
+/// Reads both ways with registers that fit the monitored points as far as any does.
+fn fitted(tables: &Tables, points: &PointList, turned: &PointList) -> [Reading; 2] {
     let mut search = Search::new();
     search.add(&tables.set, &tables.order, points);
     let [straight, other] = search.examples().map(|register| register.unwrap_or(RESET));
-    let readings = [tables.read(points, straight), tables.read(turned, other)];
-    (readings, search.tones)
+    [tables.read(points, straight), tables.read(turned, other)]
 }
 
-fn by_register(readings: &[Reading; 2], known: Known, monitored: usize) -> (Verdict, Ground) {
+/// What tells the way round where some register reads the points and none reads them turned.
+fn whatever_the_register(tables: &Tables) -> Ground {
+    match trellis_tells(&tables.set, &tables.order) {
+        true => Ground::Trellis(tables.order.loaded()),
+        false => Ground::OneWay(tables.reaches.alone()),
+    }
+}
+
+fn by_register(
+    tables: &Tables,
+    readings: &[Reading; 2],
+    known: Known,
+    one_way: Option<Way>,
+) -> (Verdict, Ground) {
     if both_read(readings) {
         return (Verdict::CannotTell, Ground::Nothing);
     }
@@ -142,24 +155,22 @@ fn by_register(readings: &[Reading; 2], known: Known, monitored: usize) -> (Verd
             false => (Verdict::Neither, Ground::Tones(known)),
         };
     };
-    let known = known.reading(way, monitored);
-    let sure = match known.origin {
-        Origin::Given | Origin::Found(_) => true,
-        Origin::FoundAcross(_) => false,
-        Origin::Reset | Origin::HandedBack | Origin::Contradicted => known.enough,
-    };
-    match sure {
-        true => (Verdict::sure(way), Ground::Tones(known)),
-        false => (Verdict::perhaps(way), Ground::Tones(known)),
+    let known = known.reading(way, &tables.reaches);
+    match known.origin {
+        Origin::Found(_) => (Verdict::sure(way), Ground::Tones(known)),
+        _ if known.enough => (Verdict::sure(way), Ground::Tones(known)),
+        _ if one_way.is_some() => (Verdict::sure(way), whatever_the_register(tables)),
+        Origin::Given => (Verdict::sure(way), Ground::Tones(known)),
+        _ => (Verdict::perhaps(way), Ground::Tones(known)),
     }
 }
 
-/// The register is to be found, and was not.
-fn without_register(readings: &[Reading; 2], tones: usize) -> (Verdict, Ground) {
-    match (both_read(readings), only_way(readings), tones) {
-        (true, _, 0) => (Verdict::CannotTell, Ground::Nothing),
-        (true, ..) | (false, Some(_), _) => (Verdict::CannotTell, Ground::TooFew(tones)),
-        (false, None, _) => (Verdict::Neither, Ground::NoRegister),
+/// The register is to be found, was not, and no way round is the only one that is read.
+fn without_register(readings: &[Reading; 2], reach: Reach) -> (Verdict, Ground) {
+    match (both_read(readings), reach.tones) {
+        (true, 0) => (Verdict::CannotTell, Ground::Nothing),
+        (true, _) => (Verdict::CannotTell, Ground::TooFew(reach)),
+        (false, _) => (Verdict::Neither, Ground::NoRegister),
     }
 }
 

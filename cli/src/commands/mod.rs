@@ -11,6 +11,7 @@ mod read;
 mod reading;
 mod tables;
 mod tone;
+mod tone_words;
 mod totals;
 mod turn;
 mod verdict;

@@ -86,7 +86,7 @@ impl Read {
                     self.told(&symbol, found.register, &reading, Some(found), output)
                 }
                 // Points that are turned can look straight to such a register.
-                Some(found) => self.not_found(symbol.0, not_checked_sentence(found)),
+                Some(found) => self.not_found(symbol.0, not_checked_sentence(&self.tables, found)),
                 None => self.not_found(symbol.0, not_found_sentence(&self.tables, &symbol.1)),
             });
         }
@@ -103,9 +103,10 @@ impl Read {
         output: &Output,
     ) -> (usize, Report) {
         let mut report = self.report(register, reading);
-        if let Some(FoundRegister { tones, .. }) = found {
+        if let Some(FoundRegister { reach, .. }) = found {
             report.summary.push(format!(
-                "register before {register}, found from {tones} monitored tones"
+                "register before {register}, found from {} monitored tones",
+                reach.tones
             ));
         }
         // Points that are refused for what they are can be drawn too.

@@ -5,14 +5,15 @@ use crate::call::Call;
 use crate::fault::Fault;
 use crate::files::{read_tables, PointList, TableSet};
 use crate::refusal::{is_of_points, Question, Refusal};
+use crate::register::Reaches;
 use clevisroot_sys::refusals::DONE;
 use clevisroot_sys::{self as library, Answer};
 
 pub struct Tables {
     pub set: TableSet,
     pub order: Order,
-    /// The count of monitored tones.
-    pub monitored: usize,
+    /// What its monitored tones can tell.
+    pub reaches: Reaches,
     /// The register as it was typed.
     typed: Option<String>,
 }
@@ -29,11 +30,11 @@ impl Tables {
     pub fn of(call: &Call) -> Result<Tables, Fault> {
         let set = read_tables(&call.operands[0])?;
         let (_, order) = ask::order(&set);
-        let monitored = order.monitored(&set).count();
+        let reaches = Reaches::of(&set, &order);
         Ok(Tables {
             set,
             order,
-            monitored,
+            reaches,
             typed: call.typed_register().map(str::to_string),
         })
     }

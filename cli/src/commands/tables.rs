@@ -7,7 +7,7 @@ use crate::files::{read_tables, Class, TableSet};
 use crate::json::{Fields, Json};
 use crate::output::Output;
 use crate::refusal::Question;
-use crate::register::ENOUGH_TONES;
+use crate::register::{Reach, Reaches, ENOUGH_TONES, UNSEEN};
 use crate::report::{table_fields, Report, Written};
 use crate::words::{mode_word, size_words};
 use clevisroot_sys::refusals::DONE;
@@ -27,7 +27,8 @@ pub fn check(call: &Call) -> Result<u8, Fault> {
 
 fn accepted(set: &TableSet, answer: &Answer, mut json: Fields) -> Report {
     let (_, order) = ask::order(set);
-    let monitored = set.count(|class| class == Class::Monitored);
+    let reach = Reaches::of(set, &order).alone();
+    let monitored = reach.tones;
     let silent = set.count(|class| class == Class::Silent);
     let data = set.tone_count() - monitored - silent;
     let summary = vec![
@@ -40,7 +41,7 @@ fn accepted(set: &TableSet, answer: &Answer, mut json: Fields) -> Report {
             set.tone_count(),
         ),
         format!("tones by bits: {}", loading_words(set)),
-        turned_words(set, &order, monitored),
+        turned_words(set, &order, reach),
     ];
     let number = |number: usize| Json::Number(number as i64);
     let of_bits = |bits| number(set.count(|class| class == Class::Data(bits)));
@@ -56,7 +57,7 @@ fn accepted(set: &TableSet, answer: &Answer, mut json: Fields) -> Report {
     ]);
     let trellis = trellis_tells(set, &order);
     json.push(("turned_shows", Json::Flag(trellis || monitored > 0)));
-    let always = trellis || monitored >= ENOUGH_TONES;
+    let always = trellis || reach.tells_way;
     json.push(("turned_shows_without_register", Json::Flag(always)));
     Report::new(0, summary, json)
 }
@@ -99,17 +100,22 @@ fn loading_words(set: &TableSet) -> String {
 }
 
 /// Whether reading tells a turned symbol, and what it needs for that.
-fn turned_words(set: &TableSet, order: &Order, monitored: usize) -> String {
+fn turned_words(set: &TableSet, order: &Order, reach: Reach) -> String {
     let loaded = order.loaded();
-    let tones = match monitored {
+    let tones = match reach.tones {
         1 => "1 tone is monitored".to_string(),
         tones => format!("{tones} tones are monitored"),
     };
     let reason = if trellis_tells(set, order) {
         format!("shows whatever the register, because N = {loaded} is odd")
-    } else if monitored >= ENOUGH_TONES {
+    } else if reach.settles() {
         format!("shows whatever the register (--register find), because {tones}")
-    } else if monitored > 0 {
+    } else if reach.tells_way {
+        let checked = "and their filler bits check each other";
+        format!("shows whatever the register (--register find), because {tones} {checked}")
+    } else if reach.tones >= ENOUGH_TONES {
+        format!("shows only if the register is known: {tones}, but {UNSEEN}")
+    } else if reach.tones > 0 {
         format!("shows if the register is known, because {tones}")
     } else if set.coded {
         format!("does not show, because no tone is monitored and N = {loaded} is even")

@@ -113,7 +113,7 @@ impl Turn {
         self.known = self.carried(judged);
         self.totals
             .add(judged.verdict, judged.ground.is_conditional());
-        let mut report = judged.report(&self.tables.set);
+        let mut report = judged.report(&self.tables);
         if output.wants_picture(report.refused) {
             report.picture = Some(self.picture(number, points, judged));
         }
@@ -128,7 +128,7 @@ impl Turn {
         match read {
             Some(read) => {
                 let known = match judged.only_way() {
-                    Some(way) => known.reading(way, self.tables.monitored),
+                    Some(way) => known.reading(way, &self.tables.reaches),
                     None => known,
                 };
                 Some(Known {
@@ -166,11 +166,11 @@ impl Turn {
 
 fn known(found: FoundRegister) -> Known {
     let origin = match found.checked {
-        true => Origin::Found(found.tones),
-        false => Origin::FoundAcross(found.tones),
+        true => Origin::Found(found.reach.tones),
+        false => Origin::FoundAcross(found.reach.tones),
     };
     Known {
-        agreed: found.tones,
+        agreed: found.reach,
         ..Known::new(found.register, origin)
     }
 }

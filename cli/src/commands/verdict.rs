@@ -1,6 +1,6 @@
 //! Verdicts on the clips: how sure they are, and what they rest on.
 
-use crate::register::{ENOUGH_TONES, TONES_OF_STREAM};
+use crate::register::{Reach, Reaches};
 
 /// The exit status where nothing can be told.
 pub const CANNOT_TELL: u8 = 33;
@@ -43,8 +43,8 @@ pub struct Known {
     pub register: u32,
     pub origin: Origin,
     /// The monitored tones of the symbols so far that agree with it, all the same way round.
-    pub agreed: usize,
-    /// They are so many that no other register gives them.
+    pub agreed: Reach,
+    /// No other register gives their points, either way.
     pub enough: bool,
     pub way: Option<Way>,
     /// It is the one after a symbol that was read.
@@ -56,7 +56,7 @@ impl Known {
         Known {
             register,
             origin,
-            agreed: 0,
+            agreed: Reach::default(),
             enough: false,
             way: None,
             carried: false,
@@ -69,17 +69,17 @@ impl Known {
 
     /// What it is to a symbol that is read this way with it: clips are not swapped within a stream,
     /// so that a change of the way speaks against the register.
-    pub fn reading(self, way: Way, monitored: usize) -> Known {
+    pub fn reading(self, way: Way, reaches: &Reaches) -> Known {
         let (origin, agreed) = match (self.origin, self.way) {
-            (_, Some(before)) if before != way => (Origin::Contradicted, monitored),
+            (_, Some(before)) if before != way => (Origin::Contradicted, reaches.alone()),
             (Origin::Found(_) | Origin::FoundAcross(_), _) => (self.origin, self.agreed),
-            _ => (self.origin, self.agreed + monitored),
+            _ => (self.origin, reaches.after(self.agreed.tones)),
         };
         Known {
             origin,
             agreed,
             // Between several symbols one may be missing, so that they need more.
-            enough: monitored >= ENOUGH_TONES || agreed >= TONES_OF_STREAM,
+            enough: reaches.alone().settles() || agreed.settles_stream(),
             way: Some(way),
             ..self
         }
@@ -93,10 +93,12 @@ pub enum Ground {
     Trellis(usize),
     /// Monitored tones that agree with this register, or do not.
     Tones(Known),
+    /// These monitored tones fit no register the other way round.
+    OneWay(Reach),
     /// No tone is monitored and the trellis code does not tell.
     Nothing,
-    /// The register is to be found, and so many monitored tones do not give it.
-    TooFew(usize),
+    /// The register is to be found, and these monitored tones do not give it.
+    TooFew(Reach),
     /// No register gives these points, either way.
     NoRegister,
 }

@@ -1,15 +1,14 @@
 //! Verdicts in words: one sentence for the jointer, and what it rests on.
 
 use super::reading::Tables;
+use super::tone_words::{agreement, alike_one_in, checks, enough, too_few};
 use super::verdict::{Ground, Known, Origin, Verdict};
-use crate::ask;
-use crate::files::{PointList, TableSet};
+use crate::files::PointList;
 use crate::json::{Fields, Json};
-use crate::register::{Found, FoundRegister, Search, ENOUGH_TONES, TONES_OF_STREAM};
-use crate::words::count;
+use crate::register::{or_a_few_more, Found, FoundRegister, Search, ENOUGH_TONES, TONES_OF_STREAM};
 
 /// What the jointer should be told, in one sentence.
-pub fn sentence(verdict: Verdict, set: &TableSet, ground: &Ground) -> String {
+pub fn sentence(verdict: Verdict, tables: &Tables, ground: &Ground) -> String {
     let (clips, readings) = match verdict {
         Verdict::Straight | Verdict::PerhapsStraight => (
             "Straight: the clips are the right way round",
@@ -22,10 +21,10 @@ pub fn sentence(verdict: Verdict, set: &TableSet, ground: &Ground) -> String {
     };
     match verdict {
         Verdict::Straight | Verdict::Turned => sure_sentence(clips, readings, ground),
-        Verdict::PerhapsStraight => perhaps_sentence("straight", readings, ground),
-        Verdict::PerhapsTurned => perhaps_sentence("turned", readings, ground),
-        Verdict::CannotTell => format!("Cannot tell: {}.", why_not_told(set, ground)),
-        Verdict::Neither => neither_sentence(ground),
+        Verdict::PerhapsStraight => perhaps_sentence("straight", readings, tables, ground),
+        Verdict::PerhapsTurned => perhaps_sentence("turned", readings, tables, ground),
+        Verdict::CannotTell => format!("Cannot tell: {}.", why_not_told(tables, ground)),
+        Verdict::Neither => neither_sentence(tables, ground),
     }
 }
 
@@ -35,6 +34,13 @@ fn sure_sentence(clips: &str, readings: &str, ground: &Ground) -> String {
         Ground::Trellis(loaded) => format!(
             "{clips}, whatever the register: the trellis code tells, because N, the count of \
              non-zero re-ordered entries, is odd ({loaded})."
+        ),
+        Ground::OneWay(reach) => format!(
+            "{clips}, whatever the register: the {} monitored tones tell, because no register gives \
+             their points the other way round ({} filler bits, where {} the others).",
+            reach.tones,
+            2 * reach.tones,
+            checks(2 * reach.tones - reach.rank)
         ),
         _ => format!("{clips}: {readings}."),
     }
@@ -52,17 +58,15 @@ fn sure_by_register(clips: &str, readings: &str, known: &Known) -> String {
         ),
         Origin::Found(tones) => format!(
             "{clips}, whatever the register was: {readings} with register {register}, which \
-             {tones} monitored tones give ({} filler bits, where 23 fix it and {}), and \
+             {tones} monitored tones give ({} filler bits, where 23 fix it and {} it), and \
              the other way no register fits.",
             2 * tones,
-            match 2 * tones - 23 {
-                1 => "1 checks it".to_string(),
-                spare => format!("{spare} check it"),
-            }
+            checks(2 * tones - 23)
         ),
         _ if known.enough => format!(
-            "{clips}: {readings} with register {register}, which {origin}, and {agreed} monitored \
-             tones agree, as with no other register."
+            "{clips}: {readings} with register {register}, which {origin}, and {} monitored \
+             tones agree, as with no other register.",
+            agreed.tones
         ),
         _ => format!(
             "{clips}, if register {register}, which {origin}, is the writer's: {readings}, and {}.",
@@ -71,7 +75,7 @@ fn sure_by_register(clips: &str, readings: &str, known: &Known) -> String {
     }
 }
 
-fn perhaps_sentence(word: &str, readings: &str, ground: &Ground) -> String {
+fn perhaps_sentence(word: &str, readings: &str, tables: &Tables, ground: &Ground) -> String {
     let rest = match ground {
         Ground::Tones(known) => match known.origin {
             Origin::FoundAcross(found) => format!(
@@ -91,26 +95,19 @@ fn perhaps_sentence(word: &str, readings: &str, ground: &Ground) -> String {
     format!(
         "Perhaps {word}: {readings}, {rest}; the writer's register (--register N) would settle it, \
          and so would --register find from {}.",
-        enough_words()
+        enough(tables)
     )
 }
 
-/// "12 monitored tones in one symbol, or 32 in several that follow each other"
-fn enough_words() -> String {
-    format!(
-        "{ENOUGH_TONES} monitored tones in one symbol, or {TONES_OF_STREAM} in several that follow \
-         each other"
-    )
-}
-
-fn neither_sentence(ground: &Ground) -> String {
+fn neither_sentence(tables: &Tables, ground: &Ground) -> String {
     match ground {
         Ground::Tones(known) => format!(
             "Neither: the points are refused both ways with register {}, which {}, so look for \
              noise, other tables or another register (--register N, or --register find from \
-             {ENOUGH_TONES} monitored tones on) before you swap the clips.",
+             {ENOUGH_TONES} monitored tones on{}) before you swap the clips.",
             known.register,
-            origin_words(known)
+            origin_words(known),
+            or_a_few_more(&tables.set)
         ),
         _ => "Neither: the points are refused both ways whatever the register, so look for noise \
               or other tables before you swap the clips."
@@ -119,61 +116,25 @@ fn neither_sentence(ground: &Ground) -> String {
 }
 
 /// Why nothing can be told, and what would tell.
-fn why_not_told(set: &TableSet, ground: &Ground) -> String {
-    if let Ground::TooFew(tones) = ground {
+fn why_not_told(tables: &Tables, ground: &Ground) -> String {
+    if let Ground::TooFew(reach) = ground {
         return format!(
-            "the points are read both ways, for {} for the 23 bits of the register; the writer's \
-             register (--register N) would settle it, and so would {}",
-            equations(*tones),
-            enough_words()
+            "the points are read both ways, for {}; the writer's register (--register N) would \
+             settle it, and so would {}",
+            too_few(*reach, "the 23 bits of the register"),
+            enough(tables)
         );
     }
-    let (_, order) = ask::order(set);
-    let reason = if set.coded {
+    let reason = if tables.set.coded {
         format!(
             "this table set monitors no tone and N, its count of non-zero re-ordered entries, is \
              even ({})",
-            order.loaded()
+            tables.order.loaded()
         )
     } else {
         "this table set is uncoded and monitors no tone".to_string()
     };
     format!("the points are read both ways, for {reason}; a spare tone with 0 bits and a gain would tell")
-}
-
-/// "1 monitored tone gives 2 equations"
-fn equations(tones: usize) -> String {
-    let give = if tones == 1 { "gives" } else { "give" };
-    format!(
-        "{} {give} only {} equations",
-        count(tones, "monitored tone"),
-        2 * tones
-    )
-}
-
-/// "1 monitored tone agrees, as it would with a wrong register one time in 4"
-fn agreement(tones: usize) -> String {
-    if tones >= ENOUGH_TONES {
-        return format!(
-            "{tones} monitored tones of several symbols agree, which settles it only if no symbol \
-             is missing between them"
-        );
-    }
-    let (agree, it) = if tones == 1 {
-        ("agrees", "it")
-    } else {
-        ("agree", "they")
-    };
-    format!(
-        "{} {agree}, as {it} would with a wrong register one time in {}",
-        count(tones, "monitored tone"),
-        alike_one_in(tones)
-    )
-}
-
-/// One register in so many looks the same to this many monitored tones.
-fn alike_one_in(tones: usize) -> u64 {
-    4_u64.saturating_pow(u32::try_from(tones).unwrap_or(u32::MAX))
 }
 
 fn origin_words(known: &Known) -> &'static str {
@@ -192,13 +153,13 @@ fn origin_words(known: &Known) -> &'static str {
 
 /// What a verdict rests on, in fields.
 pub fn ground_fields(verdict: Verdict, ground: &Ground) -> Fields {
-    let (register, tones) = match ground {
+    let (register, reach) = match ground {
         Ground::Tones(known) => (Json::Number(known.register.into()), Some(known.agreed)),
-        Ground::TooFew(tones) => (Json::Null, Some(*tones)),
+        Ground::TooFew(reach) | Ground::OneWay(reach) => (Json::Null, Some(*reach)),
         Ground::NoRegister | Ground::Trellis(_) | Ground::Nothing => (Json::Null, None),
     };
     let number = |number: u64| Json::Number(i64::try_from(number).unwrap_or(i64::MAX));
-    let few = tones.filter(|tones| (1..ENOUGH_TONES).contains(tones));
+    let few = reach.filter(|reach| reach.rank > 0 && !reach.fixes_register());
     let condition = verdict.is_sure().then(|| condition(ground)).flatten();
     vec![
         ("holds_if", condition.map_or(Json::Null, Json::text)),
@@ -207,11 +168,11 @@ pub fn ground_fields(verdict: Verdict, ground: &Ground) -> Fields {
         ("register_is", Json::text(register_word(ground))),
         (
             "monitored_tones",
-            tones.map_or(Json::Null, |tones| number(tones as u64)),
+            reach.map_or(Json::Null, |reach| number(reach.tones as u64)),
         ),
         (
             "wrong_register_alike_one_in",
-            few.map_or(Json::Null, |tones| number(alike_one_in(tones))),
+            few.map_or(Json::Null, |reach| number(alike_one_in(reach))),
         ),
     ]
 }
@@ -242,7 +203,7 @@ fn register_word(ground: &Ground) -> &'static str {
         },
         Ground::TooFew(_) => "not found",
         Ground::NoRegister => "none fits",
-        Ground::Trellis(_) | Ground::Nothing => "not needed",
+        Ground::Trellis(_) | Ground::OneWay(_) | Ground::Nothing => "not needed",
     }
 }
 
@@ -250,14 +211,21 @@ fn register_word(ground: &Ground) -> &'static str {
 pub fn not_found_sentence(tables: &Tables, points: &PointList) -> String {
     let mut search = Search::new();
     search.add(&tables.set, &tables.order, points);
-    match (search.tones, search.found()) {
-        (0, _) => "Cannot tell the register: no tone is monitored, so that points are read the \
-                   same with every register; leave --register find out."
-            .to_string(),
-        (tones, Found::Open) => format!(
-            "Cannot tell the register: {} for its 23 bits, where it takes {}.",
-            equations(tones),
-            enough_words()
+    match (search.reach(), search.found()) {
+        (reach, _) if reach.tones == 0 => {
+            "Cannot tell the register: no tone is monitored, so that \
+                                           points are read the same with every register; leave \
+                                           --register find out."
+                .to_string()
+        }
+        (reach, Found::Open) => format!(
+            "Cannot tell the register: {}{} {}.",
+            too_few(reach, "its 23 bits"),
+            match reach.tones {
+                ENOUGH_TONES.. => "; it takes",
+                _ => ", where it takes",
+            },
+            enough(tables)
         ),
         _ => "Cannot tell the register: none gives the points of the monitored tones, so look for \
               noise or other tables."
@@ -266,13 +234,13 @@ pub fn not_found_sentence(tables: &Tables, points: &PointList) -> String {
 }
 
 /// Why a register that several symbols give is not read with.
-pub fn not_checked_sentence(found: FoundRegister) -> String {
-    let FoundRegister {
-        register, tones, ..
-    } = found;
+pub fn not_checked_sentence(tables: &Tables, found: FoundRegister) -> String {
     format!(
-        "Cannot tell the register: {tones} monitored tones of several symbols give {register} \
-         before this one, but only if none is missing between them; it takes {TONES_OF_STREAM}, or \
-         {ENOUGH_TONES} in one symbol."
+        "Cannot tell the register: {} monitored tones of several symbols give {} before this one, \
+         but only if none is missing between them; it takes {TONES_OF_STREAM}, or {ENOUGH_TONES} \
+         in one symbol{}.",
+        found.reach.tones,
+        found.register,
+        or_a_few_more(&tables.set)
     )
 }

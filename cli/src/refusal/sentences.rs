@@ -5,6 +5,7 @@ use super::question::Question;
 use crate::ask;
 use crate::files::{Class, TableSet};
 use crate::index::Place;
+use crate::register::{or_a_few_more, ENOUGH_TONES};
 use crate::words::{count, shown, size_words};
 use clevisroot_sys::refusals::{
     BITS, FEW, FRAME, GAIN, MONITOR, ODD, OFFGRID, ROOM, SEED, SIZE, STRAY, TONE, TRELLIS, TWICE,
@@ -168,10 +169,13 @@ fn monitor(question: &Question, place: Place) -> String {
     let opposite = question.points.and_then(|points| points.at(place))
         == Some((x.saturating_neg(), y.saturating_neg()));
     let advice = if opposite {
-        "it is the opposite one, so the clips may be the wrong way round (see `turn`)"
+        "it is the opposite one, so the clips may be the wrong way round (see `turn`)".to_string()
     } else {
-        "see whether the register is the writer's (`--register find` finds it from 12 monitored \
-         tones)"
+        format!(
+            "see whether the register is the writer's (`--register find` finds it from \
+             {ENOUGH_TONES} monitored tones{})",
+            or_a_few_more(question.set)
+        )
     };
     let register = question.register;
     format!(

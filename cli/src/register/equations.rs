@@ -38,12 +38,20 @@ impl System {
         self.contradicted |= value;
     }
 
+    /// How many of the equations are independent of each other.
+    pub fn rank(&self) -> usize {
+        self.rows.iter().flatten().count()
+    }
+
+    pub fn is_contradicted(&self) -> bool {
+        self.contradicted
+    }
+
     /// The register 0 is none: it draws zeros for ever.
     pub fn solutions(&self) -> Solutions {
-        let open = self.rows.iter().filter(|row| row.is_none()).count();
-        match (self.contradicted, open, self.solution(0)) {
-            (true, _, _) | (_, 0, 0) => Solutions::None,
-            (_, 0, register) => Solutions::One(register),
+        match (self.contradicted, self.rank(), self.solution(0)) {
+            (true, _, _) | (_, BITS, 0) => Solutions::None,
+            (_, BITS, register) => Solutions::One(register),
             _ => Solutions::Many,
         }
     }
@@ -94,21 +102,12 @@ impl Register {
 #[cfg(test)]
 mod tests {
     use super::{Register, Solutions, System};
+    use crate::register::tests::{numbers, registers};
     use clevisroot_sys::draw;
-
-    /// Numbers that look random and are the same in each run.
-    fn numbers(mut state: u64) -> impl Iterator<Item = u32> {
-        std::iter::repeat_with(move || {
-            state ^= state << 13;
-            state ^= state >> 7;
-            state ^= state << 17;
-            (state >> 20) as u32
-        })
-    }
 
     #[test]
     fn the_sums_are_the_library_s_draws() {
-        for start in numbers(7).map(|n| n % 8_388_607 + 1).take(50) {
+        for start in registers(7).take(50) {
             let (mut sums, mut register) = (Register::start(), start);
             for _ in 0..200 {
                 let (sum, drawn) = (sums.draw(), draw(register));
@@ -121,7 +120,7 @@ mod tests {
     #[test]
     fn elimination_finds_the_one_solution() {
         let mut random = numbers(11);
-        for register in numbers(5).map(|n| n % 8_388_607 + 1).take(200) {
+        for register in registers(5).take(200) {
             let mut system = System::default();
             while system.solutions() == Solutions::Many {
                 assert!(system.example().is_some());

@@ -1,15 +1,12 @@
 //! The register of a stream: symbols with few monitored tones wait until those of several together
 //! give it.
 
-use super::search::{Found, Search, ENOUGH_TONES};
+use super::reach::{Reach, TONES_OF_STREAM};
+use super::search::{Found, Search};
 use crate::ask::Order;
 use crate::files::{PointList, TableSet};
 use clevisroot_sys as library;
 use std::collections::VecDeque;
-
-/// Symbols may be missing between two of a stream. 23 of the 64 filler bits of so many tones fix
-/// the register, and the other 41 check that none is: by chance they fit once in 2 to the 40.
-pub const TONES_OF_STREAM: usize = 32;
 
 /// A symbol with its number.
 pub type Numbered = (usize, PointList);
@@ -19,8 +16,8 @@ pub type Numbered = (usize, PointList);
 pub struct FoundRegister {
     /// Before the symbol.
     pub register: u32,
-    /// The monitored tones that gave it.
-    pub tones: usize,
+    /// The monitored tones that gave it, and what they can tell.
+    pub reach: Reach,
     /// They are enough to say that no symbol is missing between them.
     pub checked: bool,
 }
@@ -52,8 +49,8 @@ impl Finder {
     pub fn push(&mut self, set: &TableSet, order: &Order, symbol: Numbered) -> Vec<Settled> {
         let mut own = Search::new();
         own.add(set, order, &symbol.1);
-        // With enough tones of its own it needs no other, and without any none helps it.
-        if own.tones == 0 || own.tones >= ENOUGH_TONES {
+        // If its own tones settle it, it needs no other, and without any none helps it.
+        if own.reach().tones == 0 || own.reach().settles() {
             self.search = own;
             self.waiting.push_back(symbol);
             return self.settle(true);
@@ -61,7 +58,7 @@ impl Finder {
         self.search.add(set, order, &symbol.1);
         self.waiting.push_back(symbol);
         let mut settled = self.drop_contradicted(set, order);
-        if self.search.tones >= TONES_OF_STREAM {
+        if self.search.reach().settles_stream() {
             settled.extend(self.settle(true));
         }
         settled
@@ -69,9 +66,11 @@ impl Finder {
 
     /// No symbol comes any more.
     pub fn finish(&mut self) -> Vec<Settled> {
+        // Nothing is missing within one symbol, nor between several with so many tones.
+        let whole = self.waiting.len() == 1 || self.search.reach().tones >= TONES_OF_STREAM;
         let settled = match self.contradicted {
             true => self.waiting.drain(..).map(alone).collect(),
-            false => self.settle(false),
+            false => self.settle(whole),
         };
         *self = Finder::new();
         settled
@@ -79,9 +78,9 @@ impl Finder {
 
     /// Hands those that wait back with their registers, or each alone if they give none.
     fn settle(&mut self, checked: bool) -> Vec<Settled> {
-        let (tones, found) = (self.search.tones, self.search.found());
+        let (reach, found) = (self.search.reach(), self.search.found());
+        let draws = self.search.draws() / self.waiting.len().max(1);
         self.search = Search::new();
-        let draws = 2 * tones / self.waiting.len().max(1);
         let symbols = self.waiting.drain(..);
         match found {
             Found::Straight(register) | Found::Turned(register) => symbols
@@ -90,7 +89,7 @@ impl Finder {
                     *next = after_draws(register, draws);
                     let found = FoundRegister {
                         register,
-                        tones,
+                        reach,
                         checked,
                     };
                     Some(Settled {

@@ -2,7 +2,11 @@
 
 mod equations;
 mod finder;
+mod reach;
 mod search;
+#[cfg(test)]
+mod tests;
 
-pub use finder::{Finder, FoundRegister, Settled, TONES_OF_STREAM};
-pub use search::{Found, Search, ENOUGH_TONES};
+pub use finder::{Finder, FoundRegister, Settled};
+pub use reach::{or_a_few_more, Reach, Reaches, ENOUGH_TONES, TONES_OF_STREAM, UNSEEN};
+pub use search::{Found, Search};

@@ -1,23 +1,19 @@
 //! The search for the register: each monitored tone gives two equations, and turned by half a turn
 //! it gives their complements. docs/FIND-THE-REGISTER.md says why that settles the clip.
 
-use super::equations::{Register, Solutions, System};
+use super::equations::{Solutions, Sum, System};
+use super::reach::{Reach, Seen};
 use crate::ask::Order;
 use crate::files::{PointList, TableSet};
 use clevisroot_sys as library;
 use clevisroot_sys::refusals::DONE;
 
-/// Fewer monitored tones never tell: 11 give 22 equations for 23 bits.
-pub const ENOUGH_TONES: usize = 12;
-
 /// The equations of the monitored tones, read both ways.
 #[derive(Clone, Debug)]
 pub struct Search {
-    register: Register,
+    seen: Seen,
     straight: System,
     turned: System,
-    /// The monitored tones so far.
-    pub tones: usize,
 }
 
 /// What the equations say.
@@ -26,7 +22,7 @@ pub enum Found {
     /// The points are straight, and this was the register before the first symbol.
     Straight(u32),
     Turned(u32),
-    /// Too few equations, or both ways fit.
+    /// Several registers fit, or one each way.
     Open,
     /// No register gives these points, either way.
     Neither,
@@ -35,22 +31,20 @@ pub enum Found {
 impl Search {
     pub fn new() -> Search {
         Search {
-            register: Register::start(),
+            seen: Seen::nothing(),
             straight: System::default(),
             turned: System::default(),
-            tones: 0,
         }
     }
 
     /// Adds the monitored points of the next symbol. A point that is none of the four contradicts
     /// every register.
     pub fn add(&mut self, set: &TableSet, order: &Order, points: &PointList) {
-        let points = order.monitored(set).filter_map(|place| points.at(place));
-        for (x, y) in points {
+        for (place, [v0, v1]) in self.seen.next_symbol(set, order) {
+            let (x, y) = points.at(place).unwrap_or((0, 0));
             let read = library::read_point(2, x, y);
-            self.tones += 1;
-            self.add_bit(read.label & 1 == 1);
-            self.add_bit(read.label >> 1 & 1 == 1);
+            self.add_bit(v0, read.label & 1 == 1);
+            self.add_bit(v1, read.label >> 1 & 1 == 1);
             if read.number != DONE {
                 self.straight.add(0, true);
                 self.turned.add(0, true);
@@ -58,11 +52,20 @@ impl Search {
         }
     }
 
-    /// The next filler bit was read so: turned, it is the other one.
-    fn add_bit(&mut self, value: bool) {
-        let sum = self.register.draw();
-        self.straight.add(sum, value);
-        self.turned.add(sum, !value);
+    /// This filler bit was read so: turned, it is the other one.
+    fn add_bit(&mut self, bit: Sum, value: bool) {
+        self.straight.add(bit, value);
+        self.turned.add(bit, !value);
+    }
+
+    /// What the monitored tones so far can tell, whatever their points.
+    pub fn reach(&self) -> Reach {
+        self.seen.reach()
+    }
+
+    /// The filler bits that were drawn so far.
+    pub fn draws(&self) -> usize {
+        self.seen.draws
     }
 
     pub fn found(&self) -> Found {

@@ -1,38 +1,21 @@
 //! `--register find`: the register from the monitored tones, straight and turned, with too few
-//! tones, with contradictory points, and with silent tones between.
+//! tones, and with contradictory points.
 
 use crate::json::{object, text, Value};
-use crate::run::{equal, run_with, tables, turned, Ran};
+use crate::run::{equal, find, run_with, tables, turned, written};
 
 const LARGE: &str = "examples/vdsl2-4096.txt";
 const A: &str = "examples/bench-a.txt";
 const REGISTERS: [u32; 6] = [1, 2, 4711, 4_194_304, 5_592_405, 8_388_607];
 
-/// Four 2-bit tones, so that N is even and the trellis code does not tell, and monitored tones with
-/// a silent one after each.
+/// Four 2-bit tones, so that N is even and the trellis code does not tell, and monitored tones in a
+/// row, with silent ones before and after them.
 fn set_with(monitored: usize) -> String {
-    let mut tones = equal(4, 2);
-    for tone in 0..monitored {
-        tones.push((2 * tone + 4, 0, 512));
-        tones.push((2 * tone + 5, 0, 0));
-    }
+    let silent = |tones: std::ops::Range<usize>| tones.map(|tone| (tone, 0, 0)).collect();
+    let row = (6..6 + monitored).map(|tone| (tone, 0, 512)).collect();
+    let tones = [equal(4, 2), silent(4..6), row, silent(60..63)].concat();
     let name = format!("find-{monitored}.txt");
-    tables(&name, "coded", 256, &tones)
-}
-
-fn written(set: &str, frame: &str, register: u32) -> String {
-    let register = register.to_string();
-    let words = ["encode", set, "-", "--register", &register];
-    let ran = run_with(frame.as_bytes(), &words);
-    assert_eq!(ran.status, 0, "{}", ran.out);
-    ran.out
-}
-
-fn find(command: &str, set: &str, points: &str) -> Ran {
-    run_with(
-        points.as_bytes(),
-        &[command, set, "-", "--register", "find"],
-    )
+    tables(&name, "coded", 64, &tones)
 }
 
 #[test]
@@ -98,8 +81,8 @@ fn contradictory_points_fit_no_register() {
     let set = set_with(20);
     let points = written(&set, "02", 4711);
     let lines: Vec<&str> = points.lines().collect();
-    // The monitored tones are at places 4, 6, 8 and so on, after two lines of head.
-    for place in (4..44).step_by(2) {
+    // The monitored tones are at places 6 to 25, after two lines of head.
+    for place in 6..26 {
         let mut broken: Vec<String> = lines.iter().map(|line| line.to_string()).collect();
         let point = broken[place + 2]
             .split('#')

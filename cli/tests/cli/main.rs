@@ -12,6 +12,7 @@ mod readme;
 mod refusals;
 mod robust;
 mod run;
+mod silent;
 mod stream;
 mod stream_gaps;
 mod stream_turn;

@@ -98,6 +98,31 @@ pub fn turned(points: &str) -> String {
     points.lines().map(turn).collect()
 }
 
+/// What `encode` prints for a frame and a register.
+pub fn written(set: &str, frame: &str, register: u32) -> String {
+    let register = register.to_string();
+    let words = ["encode", set, "-", "--register", &register];
+    let ran = run_with(frame.as_bytes(), &words);
+    assert_eq!(ran.status, 0, "{}", ran.out);
+    ran.out
+}
+
+/// A command with `--register find`.
+pub fn find(command: &str, set: &str, points: &str) -> Ran {
+    let words = [command, set, "-", "--register", "find"];
+    run_with(points.as_bytes(), &words)
+}
+
+/// Numbers that look random and are the same in each run.
+pub fn numbers(mut state: u64) -> impl FnMut(u64) -> u64 {
+    move |bound| {
+        state = state
+            .wrapping_mul(6_364_136_223_846_793_005)
+            .wrapping_add(1);
+        (state >> 33) % bound
+    }
+}
+
 /// Frames of bench table A.
 pub fn frames(count: usize) -> Vec<String> {
     (0..count)

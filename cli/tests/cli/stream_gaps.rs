@@ -1,7 +1,7 @@
 //! Symbols that are missing from a stream, came twice or came in part: nothing wrong is sure, and the
 //! register is found anew.
 
-use crate::run::{run_with, symbols, symbols_of, tables, turned, verdicts};
+use crate::run::{equal, numbers, run_with, symbols, symbols_of, tables, turned, verdicts};
 
 const A: &str = "examples/bench-a.txt";
 
@@ -133,16 +133,6 @@ fn symbols_are_told_in_their_order() {
     }
 }
 
-/// Numbers that look random and are the same in each run.
-fn numbers(mut state: u64) -> impl FnMut(u64) -> u64 {
-    move |bound| {
-        state = state
-            .wrapping_mul(6_364_136_223_846_793_005)
-            .wrapping_add(1);
-        (state >> 33) % bound
-    }
-}
-
 /// Some symbols are missing, some came twice, and some without their last points.
 fn damaged(symbols: &[String], random: &mut impl FnMut(u64) -> u64) -> Vec<String> {
     let mut came = Vec::new();
@@ -157,23 +147,23 @@ fn damaged(symbols: &[String], random: &mut impl FnMut(u64) -> u64) -> Vec<Strin
     came
 }
 
-/// Four tones of 2 bits, so that N is even and the trellis code cannot tell, and monitored ones.
-fn even_set(monitored: usize) -> String {
-    let tone = |tone| (tone, if tone < 4 { 2 } else { 0 }, 512);
-    let tones: Vec<_> = (0..4 + monitored).map(tone).collect();
-    tables(
-        &format!("gaps-{monitored}.txt"),
-        "coded",
-        tones.len(),
-        &tones,
-    )
+/// Four tones of 2 bits, so that N is even and the trellis code cannot tell, and monitored ones with
+/// so many silent ones after each.
+fn even_set(monitored: usize, silent: usize) -> String {
+    let spare = [vec![512], vec![0; silent]].concat().repeat(monitored);
+    let spare = (4..).zip(spare).map(|(tone, gain)| (tone, 0, gain));
+    let tones = [equal(4, 2), spare.collect()].concat();
+    let name = format!("gaps-{monitored}-{silent}.txt");
+    tables(&name, "coded", tones.len(), &tones)
 }
 
 #[test]
 fn no_damaged_stream_is_told_wrongly() {
     let mut random = numbers(17);
-    for monitored in [1, 2, 5, 11, 12, 20] {
-        let set = even_set(monitored);
+    let without_silent = [1, 2, 5, 11, 12, 20].map(|monitored| (monitored, 0));
+    let with_silent = [(1, 2), (5, 1), (12, 1), (14, 3)];
+    for (monitored, silent) in without_silent.into_iter().chain(with_silent) {
+        let set = even_set(monitored, silent);
         let frames: Vec<String> = (0..60)
             .map(|number| format!("{:02x}", number % 4))
             .collect();

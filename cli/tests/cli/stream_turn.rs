@@ -1,7 +1,7 @@
 //! The register along a stream: carried, found, lost after a refusal; and no verdict that is wrong and
 //! sure.
 
-use crate::run::{frames, run_with, symbols, turned, verdicts};
+use crate::run::{equal, frames, run_with, symbols, symbols_of, tables, turned, verdicts};
 
 const A: &str = "examples/bench-a.txt";
 
@@ -123,6 +123,21 @@ fn some_tones_of_several_symbols_are_a_perhaps() {
                         .contains("monitored tones of several symbols give if none")
             );
         }
+    }
+}
+
+/// Where the trellis code tells, no count of tones makes a verdict less sure.
+#[test]
+fn an_odd_count_tells_however_many_symbols_there_are() {
+    let tones = [equal(5, 2), vec![(7, 0, 512)]].concat();
+    let set = tables("stream-odd.txt", "coded", 8, &tones);
+    for count in [1, 11, 12, 31, 32] {
+        let frames = vec!["05".to_string(); count];
+        let text: String = symbols_of(&set, &frames, "4711").join("\n");
+        let ran = run_with(text.as_bytes(), &["turn", &set, "-", "--register=find"]);
+        assert_eq!(ran.status, 0, "{}", ran.out);
+        let sure = ran.out.matches("Straight: ").count();
+        assert_eq!(sure, count, "{}", ran.out);
     }
 }
 

@@ -5,13 +5,14 @@ pub mod map;
 ghost use mathlib.Core.Path.{_≡_};
 ghost use Prim.Native.Nat.{_+_, _*_, _/_, _%_, _^_, _<_, _≤_};
 ghost use lib.Bits.{bitXor};
+ghost use lib.Dec.{eqb};
 ghost use Rattle.g9932.specs.Bits.{bits as lowestBits, num};
 ghost use Rattle.g9932.specs.Sizes.{point};
 ghost use Rattle.g9932.specs.Points.{pointOf, labelOf};
 ghost use Rattle.g9932.specs.Answers.{mapLabel, readPoint, mappedOf, labelledOf};
 ghost use Rattle.constellation.specs.Widened.{plainPairs, mappingLabel, topFour, widenedLabel, xBits, yBits, interleaved, signWeight, coordinateOf};
 ghost use Rattle.constellation.specs.Reading.{FoundLabelIs, RaisedCoordinate, NarrowedWord, ownLabel, topSix, inGrid};
-ghost use Rattle.constellation.specs.Layouts.{layoutList};
+ghost use Rattle.constellation.specs.Layouts.{silentLayout, layoutList};
 use g9932::Labelled;
 use g9932::Mapped;
 use g9932::Place;
@@ -36,13 +37,23 @@ const THREE_GRID: u64 = 0x0011_1010_0101_1100;
 
 const ODD_GRID: u64 = 0x035f_30fa_5f0c_fac0;
 
+// A silent tone's layout: see specs/Layouts.
+const SILENT: u16 = 0x81c0;
+
+// Whether a layout is a silent tone's.
+pub fn is_silent(layout: u16) -> bool
+    ensures { λ r. ⌜ r ≡ eqb layout silentLayout ⌝ }
+{
+    layout == SILENT
+}
+
 // The layouts of the bit counts 1 to 15, and for 0 a silent tone's: see specs/Layouts. A caller makes the table once and lends it to its
 // loop.
 pub fn layout_table() -> [u16; 16]
     ensures { λ r. ⌜ r ≡ layoutList ⌝ }
 {
     [
-        0x81c0,
+        SILENT,
         0x8140,
         0x0140,
         0x01c0,

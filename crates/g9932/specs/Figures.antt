@@ -1,4 +1,5 @@
--- Document 01, "Bench figures": the marked ones, of the definitions, as one claim.
+-- Document 01, "Bench figures": the marked ones, of the definitions, as one claim. The register of `silent0` is
+-- request R-2's, and that of `minusOne15` follows from its rule.
 use Prim.Native.Nat.{ℕ}
 use mathlib.Core.List.{List, [], _∷_, map}
 use mathlib.Core.Path.{_≡_}
@@ -48,8 +49,8 @@ pub record MarkedFigures : Type 0 where
   pub byte1 :
       (encoding (tableA 512) 1 .xs ≡ pos 3 ∷ minus 1 ∷ pos 1 ∷ minus 1 ∷ pos 1 ∷ pos 1 ∷ []) ×
       (encoding (tableA 512) 1 .ys ≡ pos 3 ∷ minus 1 ∷ pos 1 ∷ minus 1 ∷ pos 1 ∷ pos 1 ∷ [])
-  pub minusOne15 : readOf (tableA 0) allMinusOne allMinusOne resetRegister (0 ∷ []) ≡ record { report = done 5 resetRegister; frame = 15 ∷ [] }
-  pub silent0 : encoding (tableA 0) 0 .report ≡ done 5 resetRegister
+  pub minusOne15 : readOf (tableA 0) allMinusOne allMinusOne resetRegister (0 ∷ []) ≡ record { report = done 5 2_097_151; frame = 15 ∷ [] }
+  pub silent0 : encoding (tableA 0) 0 .report ≡ done 5 2_097_151
   pub five : tableVerdict fiveTones ≡ accepted 3
   pub five1 :
       (encoding fiveTones 1 .xs ≡ minus 1 ∷ minus 1 ∷ minus 1 ∷ minus 1 ∷ minus 1 ∷ []) ×

@@ -1,7 +1,7 @@
 -- The promises over the definitions of document 01: demand 3, in full; of demand 2, how many bits go on the tones, and which go where;
 -- and what else is shown of the definitions. That the code gives what they say is the `ensures` of each operation. Each proof cites
 -- the part that shows it. The words are those of specs/Words.antt and of crate g9932.
-use Prim.Native.Nat.{ℕ, _+_, _-_, _/_, _%_, _^_, _≤_, _<_}
+use Prim.Native.Nat.{ℕ, _+_, _-_, _*_, _/_, _%_, _^_, _≤_, _<_}
 use mathlib.Core.Bool.{Bool, true, cond, not}
 use mathlib.Core.List.{List, [], _∷_, map}
 use mathlib.Core.Logic.{_↔_, _≢_}
@@ -15,10 +15,11 @@ use Rattle.g9932.specs.Refusals.{numberOf, accepted, refused, tableVerdict}
 use Rattle.g9932.specs.Order.{sum, count, filter, oneBit, bitsOf, entryCount, entries, pairCount}
 use Rattle.g9932.specs.Trellis.{Word, zeroState, lowBits, lowBitsOf, sentBits}
 use Rattle.g9932.specs.Points.{pointOf, negated}
-use Rattle.g9932.specs.Filler.{nextRegister, drawn, registerAfter}
+use Rattle.g9932.specs.Filler.{nextRegister, drawn, afterDraws, registerAfter}
 use Rattle.g9932.specs.Symbol.{reorderedTonesOf, reorderedBitsOf, classesOf, pairsIn, sizeOf, sentIn, writtenPoints, firstMonitored}
 use Rattle.g9932.specs.Answers.{reorderOf, encodeOf, Read, readOf, toneDone, mapLabel, readPoint, drawAnswer}
 use Rattle.g9932.specs.Figures.{MarkedFigures}
+use Rattle.g9932.specs.declared.Class.the-variants.{Monitored, Silent}
 use Rattle.g9932.specs.declared.Found.the-variants.{At, Nothing}
 use Rattle.g9932.specs.declared.Mode.the-variants.{Uncoded, Coded}
 use Rattle.g9932.specs.declared.Refusal.{Refusal}
@@ -26,7 +27,7 @@ use Rattle.g9932.proofs.Figures as Figures
 use Rattle.g9932.proofs.Packed as Packed
 use Rattle.g9932.proofs.Reordering as Reordering
 use Rattle.g9932.proofs.Verdicts as Verdicts
-use Rattle.guarantees.specs.Words.{AcceptedTables, AcceptedFrame, ValidRegister, RightLength, Ready, nonZero, pairAt, wordsIn, stateAfter, labelsOf, lowest, lowestAt, oneBitTones, firstOfTwo, sharedEntry, table10-2, bitOne, fillerBit, turned}
+use Rattle.guarantees.specs.Words.{AcceptedTables, AcceptedFrame, ValidRegister, RightLength, Ready, nonZero, pairAt, wordsIn, stateAfter, labelsOf, lowest, lowestAt, oneBitTones, firstOfTwo, sharedEntry, table10-2, bitOne, zeroBitTones, fillerBit, turned}
 use Rattle.guarantees.proofs.Coded as Coded
 use Rattle.guarantees.proofs.EntryBits as EntryBits
 use Rattle.guarantees.proofs.HalfTurn as HalfTurn
@@ -264,6 +265,20 @@ filler-valid = Totals.filler-valid
 
 pub symbol-valid : (T : Tables) (r : ℕ) → ValidRegister r → ValidRegister (registerAfter r (classesOf T))
 symbol-valid = Totals.symbol-valid
+
+-- Every 0-bit tone draws two bits, monitored or silent: a symbol draws two for each one in t,
+pub symbol-draws : (T : Tables) (r : ℕ) → registerAfter r (classesOf T) ≡ afterDraws (2 * zeroBitTones T (T .tones)) r
+symbol-draws = Totals.symbol-draws
+
+-- a monitored tone has the point of the next two after those of the 0-bit tones before it in t',
+pub monitored-draws : (T : Tables) (r : ℕ) (f : List ℕ) (k : ℕ) → k < length (T .tones) → getD (classesOf T) k Silent ≡ Monitored
+    → getD (writtenPoints T r f) k origin ≡ pointOf 2 (drawn 2 (afterDraws (2 * zeroBitTones T (take k (reorderedTonesOf T))) r))
+monitored-draws = Totals.monitored-draws
+
+-- and a silent one has (0, 0).
+pub silent-point : (T : Tables) (r : ℕ) (f : List ℕ) (k : ℕ) → k < length (T .tones) → getD (classesOf T) k Silent ≡ Silent
+    → getD (writtenPoints T r f) k origin ≡ origin
+silent-point T r f k h = Totals.silent-point T r f k
 
 -- ---- the marked bench figures, as one claim (g9932/specs/Figures)
 

@@ -3,11 +3,11 @@ use Prim.Native.Nat.{ℕ, zero, suc, _+_, _*_, _-_, _/_, _<_}
 use mathlib.Core.Bool.{Bool, false, not}
 use mathlib.Core.List.{List, [], _∷_, _++_, map}
 use mathlib.Core.Path.{_≡_}
-use lib.Dec.{ltb}
+use lib.Dec.{ltb, eqb}
 use lib.IntN.{ℤ, pos, negsuc, negℤ}
 use lib.ListN.{length, take, drop, getD}
 use Rattle.g9932.specs.Bits.{bit, odd}
-use Rattle.g9932.specs.Sizes.{Tables, bytesFor, frameBits}
+use Rattle.g9932.specs.Sizes.{Tables, entry, bytesFor, frameBits}
 use Rattle.g9932.specs.Refusals.{tableVerdict, frameTest, seedTest}
 use Rattle.g9932.specs.Order.{Pair, pair, count, ones}
 use Rattle.g9932.specs.Trellis.{Word, zeroState, lastTwo, taken, lowBitsOf, nextOf, wordAt}
@@ -111,6 +111,10 @@ table10-2 =
 abbrev pub bitOne : ℤ → Bool
 bitOne (pos n) = odd (n / 2)
 bitOne (negsuc n) = not (odd (n / 2))
+
+-- how many of some tones have 0 bits
+abbrev pub zeroBitTones : Tables → List ℕ → ℕ
+zeroBitTones T t = count (λ k. eqb (entry (T .bits) k) 0) t
 
 -- dn, the n-th filler bit drawn from reset
 abbrev pub fillerBit : ℕ → Bool

@@ -1,13 +1,13 @@
 -- Points to labels by place, and these to frame bits.
 use Prim.Native.Nat.{ℕ, _+_, _*_, _≤_, _<_}
-use mathlib.Core.Bool.{Bool, true, false, not}
+use mathlib.Core.Bool.{Bool, true, false, _||_, not}
 use mathlib.Core.List.{List, [], _∷_, _++_}
 use mathlib.Core.Path.{_≡_}
 use lib.Dec.{eqb}
 use lib.IntN.{ℤ, pos}
 use lib.ListN.{length, getD}
 use Rattle.constellation.specs.DemapByLayout.{Demaps}
-use Rattle.constellation.specs.Layouts.{ToneLayout}
+use Rattle.constellation.specs.Layouts.{silentLayout, ToneLayout}
 use Rattle.frame.specs.Labels.{bitsOfLabels, Within, labelsAt, Rising}
 use Rattle.frame.specs.Written.{written, Waits, bitsPut}
 use Rattle.frame.specs.declared.BitWriter.{BitWriter}
@@ -17,6 +17,7 @@ use Rattle.g9932.specs.Order.{sum}
 use Rattle.g9932.specs.Sizes.{entry, Point, point}
 use Rattle.g9932.specs.declared.Found.{Found}
 use Rattle.g9932.specs.declared.Found.the-variants.{At, Nothing}
+use Rattle.mapper.specs.Writing.{FillerNeeds}
 use Rattle.mapper.specs.declared.read.FillerRead.{FillerRead}
 
 -- ---- points
@@ -63,14 +64,23 @@ pub record DemapsPoints (layouts : List ℕ) (xs ys : List ℤ) (labels : List �
 
 -- ---- filler bits
 
--- the first of the places whose label isn't the next two filler bits
-unfoldable pub wrongFiller : ℕ → List ℕ → List ℕ → Found → Found
-wrongFiller r [] ls found = found
-wrongFiller r (p ∷ ms) ls found = wrongFiller (afterDraws 2 r) ms ls (orAt found (not (eqb (entry ls p) (num (drawn 2 r)))) p)
+pub record CheckNeeds (ds layouts labels : List ℕ) : Type 0 where
+  pub filler : FillerNeeds ds labels
+  pub layoutsLength : length layouts ≡ length labels
 
-pub record ChecksFiller (ms : List ℕ) (r : ℕ) (labels : List ℕ) (f : FillerRead) : Type 0 where
-  pub monitorIs : f .monitor ≡ wrongFiller r ms labels Nothing
-  pub registerIs : f .register ≡ afterDraws (2 * length ms) r
+-- a label is the two bits that are drawn; or the tone is silent, and they are thrown away
+abbrev pub passesFiller : ℕ → ℕ → ℕ → Bool
+passesFiller layout l two = eqb layout silentLayout || eqb l two
+
+-- the first of the places that draw that does not pass, each with the next two filler bits
+unfoldable pub wrongFiller : ℕ → List ℕ → List ℕ → List ℕ → Found → Found
+wrongFiller r [] layouts ls found = found
+wrongFiller r (p ∷ ds) layouts ls found =
+    wrongFiller (afterDraws 2 r) ds layouts ls (orAt found (not (passesFiller (entry layouts p) (entry ls p) (num (drawn 2 r)))) p)
+
+pub record ChecksFiller (ds layouts : List ℕ) (r : ℕ) (labels : List ℕ) (f : FillerRead) : Type 0 where
+  pub monitorIs : f .monitor ≡ wrongFiller r ds layouts labels Nothing
+  pub registerIs : f .register ≡ afterDraws (2 * length ds) r
 
 -- ---- labels that two tones of 1 bit share
 

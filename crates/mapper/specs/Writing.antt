@@ -34,17 +34,17 @@ splitOnes (a ∷ b ∷ ls) = (a % 2) ∷ (a / 2) ∷ splitOnes ls
 
 -- ---- filler bits
 
-pub record FillerNeeds (ms labels : List ℕ) : Type 0 where
-  pub below : (k : ℕ) → k < length ms → entry ms k < length labels
+pub record FillerNeeds (ds labels : List ℕ) : Type 0 where
+  pub below : (k : ℕ) → k < length ds → entry ds k < length labels
 
 -- the labels with the next two filler bits at each of the places, in turn
 abbrev pub withFiller : ℕ → List ℕ → List ℕ → List ℕ
 withFiller r [] ls = ls
-withFiller r (p ∷ ms) ls = withFiller (afterDraws 2 r) ms (set ls p (num (drawn 2 r)))
+withFiller r (p ∷ ds) ls = withFiller (afterDraws 2 r) ds (set ls p (num (drawn 2 r)))
 
-pub record SetsFiller (ms : List ℕ) (r : ℕ) (labels : List ℕ) (next : ℕ) (after : List ℕ) : Type 0 where
-  pub registerIs : next ≡ afterDraws (2 * length ms) r
-  pub labelsAre : after ≡ withFiller r ms labels
+pub record SetsFiller (ds : List ℕ) (r : ℕ) (labels : List ℕ) (next : ℕ) (after : List ℕ) : Type 0 where
+  pub registerIs : next ≡ afterDraws (2 * length ds) r
+  pub labelsAre : after ≡ withFiller r ds labels
 
 -- ---- points
 

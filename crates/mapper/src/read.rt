@@ -6,8 +6,7 @@ ghost use lib.ListN.{length, take, drop};
 ghost use Rattle.g9932.specs.Bits.{orAt};
 ghost use Rattle.g9932.specs.Sizes.{entry};
 ghost use Prim.Native.Nat.{_<_};
-ghost use Rattle.mapper.specs.Writing.{FillerNeeds};
-ghost use Rattle.mapper.specs.Reading.{joinOnes, DemapNeeds, DemapAllNeeds, DemapsAll, pointAt, OnOrOff, OffAt, DemapsPoints, ChecksFiller, JoinNeeds, CollectNeeds, CollectsLabels};
+ghost use Rattle.mapper.specs.Reading.{joinOnes, DemapNeeds, DemapAllNeeds, DemapsAll, pointAt, OnOrOff, OffAt, DemapsPoints, CheckNeeds, ChecksFiller, JoinNeeds, CollectNeeds, CollectsLabels};
 use frame::BitWriter;
 use frame::by_place::label_at;
 use frame::by_place::place_at;
@@ -75,7 +74,7 @@ pub struct FillerRead {
     pub register: u32,
 }
 
-// What was found already, or else a place where it fails.
+// What was found already, or else the place, where the test fails there.
 fn or_here(found: Found, holds: bool, p: Place) -> Found
     ensures { λ r. ⌜ r ≡ orAt found (not holds) (p .0) ⌝ }
 {
@@ -90,18 +89,22 @@ fn or_here(found: Found, holds: bool, p: Place) -> Found
     }
 }
 
-// Compares the labels of the monitored places with their filler bits. Called by proved code only.
-pub fn check_filler(monitored: &[u16], register: u32, labels: &[u16]) -> FillerRead
-    requires { ⌜ FillerNeeds (now monitored) (now labels) ⌝ }
-    ensures { λ r. ⌜ ChecksFiller (now (monitored .entry)) register (now (labels .entry)) r ⌝ }
+// Compares the labels of the places that draw with their filler bits, but for silent tones, whose bits are thrown away. Called by proved
+// code only.
+pub fn check_filler(drawing: &[u16], layouts: &[u16], register: u32, labels: &[u16]) -> FillerRead
+    requires { ⌜ CheckNeeds (now drawing) (now layouts) (now labels) ⌝ }
+    ensures { λ r. ⌜ ChecksFiller (now (drawing .entry)) (now (layouts .entry)) register (now (labels .entry)) r ⌝ }
 {
     let mut monitor = Found::Nothing;
     let mut next = register;
     let mut k = 0;
-    while k < monitored.len() {
-        let p = place_at(monitored, k);
+    while k < drawing.len() {
+        let p = place_at(drawing, k);
+        let at = p.0;
         let f = prbs::filler_label(next);
-        monitor = or_here(monitor, label_at(labels, p) as u32 == f.label, p);
+        let silent = constellation::is_silent(layouts[at]);
+        let same = label_at(labels, p) as u32 == f.label;
+        monitor = or_here(monitor, silent | same, p);
         next = f.register;
         k += 1;
     }

@@ -42,16 +42,17 @@ pub fn split_shared(labels: &mut [u16], shared_from: Place)
     }
 }
 
-// Puts the filler bits of the monitored places, and answers the register after the draws. Called by proved code only.
-pub fn set_filler(monitored: &[u16], register: u32, labels: &mut [u16]) -> u32
-    requires { ⌜ FillerNeeds (now monitored) (now labels) ⌝ }
-    ensures { λ r. ⌜ SetsFiller (now (monitored .entry)) register (now (labels .entry)) r (now (labels .exit)) ⌝ }
+// Puts the filler bits of the places that draw, and answers the register after the draws. A silent tone's label does not count: its
+// layout alone gives its point. Called by proved code only.
+pub fn set_filler(drawing: &[u16], register: u32, labels: &mut [u16]) -> u32
+    requires { ⌜ FillerNeeds (now drawing) (now labels) ⌝ }
+    ensures { λ r. ⌜ SetsFiller (now (drawing .entry)) register (now (labels .entry)) r (now (labels .exit)) ⌝ }
 {
     let mut next = register;
     let mut k = 0;
-    while k < monitored.len() {
+    while k < drawing.len() {
         let f = prbs::filler_label(next);
-        put_label(labels, place_at(monitored, k), f.label as u16);
+        put_label(labels, place_at(drawing, k), f.label as u16);
         next = f.register;
         k += 1;
     }

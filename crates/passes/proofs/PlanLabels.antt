@@ -79,7 +79,7 @@ rises-append (p ∷ ps) qs m a b c d (suc j) (suc k) l h =
 
 -- ---- a plan
 
-module _ {cs : List Class} {from : ℕ} {es ps ms layouts : List ℕ} (p : PlanOf cs from es ps ms layouts) where
+module _ {cs : List Class} {from : ℕ} {es ps ds layouts : List ℕ} (p : PlanOf cs from es ps ds layouts) where
   abbrev bs : List ℕ
   bs = map load (p .own)
 
@@ -223,7 +223,7 @@ module _ {cs : List Class} {from : ℕ} {es ps ms layouts : List ℕ} (p : PlanO
       take-joined = take-at (take from ls) (joinOnes (drop from ls)) from front-count
 
 -- reading: labels by place, joined where they are shared
-module _ {cs : List Class} {from : ℕ} {es ps ms layouts : List ℕ} (p : PlanOf cs from es ps ms layouts) (ls : List ℕ) (n : length ls ≡ length cs)
+module _ {cs : List Class} {from : ℕ} {es ps ds layouts : List ℕ} (p : PlanOf cs from es ps ds layouts) (ls : List ℕ) (n : length ls ≡ length cs)
     (small : (k : ℕ) → k < length cs → 1 ≤ entry (map load cs) k → entry ls k < 2 ^ entry (map load cs) k) where
   pub by-entry : bitsOfLabels es (labelsAt ps (joined p ls n)) ≡ bitsOfLabels (map load cs) ls
   by-entry =

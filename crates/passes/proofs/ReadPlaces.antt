@@ -1,10 +1,9 @@
 -- Reading points to labels by place, and these to a frame: what the steps ask, and what they find.
 use Prim.Native.Nat.{ℕ, _+_, _-_, _*_, _^_, _≤_, _<_}
-use mathlib.Core.Bool.{Bool}
+use mathlib.Core.Bool.{Bool, true}
 use mathlib.Core.List.{List, _++_, map}
 use mathlib.Core.Path.{_≡_, refl, sym, ap, _∙_}
 use native.Mathlib.Omega.{arith}
-use lib.Dec.{eqb}
 use lib.IntN.{ℤ}
 use lib.ListN.{length, take, getD, length-map, length-drop}
 use lib.Seq.{getD-drop}
@@ -21,19 +20,19 @@ use Rattle.g9932.specs.Bits.{num, bits, first}
 use Rattle.g9932.specs.Filler.{drawn, afterDraws}
 use Rattle.g9932.specs.Order.{pairsOf}
 use Rattle.g9932.specs.Sizes.{entry, origin, points, unpack}
-use Rattle.g9932.specs.Symbol.{load, isMonitored, isFiller, offgridTest, monitorTest}
+use Rattle.g9932.specs.Symbol.{load, isFiller, offgridTest, monitorTest}
 use Rattle.g9932.specs.Trellis.{readingOf}
 use Rattle.g9932.specs.declared.Class.{Class}
-use Rattle.g9932.specs.declared.Class.the-variants.{Monitored, Silent}
+use Rattle.g9932.specs.declared.Class.the-variants.{Silent}
 use Rattle.g9932.specs.declared.Found.{Found}
 use Rattle.g9932.specs.declared.Found.the-variants.{At, Nothing}
 use Rattle.g9932.specs.declared.Mode.{Mode}
 use Rattle.g9932.specs.declared.Mode.the-variants.{Uncoded, Coded}
 use Rattle.g9932.specs.declared.Place.{Place}
 use Rattle.g9932.specs.declared.Refusal.the-variants.{Offgrid, Monitor}
-use Rattle.mapper.specs.Reading.{DemapAllNeeds, LabelIs, DemapsPoints, wrongFiller, ChecksFiller, JoinNeeds, CollectNeeds, CollectsLabels}
-use Rattle.mapper.specs.Writing.{FillerNeeds}
+use Rattle.mapper.specs.Reading.{DemapAllNeeds, LabelIs, DemapsPoints, CheckNeeds, passesFiller, wrongFiller, ChecksFiller, JoinNeeds, CollectNeeds, CollectsLabels}
 use Rattle.mapper.specs.declared.read.FillerRead.{FillerRead}
+use Rattle.plan.specs.Plan.{isDrawing}
 use Rattle.passes.specs.ReadSymbol.{ReadPlacesSupposes, ReadsPlaces, HeldFits, ReadFrameSupposes, ReadsFrame}
 use Rattle.passes.specs.declared.read.PlacesRead.the-variants.{Refused, Done}
 use Rattle.decoder.specs.Reading.{ReadLabelNeeds as TrellisNeeds, ReadsLabels}
@@ -44,16 +43,19 @@ use Rattle.passes.proofs.SymbolPoints.{class-at, load-at, tone-layout, 
 
 -- ---- the places
 
-module _ {cs : List Class} {from : ℕ} {es ps ms layouts labels : List ℕ} {xs ys : List ℤ} (w : ReadPlacesSupposes cs from es ps ms layouts labels xs ys) where
+module _ {cs : List Class} {from : ℕ} {es ps ds layouts labels : List ℕ} {xs ys : List ℤ} (w : ReadPlacesSupposes cs from es ps ds layouts labels xs ys) where
   same : length ys ≡ length xs
   same = w .ysLength ∙ sym (w .xsLength)
+
+  layouts-count : length layouts ≡ length cs
+  layouts-count = ap length (w .plan .layoutsAre) ∙ length-map cs classLayout
 
   pub demap-needs : DemapAllNeeds layouts xs ys labels
   demap-needs =
       record {
         points =
             record {
-              layoutsLength = ap length (w .plan .layoutsAre) ∙ length-map cs classLayout ∙ sym (w .xsLength);
+              layoutsLength = layouts-count ∙ sym (w .xsLength);
               ysLength = same;
               ofTones = λ k h.
                   let i : k < length cs = rw (w .xsLength) at h in
@@ -62,13 +64,17 @@ module _ {cs : List Class} {from : ℕ} {es ps ms layouts labels : List ℕ} {xs
         labelsLength = w .labelsLength ∙ sym (w .xsLength);
       }
 
-  pub filler-needs : (ls : List ℕ) → length ls ≡ length cs → FillerNeeds ms ls
-  filler-needs ls n =
+  pub check-needs : (ls : List ℕ) → length ls ≡ length cs → CheckNeeds ds layouts ls
+  check-needs ls n =
       record {
-        below = λ k h.
-            let m = w .plan .monitoredAre in
-            let i = where-inside isMonitored 0 cs k (rw m at h) in
-            rw m (omega (arith, i .1));
+        filler =
+            record {
+              below = λ k h.
+                  let m = w .plan .drawingAre in
+                  let i = where-inside isDrawing 0 cs k (rw m at h) in
+                  rw m (omega (arith, i .1));
+            };
+        layoutsLength = layouts-count ∙ sym n;
       }
 
   module _ {ls : List ℕ} {f : Found} (d : DemapsPoints layouts xs ys ls f) where
@@ -79,15 +85,16 @@ module _ {cs : List Class} {from : ℕ} {es ps ms layouts labels : List ℕ} {xs
     pub off-found : {k : Place} → f ≡ At (k .0) → (r : ℕ) → ReadsPlaces cs r (points xs ys) (Refused (Offgrid k)) ls
     off-found e r = record { answer = found-here 13 _ (sym offgrid-is ∙ e) }
 
-    module _ (on : f ≡ Nothing) {r : ℕ} {c : FillerRead} (k : ChecksFiller ms r ls c) where
+    module _ (on : f ≡ Nothing) {r : ℕ} {c : FillerRead} (k : ChecksFiller ds layouts r ls c) where
       label : (i : ℕ) → i < length cs → LabelIs (classLayout (getD cs i Silent)) (getD (points xs ys) i origin) (entry ls i)
       label = label-is cs (w .plan .carries) xs ys (w .xsLength) same ls (rw (w .plan .layoutsAre) at (d .labelled on))
 
-      tells : (i : ℕ) → i < length cs → getD cs i Silent ≡ Monitored → (s : ℕ) → eqb (entry ls i) (num (drawn 2 s)) ≡ isFiller Monitored s (getD (points xs ys) i origin)
-      tells i h mon s = tells-filler (getD (points xs ys) i origin) (entry ls i) (rw mon at (label i h)) s
+      tells : (i : ℕ) → i < length cs → isDrawing (getD cs i Silent) ≡ true → (s : ℕ)
+          → passesFiller (entry layouts i) (entry ls i) (num (drawn 2 s)) ≡ isFiller (getD cs i Silent) s (getD (points xs ys) i origin)
+      tells i h e s = rw (w .plan .layoutsAre, class-at cs i h) (tells-filler (getD cs i Silent) (getD (points xs ys) i origin) (entry ls i) e (label i h) s)
 
       monitor-is : c .monitor ≡ first (monitorTest r cs (points xs ys)) (length cs)
-      monitor-is = k .monitorIs ∙ ap (λ (l : List ℕ). wrongFiller r l ls Nothing) (w .plan .monitoredAre) ∙ wrong-first r cs (points xs ys) ls tells
+      monitor-is = k .monitorIs ∙ ap (λ (l : List ℕ). wrongFiller r l layouts ls Nothing) (w .plan .drawingAre) ∙ wrong-first r cs (points xs ys) layouts ls tells
 
       -- 14
       pub filler-found : {j : Place} → c .monitor ≡ At (j .0) → ReadsPlaces cs r (points xs ys) (Refused (Monitor j)) ls
@@ -100,7 +107,7 @@ module _ {cs : List Class} {from : ℕ} {es ps ms layouts labels : List ℕ} {xs
             answer =
                 record {
                   passed = found-past 13 (sym offgrid-is ∙ on) (found-past 14 (sym monitor-is ∙ e) refl);
-                  registerIs = k .registerIs ∙ ap (λ (l : List ℕ). afterDraws (2 * length l) r) (w .plan .monitoredAre) ∙ register-places cs 0 r;
+                  registerIs = k .registerIs ∙ ap (λ (l : List ℕ). afterDraws (2 * length l) r) (w .plan .drawingAre) ∙ register-places cs 0 r;
                   labelsAre =
                       record {
                         bitsAre = gathered cs (points xs ys) ls (length-points xs ys (sym same) ∙ w .xsLength) n
@@ -113,7 +120,7 @@ module _ {cs : List Class} {from : ℕ} {es ps ms layouts labels : List ℕ} {xs
 
 -- ---- the frame
 
-module _ {m : Mode} {cs : List Class} {d : List Bool} {from : ℕ} {es ps ms layouts labels held : List ℕ} (w : ReadFrameSupposes m cs d from es ps ms layouts labels held) where
+module _ {m : Mode} {cs : List Class} {d : List Bool} {from : ℕ} {es ps ds layouts labels held : List ℕ} (w : ReadFrameSupposes m cs d from es ps ds layouts labels held) where
   abbrev small : (k : ℕ) → k < length cs → 1 ≤ entry (map load cs) k → entry labels k < 2 ^ entry (map load cs) k
   small = w .labelled .small
 

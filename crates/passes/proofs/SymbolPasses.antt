@@ -36,8 +36,8 @@ module _ (part l : List ℕ) (n : ℕ) (h : n ≤ length l) (e : length part ≡
 
 -- ---- writing
 
-pub points-of : {T : Tables} {m : Mode} {from : ℕ} {f es ps ms layouts labels after sliced : List ℕ} {xs ys : List ℤ} → WriteSymbolSupposes T m from f es ps ms layouts labels xs ys
-    → length after ≡ length labels → sliced ≡ after → EntryLabels (sentFor m f 0 es) es ps after → WritePointsSupposes (classesOf T) (sentIn T f) from es ps ms layouts sliced xs ys
+pub points-of : {T : Tables} {m : Mode} {from : ℕ} {f es ps ds layouts labels after sliced : List ℕ} {xs ys : List ℤ} → WriteSymbolSupposes T m from f es ps ds layouts labels xs ys
+    → length after ≡ length labels → sliced ≡ after → EntryLabels (sentFor m f 0 es) es ps after → WritePointsSupposes (classesOf T) (sentIn T f) from es ps ds layouts sliced xs ys
 points-of s n is l =
     rw is
     (record {
@@ -50,11 +50,11 @@ points-of s n is l =
 
 -- ---- reading
 
-module _ {T : Tables} {m : Mode} {from size : ℕ} {es ps ms layouts labels held f : List ℕ} {xs ys : List ℤ} (s : ReadSymbolSupposes T m from size es ps ms layouts xs ys labels held f) where
-  pub places-of : ReadPlacesSupposes (classesOf T) from es ps ms layouts labels xs ys
+module _ {T : Tables} {m : Mode} {from size : ℕ} {es ps ds layouts labels held f : List ℕ} {xs ys : List ℤ} (s : ReadSymbolSupposes T m from size es ps ds layouts xs ys labels held f) where
+  pub places-of : ReadPlacesSupposes (classesOf T) from es ps ds layouts labels xs ys
   places-of = record { plan = s .plan; labelsLength = s .labelsLength; xsLength = s .xsLength; ysLength = s .ysLength }
 
-  module _ {r : ℕ} {t : PlacesRead} {after : List ℕ} (places : ReadsAnyPlaces ms layouts labels xs ys r t after) where
+  module _ {r : ℕ} {t : PlacesRead} {after : List ℕ} (places : ReadsAnyPlaces ds layouts labels xs ys r t after) where
     found : PlacesBy (classesOf T) r (points xs ys) t after
     found = places (classesOf T) from es ps places-of .answer
 
@@ -68,12 +68,12 @@ module _ {T : Tables} {m : Mode} {from size : ℕ} {es ps ms layouts labels held
       done : PlacesDone (classesOf T) r (points xs ys) k after
       done = rw e at found
 
-      pub frame-of : ReadFrameSupposes m (classesOf T) (gatherBits (classesOf T) (points xs ys)) from es ps ms layouts sliced held
+      pub frame-of : ReadFrameSupposes m (classesOf T) (gatherBits (classesOf T) (points xs ys)) from es ps ds layouts sliced held
       frame-of = rw is (record { plan = s .plan; labelled = done .labelsAre; heldFits = s .heldFits })
 
       module _ {b : Found} {stored : List ℕ} (frames : ReadsAnyFrame m from es ps sliced held b stored) where
         reads : ReadsFrame m es (gatherBits (classesOf T) (points xs ys)) b stored
-        reads = frames (classesOf T) _ ms layouts frame-of
+        reads = frames (classesOf T) _ ds layouts frame-of
 
         breaks-at : b ≡ breakIn (readingIn T (points xs ys))
         breaks-at = reads .brokenIs ∙ ap breakIn (s .readings (points xs ys))

@@ -1,10 +1,9 @@
 -- The points of a symbol from the labels by place, and the labels from the points.
 use Prim.Native.Nat.{ℕ, zero, suc, _^_, _≤_, _<_}
-use mathlib.Core.Bool.{Bool, true, false, not}
+use mathlib.Core.Bool.{Bool, true, false, not, true≢false}
 use mathlib.Core.List.{List, [], _∷_, _++_, map}
 use mathlib.Core.Path.{_≡_, refl, sym, ap, _∙_}
 use native.Mathlib.Omega.{arith}
-use lib.Dec.{eqb}
 use lib.IntN.{ℤ, pos}
 use lib.ListN.{length, take, getD, length-map, List·getD-map}
 use lib.Seq.{take-at, drop-at, take-length, ext-getD}
@@ -24,8 +23,8 @@ use Rattle.g9932.specs.declared.Class.{Class}
 use Rattle.g9932.specs.declared.Class.the-variants.{Data, Monitored, Silent}
 use Rattle.g9932.specs.declared.Found.{Found}
 use Rattle.g9932.specs.declared.Found.the-variants.{At, Nothing}
-use Rattle.mapper.specs.Reading.{pointAt, LabelIs, OffAt}
-use Rattle.plan.specs.Plan.{ClassBits}
+use Rattle.mapper.specs.Reading.{pointAt, LabelIs, OffAt, passesFiller}
+use Rattle.plan.specs.Plan.{ClassBits, isDrawing}
 use Rattle.passes.proofs.FillerPlaces.{filled}
 use Rattle.passes.proofs.OneTone.{label-read, filler-read}
 
@@ -78,10 +77,14 @@ label-small (Data n) p l h d m = let is = sought-on n p l (h .0) (h .1) d in lab
 label-small Monitored p l h d m = absurd (omega arith)
 label-small Silent p l h d m = absurd (omega arith)
 
-pub tells-filler : (p : Point) (l : ℕ) → LabelIs (classLayout Monitored) p l → (s : ℕ) → eqb l (num (drawn 2 s)) ≡ isFiller Monitored s p
-tells-filler p l d s =
+-- of a tone that draws, the label passes 14 exactly where the point does
+pub tells-filler : (c : Class) (p : Point) (l : ℕ) → isDrawing c ≡ true → LabelIs (classLayout c) p l → (s : ℕ)
+    → passesFiller (classLayout c) l (num (drawn 2 s)) ≡ isFiller c s p
+tells-filler (Data n) p l e d s = absurd (true≢false (sym e))
+tells-filler Monitored p l e d s =
     let is = sought-on 2 p l (omega arith) (omega arith) d in
     filler-read s (num (drawn 2 s)) p (record { found = true; label = l }) is refl
+tells-filler Silent p l e d s = refl
 
 -- a point is in a tone's constellation exactly where it has a label by the tone's layout
 on-by : (c : Class) (p : Point) (o : Bool) (l : ℕ) → ClassBits c → Demaps (classLayout c) p (record { on = o; label = l }) → o ≡ inConstellation c p

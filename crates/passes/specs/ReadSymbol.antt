@@ -29,15 +29,15 @@ use Rattle.passes.specs.declared.read.PlacesRead.the-variants.{Refused, 
 -- ---- the places
 
 -- the points are to be read by the plan of some classes
-pub record ReadPlacesSupposes (cs : List Class) (from : ℕ) (es ps ms layouts labels : List ℕ) (xs ys : List ℤ) : Type 0 where
-  pub plan : PlanOf cs from es ps ms layouts
+pub record ReadPlacesSupposes (cs : List Class) (from : ℕ) (es ps ds layouts labels : List ℕ) (xs ys : List ℤ) : Type 0 where
+  pub plan : PlanOf cs from es ps ds layouts
   pub labelsLength : length labels ≡ length cs
   pub xsLength : length xs ≡ length cs
   pub ysLength : length ys ≡ length cs
 
 abbrev pub ReadPlacesNeeds : List ℕ → List ℕ → List ℕ → List ℤ → List ℤ → Type 0
-ReadPlacesNeeds ms layouts labels xs ys =
-    (cs : List Class) × (from : ℕ) × (es : List ℕ) × (ps : List ℕ) × ReadPlacesSupposes cs from es ps ms layouts labels xs ys
+ReadPlacesNeeds ds layouts labels xs ys =
+    (cs : List Class) × (from : ℕ) × (es : List ℕ) × (ps : List ℕ) × ReadPlacesSupposes cs from es ps ds layouts labels xs ys
 
 -- labels by place: those of the tones' bits, none larger than the bits of its tone allow where it has data
 pub record ToneLabels (cs : List Class) (d : List Bool) (labels : List ℕ) : Type 0 where
@@ -60,8 +60,8 @@ pub record ReadsPlaces (cs : List Class) (r : ℕ) (q : List Point) (t : PlacesR
 
 -- whatever classes they are
 abbrev pub ReadsAnyPlaces : List ℕ → List ℕ → List ℕ → List ℤ → List ℤ → ℕ → PlacesRead → List ℕ → Type 0
-ReadsAnyPlaces ms layouts labels xs ys r t after =
-    (cs : List Class) (from : ℕ) (es ps : List ℕ) → ReadPlacesSupposes cs from es ps ms layouts labels xs ys → ReadsPlaces cs r (points xs ys) t after
+ReadsAnyPlaces ds layouts labels xs ys r t after =
+    (cs : List Class) (from : ℕ) (es ps : List ℕ) → ReadPlacesSupposes cs from es ps ds layouts labels xs ys → ReadsPlaces cs r (points xs ys) t after
 
 -- ---- the frame
 
@@ -71,14 +71,14 @@ HeldFits Uncoded es n = ((k : ℕ) → entry es k ≤ 15) × (sum es + 64 ≤ 8 
 HeldFits Coded es n = Wide es × (4 ≤ length es) × (length es ≤ mostTones) × (takenTotal (pairsOf es) + 64 ≤ 8 * n)
 
 -- the labels are those of some classes and their bits
-pub record ReadFrameSupposes (m : Mode) (cs : List Class) (d : List Bool) (from : ℕ) (es ps ms layouts labels held : List ℕ) : Type 0 where
-  pub plan : PlanOf cs from es ps ms layouts
+pub record ReadFrameSupposes (m : Mode) (cs : List Class) (d : List Bool) (from : ℕ) (es ps ds layouts labels held : List ℕ) : Type 0 where
+  pub plan : PlanOf cs from es ps ds layouts
   pub labelled : ToneLabels cs d labels
   pub heldFits : HeldFits m es (length held)
 
 abbrev pub ReadFrameNeeds : Mode → ℕ → List ℕ → List ℕ → List ℕ → List ℕ → Type 0
 ReadFrameNeeds m from es ps labels held =
-    (cs : List Class) × (d : List Bool) × (ms : List ℕ) × (layouts : List ℕ) × ReadFrameSupposes m cs d from es ps ms layouts labels held
+    (cs : List Class) × (d : List Bool) × (ds : List ℕ) × (layouts : List ℕ) × ReadFrameSupposes m cs d from es ps ds layouts labels held
 
 pub record ReadsFrame (m : Mode) (es : List ℕ) (d : List Bool) (broken : Found) (after : List ℕ) : Type 0 where
   pub brokenIs : broken ≡ breakIn (readingOf m (pairsOf es) d)
@@ -87,13 +87,13 @@ pub record ReadsFrame (m : Mode) (es : List ℕ) (d : List Bool) (broken : Found
 -- whatever classes and bits they are
 abbrev pub ReadsAnyFrame : Mode → ℕ → List ℕ → List ℕ → List ℕ → List ℕ → Found → List ℕ → Type 0
 ReadsAnyFrame m from es ps labels held broken after =
-    (cs : List Class) (d : List Bool) (ms layouts : List ℕ) → ReadFrameSupposes m cs d from es ps ms layouts labels held → ReadsFrame m es d broken after
+    (cs : List Class) (d : List Bool) (ds layouts : List ℕ) → ReadFrameSupposes m cs d from es ps ds layouts labels held → ReadsFrame m es d broken after
 
 -- ---- a whole symbol
 
 -- the points are to be read by the plan of some tables
-pub record ReadSymbolSupposes (T : Tables) (m : Mode) (from size : ℕ) (es ps ms layouts : List ℕ) (xs ys : List ℤ) (labels held f : List ℕ) : Type 0 where
-  pub plan : PlanOf (classesOf T) from es ps ms layouts
+pub record ReadSymbolSupposes (T : Tables) (m : Mode) (from size : ℕ) (es ps ds layouts : List ℕ) (xs ys : List ℤ) (labels held f : List ℕ) : Type 0 where
+  pub plan : PlanOf (classesOf T) from es ps ds layouts
   pub labelsLength : length labels ≡ length (classesOf T)
   pub xsLength : length xs ≡ length (classesOf T)
   pub ysLength : length ys ≡ length (classesOf T)
@@ -108,13 +108,13 @@ pub record ReadSymbolSupposes (T : Tables) (m : Mode) (from size : ℕ) (es ps m
 
 -- the same, of arrays that begin with the lists of the plan
 abbrev pub ReadSymbolBy : Tables → Mode → PlanSizes → ℕ → List ℕ → List ℕ → List ℕ → List ℕ → List ℤ → List ℤ → List ℕ → List ℕ → List ℕ → Type 0
-ReadSymbolBy T m p n layouts entries places monitored xs ys labels held f =
-    ReadSymbolSupposes T m (p .«shared_from» .0) (p .size) (take (p .«entry_count») entries) (take (p .«entry_count») places) (take (p .«monitored_count») monitored) (take n layouts) xs ys (take n labels) held f
+ReadSymbolBy T m p n layouts entries places drawing xs ys labels held f =
+    ReadSymbolSupposes T m (p .«shared_from» .0) (p .size) (take (p .«entry_count») entries) (take (p .«entry_count») places) (take (p .«drawing_count») drawing) (take n layouts) xs ys (take n labels) held f
 
-pub record ReadSymbolNeeds (m : Mode) (p : PlanSizes) (n : ℕ) (layouts entries places monitored : List ℕ) (xs ys : List ℤ) (labels held f : List ℕ) : Type 0 where
-  pub fits : PlanFits p n layouts entries places monitored labels
+pub record ReadSymbolNeeds (m : Mode) (p : PlanSizes) (n : ℕ) (layouts entries places drawing : List ℕ) (xs ys : List ℤ) (labels held f : List ℕ) : Type 0 where
+  pub fits : PlanFits p n layouts entries places drawing labels
   pub tables : Tables
-  pub planned : ReadSymbolBy tables m p n layouts entries places monitored xs ys labels held f
+  pub planned : ReadSymbolBy tables m p n layouts entries places drawing xs ys labels held f
 
 pub record ReadsPoints (T : Tables) (q : List Point) (r : ℕ) (before : List ℕ) (a : Answer) (after : List ℕ) : Type 0 where
   pub answer : reportOf a ≡ reportBy (pointsVerdict T q r) r (registerAfter r (classesOf T))
@@ -122,5 +122,5 @@ pub record ReadsPoints (T : Tables) (q : List Point) (r : ℕ) (before : List �
 
 -- whatever tables they are
 abbrev pub ReadsAnySymbol : Mode → PlanSizes → ℕ → List ℕ → List ℕ → List ℕ → List ℕ → List ℤ → List ℤ → List ℕ → List ℕ → List ℕ → ℕ → Answer → List ℕ → Type 0
-ReadsAnySymbol m p n layouts entries places monitored xs ys labels held f r a after =
-    (T : Tables) → ReadSymbolBy T m p n layouts entries places monitored xs ys labels held f → ReadsPoints T (points xs ys) r f a after
+ReadsAnySymbol m p n layouts entries places drawing xs ys labels held f r a after =
+    (T : Tables) → ReadSymbolBy T m p n layouts entries places drawing xs ys labels held f → ReadsPoints T (points xs ys) r f a after

@@ -40,16 +40,16 @@ pub record EntryLabels (d : List Bool) (es ps labels : List ℕ) : Type 0 where
 -- ---- the points of labels
 
 -- the labels are those of some classes and their bits
-pub record WritePointsSupposes (cs : List Class) (d : List Bool) (from : ℕ) (es ps ms layouts labels : List ℕ) (xs ys : List ℤ) : Type 0 where
-  pub plan : PlanOf cs from es ps ms layouts
+pub record WritePointsSupposes (cs : List Class) (d : List Bool) (from : ℕ) (es ps ds layouts labels : List ℕ) (xs ys : List ℤ) : Type 0 where
+  pub plan : PlanOf cs from es ps ds layouts
   pub labelled : EntryLabels d es ps labels
   pub labelsLength : length labels ≡ length cs
   pub xsLength : length xs ≡ length cs
   pub ysLength : length ys ≡ length cs
 
 abbrev pub WritePointsNeeds : ℕ → List ℕ → List ℕ → List ℕ → List ℤ → List ℤ → Type 0
-WritePointsNeeds from ms layouts labels xs ys =
-    (cs : List Class) × (d : List Bool) × (es : List ℕ) × (ps : List ℕ) × WritePointsSupposes cs d from es ps ms layouts labels xs ys
+WritePointsNeeds from ds layouts labels xs ys =
+    (cs : List Class) × (d : List Bool) × (es : List ℕ) × (ps : List ℕ) × WritePointsSupposes cs d from es ps ds layouts labels xs ys
 
 pub record WritesPoints (cs : List Class) (r : ℕ) (d : List Bool) (after : ℕ) (xsAfter ysAfter : List ℤ) : Type 0 where
   pub xsHold : xsAfter ≡ map (λ p. p .px) (writePoints r cs d)
@@ -58,14 +58,14 @@ pub record WritesPoints (cs : List Class) (r : ℕ) (d : List Bool) (after : ℕ
 
 -- whatever classes and bits they are
 abbrev pub WritesAnyPoints : ℕ → List ℕ → List ℕ → List ℕ → List ℤ → List ℤ → ℕ → ℕ → List ℤ → List ℤ → Type 0
-WritesAnyPoints from ms layouts labels xs ys r after xsAfter ysAfter =
-    (cs : List Class) (d : List Bool) (es ps : List ℕ) → WritePointsSupposes cs d from es ps ms layouts labels xs ys → WritesPoints cs r d after xsAfter ysAfter
+WritesAnyPoints from ds layouts labels xs ys r after xsAfter ysAfter =
+    (cs : List Class) (d : List Bool) (es ps : List ℕ) → WritePointsSupposes cs d from es ps ds layouts labels xs ys → WritesPoints cs r d after xsAfter ysAfter
 
 -- ---- a whole symbol
 
 -- the frame is to be written by the plan of some tables
-pub record WriteSymbolSupposes (T : Tables) (m : Mode) (from : ℕ) (f es ps ms layouts labels : List ℕ) (xs ys : List ℤ) : Type 0 where
-  pub plan : PlanOf (classesOf T) from es ps ms layouts
+pub record WriteSymbolSupposes (T : Tables) (m : Mode) (from : ℕ) (f es ps ds layouts labels : List ℕ) (xs ys : List ℤ) : Type 0 where
+  pub plan : PlanOf (classesOf T) from es ps ds layouts
   pub labelNeeds : LabelFrameNeeds m f 0 es ps labels
   pub sent : sentFor m f 0 es ≡ sentIn T f
   pub labelsLength : length labels ≡ length (classesOf T)
@@ -74,15 +74,15 @@ pub record WriteSymbolSupposes (T : Tables) (m : Mode) (from : ℕ) (f es ps ms 
 
 -- the same, of arrays that begin with the lists of the plan
 abbrev pub WriteSymbolBy : Tables → Mode → PlanSizes → ℕ → List ℕ → List ℕ → List ℕ → List ℕ → List ℕ → List ℕ → List ℤ → List ℤ → Type 0
-WriteSymbolBy T m p n f layouts entries places monitored labels xs ys =
-    WriteSymbolSupposes T m (p .«shared_from» .0) f (take (p .«entry_count») entries) (take (p .«entry_count») places) (take (p .«monitored_count») monitored) (take n layouts) (take n labels) xs ys
+WriteSymbolBy T m p n f layouts entries places drawing labels xs ys =
+    WriteSymbolSupposes T m (p .«shared_from» .0) f (take (p .«entry_count») entries) (take (p .«entry_count») places) (take (p .«drawing_count») drawing) (take n layouts) (take n labels) xs ys
 
-pub record WriteSymbolNeeds (m : Mode) (p : PlanSizes) (n : ℕ) (f layouts entries places monitored labels : List ℕ) (xs ys : List ℤ) : Type 0 where
-  pub fits : PlanFits p n layouts entries places monitored labels
+pub record WriteSymbolNeeds (m : Mode) (p : PlanSizes) (n : ℕ) (f layouts entries places drawing labels : List ℕ) (xs ys : List ℤ) : Type 0 where
+  pub fits : PlanFits p n layouts entries places drawing labels
   pub tables : Tables
-  pub planned : WriteSymbolBy tables m p n f layouts entries places monitored labels xs ys
+  pub planned : WriteSymbolBy tables m p n f layouts entries places drawing labels xs ys
 
 -- whatever tables they are
 abbrev pub WritesAnySymbol : Mode → PlanSizes → ℕ → List ℕ → List ℕ → List ℕ → List ℕ → List ℕ → List ℕ → List ℤ → List ℤ → ℕ → ℕ → List ℤ → List ℤ → Type 0
-WritesAnySymbol m p n f layouts entries places monitored labels xs ys r after xsAfter ysAfter =
-    (T : Tables) → WriteSymbolBy T m p n f layouts entries places monitored labels xs ys → WritesPoints (classesOf T) r (sentIn T f) after xsAfter ysAfter
+WritesAnySymbol m p n f layouts entries places drawing labels xs ys r after xsAfter ysAfter =
+    (T : Tables) → WriteSymbolBy T m p n f layouts entries places drawing labels xs ys → WritesPoints (classesOf T) r (sentIn T f) after xsAfter ysAfter

@@ -15,23 +15,23 @@ pub enum PlacesRead {
 }
 
 // The labels of the points by place, or 13 at the first one off its constellation, or else 14 at the first monitored one whose label is
-// not the filler bits.
+// not its filler bits.
 fn read_places(
-    monitored: &[u16],
+    drawing: &[u16],
     layouts: &[u16],
     xs: &[i16],
     ys: &[i16],
     register: u32,
     labels: &mut [u16],
 ) -> PlacesRead
-    requires { ⌜ ReadPlacesNeeds (now monitored) (now layouts) (now labels) (now xs) (now ys) ⌝ }
-    ensures { λ r. ⌜ ReadsAnyPlaces (now (monitored .entry)) (now (layouts .entry)) (now (labels .entry)) (now (xs .entry)) (now (ys .entry)) register r (now (labels .exit)) ⌝ }
+    requires { ⌜ ReadPlacesNeeds (now drawing) (now layouts) (now labels) (now xs) (now ys) ⌝ }
+    ensures { λ r. ⌜ ReadsAnyPlaces (now (drawing .entry)) (now (layouts .entry)) (now (labels .entry)) (now (xs .entry)) (now (ys .entry)) register r (now (labels .exit)) ⌝ }
 {
     let offgrid = mapper::read::demap_points(layouts, xs, ys, labels);
     if let Found::At(k) = offgrid {
         return PlacesRead::Refused(Refusal::Offgrid(Place(k)));
     }
-    let f = mapper::read::check_filler(monitored, register, labels);
+    let f = mapper::read::check_filler(drawing, layouts, register, labels);
     let monitor = f.monitor;
     if let Found::At(k) = monitor {
         return PlacesRead::Refused(Refusal::Monitor(Place(k)));
@@ -81,7 +81,7 @@ pub fn read_symbol(
     layouts: &[u16],
     entries: &[u8],
     places: &[u16],
-    monitored: &[u16],
+    drawing: &[u16],
     xs: &[i16],
     ys: &[i16],
     register: u32,
@@ -89,14 +89,14 @@ pub fn read_symbol(
     held: &mut [u8],
     frame: &mut [u8],
 ) -> Answer
-    requires { ⌜ ReadSymbolNeeds mode p n (now layouts) (now entries) (now places) (now monitored) (now xs) (now ys) (now labels) (now held) (now frame) ⌝ }
-    ensures { λ r. ⌜ ReadsAnySymbol mode p n (now (layouts .entry)) (now (entries .entry)) (now (places .entry)) (now (monitored .entry))
+    requires { ⌜ ReadSymbolNeeds mode p n (now layouts) (now entries) (now places) (now drawing) (now xs) (now ys) (now labels) (now held) (now frame) ⌝ }
+    ensures { λ r. ⌜ ReadsAnySymbol mode p n (now (layouts .entry)) (now (entries .entry)) (now (places .entry)) (now (drawing .entry))
         (now (xs .entry)) (now (ys .entry)) (now (labels .entry)) (now (held .entry)) (now (frame .entry)) register r (now (frame .exit)) ⌝ }
 {
     let e = p.entry_count;
-    let m = p.monitored_count;
+    let d = p.drawing_count;
     let t = read_places(
-        &monitored[..m],
+        &drawing[..d],
         &layouts[..n],
         xs,
         ys,

@@ -25,18 +25,18 @@ fn label_frame(
 // The points of labels at their entries' places, and the register after the draws. From place `shared_from` on two tones share a label.
 fn write_points(
     shared_from: Place,
-    monitored: &[u16],
+    drawing: &[u16],
     layouts: &[u16],
     register: u32,
     labels: &mut [u16],
     xs: &mut [i16],
     ys: &mut [i16],
 ) -> u32
-    requires { ⌜ WritePointsNeeds («shared_from» .0) (now monitored) (now layouts) (now labels) (now xs) (now ys) ⌝ }
-    ensures { λ r. ⌜ WritesAnyPoints («shared_from» .0) (now (monitored .entry)) (now (layouts .entry)) (now (labels .entry)) (now (xs .entry)) (now (ys .entry)) register r (now (xs .exit)) (now (ys .exit)) ⌝ }
+    requires { ⌜ WritePointsNeeds («shared_from» .0) (now drawing) (now layouts) (now labels) (now xs) (now ys) ⌝ }
+    ensures { λ r. ⌜ WritesAnyPoints («shared_from» .0) (now (drawing .entry)) (now (layouts .entry)) (now (labels .entry)) (now (xs .entry)) (now (ys .entry)) register r (now (xs .exit)) (now (ys .exit)) ⌝ }
 {
     mapper::write::split_shared(labels, shared_from);
-    let after = mapper::write::set_filler(monitored, register, labels);
+    let after = mapper::write::set_filler(drawing, register, labels);
     mapper::write::put_points(layouts, labels, xs, ys);
     after
 }
@@ -52,17 +52,17 @@ pub fn write_symbol(
     layouts: &[u16],
     entries: &[u8],
     places: &[u16],
-    monitored: &[u16],
+    drawing: &[u16],
     labels: &mut [u16],
     xs: &mut [i16],
     ys: &mut [i16],
 ) -> u32
-    requires { ⌜ WriteSymbolNeeds mode p n (now frame) (now layouts) (now entries) (now places) (now monitored) (now labels) (now xs) (now ys) ⌝ }
-    ensures { λ r. ⌜ WritesAnySymbol mode p n (now (frame .entry)) (now (layouts .entry)) (now (entries .entry)) (now (places .entry)) (now (monitored .entry))
+    requires { ⌜ WriteSymbolNeeds mode p n (now frame) (now layouts) (now entries) (now places) (now drawing) (now labels) (now xs) (now ys) ⌝ }
+    ensures { λ r. ⌜ WritesAnySymbol mode p n (now (frame .entry)) (now (layouts .entry)) (now (entries .entry)) (now (places .entry)) (now (drawing .entry))
         (now (labels .entry)) (now (xs .entry)) (now (ys .entry)) register r (now (xs .exit)) (now (ys .exit)) ⌝ }
 {
     let e = p.entry_count;
-    let m = p.monitored_count;
+    let d = p.drawing_count;
     label_frame(
         mode,
         frame,
@@ -73,7 +73,7 @@ pub fn write_symbol(
     );
     write_points(
         p.shared_from,
-        &monitored[..m],
+        &drawing[..d],
         &layouts[..n],
         register,
         &mut labels[..n],

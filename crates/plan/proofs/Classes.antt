@@ -40,9 +40,9 @@ classes-bits b g [] most k h = absurd (omega arith)
 classes-bits b g (a ∷ t) most zero h = class-bits (entry b a) (entry g a) (most a)
 classes-bits b g (a ∷ t) most (suc k) h = classes-bits b g t most k (omega arith)
 
-pub plan-of : (T : Tables) (p : PlanSizes) {layouts entries places monitored : List ℕ} → ((k : ℕ) → entry (T .bits) k ≤ 15) → sharing (T .mode) (T .bits) (T .tones) % 2 ≡ 0
-    → PlanIs T p layouts entries places monitored
-    → PlanOf (classesOf T) (p .«shared_from» .0) (take (p .«entry_count») entries) (take (p .«entry_count») places) (take (p .«monitored_count») monitored) (take (length (T .tones)) layouts)
+pub plan-of : (T : Tables) (p : PlanSizes) {layouts entries places drawing : List ℕ} → ((k : ℕ) → entry (T .bits) k ≤ 15) → sharing (T .mode) (T .bits) (T .tones) % 2 ≡ 0
+    → PlanIs T p layouts entries places drawing
+    → PlanOf (classesOf T) (p .«shared_from» .0) (take (p .«entry_count») entries) (take (p .«entry_count») places) (take (p .«drawing_count») drawing) (take (length (T .tones)) layouts)
 plan-of T p most even is =
     let m = T .mode in
     let b = T .bits in
@@ -61,6 +61,6 @@ plan-of T p most even is =
       carries = classes-bits b g (reorderedTones m b t) most;
       entriesAre = is .entriesAre ∙ ap (λ (l : List ℕ). l ++ replicate (sharing m b t / 2) 2) (plan-entries m b g t);
       placesAre = is .placesAre ∙ ap₂ (λ (l : List ℕ) (k : ℕ). l ++ everySecond k (sharing m b t / 2)) (plan-places m b g t) (sym (is .sharedIs));
-      monitoredAre = is .monitoredAre;
+      drawingAre = is .drawingAre;
       layoutsAre = is .layoutsAre;
     }

@@ -15,10 +15,10 @@ use Rattle.g9932.proofs.Words.{weight-le}
 use Rattle.g9932.specs.Bits.{weight}
 use Rattle.g9932.specs.Order.{consIf, filter}
 use Rattle.g9932.specs.Sizes.{entry, toneOf, classBy}
-use Rattle.g9932.specs.Symbol.{load, isMonitored, classAt, classesBy}
+use Rattle.g9932.specs.Symbol.{load, classAt, classesBy}
 use Rattle.g9932.specs.declared.Class.the-variants.{Data, Monitored, Silent}
 use Rattle.g9932.specs.declared.Class.{Class}
-use Rattle.plan.specs.Plan.{ClassBits, isPlaced, placesWhere, everySecond, FilesTone, Filing, Shares}
+use Rattle.plan.specs.Plan.{ClassBits, isDrawing, isPlaced, placesWhere, everySecond, FilesEmpty, FilesTone, Filing, Shares}
 use Rattle.plan.specs.declared.filing.Cursors.{Cursors}
 
 -- the class of a tone, by its bits
@@ -52,72 +52,66 @@ no-more l e = sym (append-nil (take e l))
 
 -- ---- what one tone adds
 
-module _ (least : ℕ) (at : Cursors) (layouts entries places monitored : List ℕ) where
+-- one that draws has no data, and a place of its own
+draws-placed : (least : ℕ) (c : Class) → isDrawing c ≡ true → (load c ≡ 0) × (isPlaced least c ≡ true)
+draws-placed least (Data b) e = let z : _≡_ {A = ℕ} 0 1 = cc in absurd (omega arith)
+draws-placed least Monitored e = (refl, refl)
+draws-placed least Silent e = (refl, refl)
+
+module _ (least : ℕ) (at : Cursors) (layouts entries places drawing : List ℕ) where
   pub files-data : (b x : ℕ) → leb least b ≡ true → x ≡ classLayout (Data b) → at .place .0 < length layouts → at .entry < length entries → at .entry < length places
-      → FilesTone least (Data b) at layouts entries places monitored (record { place = record { 0 = at .place .0 + 1 }; entry = at .entry + 1; monitored = at .monitored })
-      (set layouts (at .place .0) x) (set entries (at .entry) b) (set places (at .entry) (at .place .0)) monitored
+      → FilesTone least (Data b) at layouts entries places drawing (record { place = record { 0 = at .place .0 + 1 }; entry = at .entry + 1; drawing = at .drawing })
+      (set layouts (at .place .0) x) (set entries (at .entry) b) (set places (at .entry) (at .place .0)) drawing
   unfolding weight
   files-data b x own is lt et pt =
       record {
         placeIs = rw own;
         entryIs = rw own;
-        monitoredIs = omega arith;
+        drawingIs = omega arith;
         layoutsAre = rw (own, is) (more layouts (at .place .0) (classLayout (Data b)) lt);
         entriesAre = rw own (more entries (at .entry) b et);
         placesAre = rw own (more places (at .entry) (at .place .0) pt);
-        monitoredAre = no-more monitored (at .monitored);
+        drawingAre = no-more drawing (at .drawing);
       }
 
   -- a tone that shares
-  pub files-none : (b : ℕ) → leb least b ≡ false → FilesTone least (Data b) at layouts entries places monitored at layouts entries places monitored
+  pub files-none : (b : ℕ) → leb least b ≡ false → FilesTone least (Data b) at layouts entries places drawing at layouts entries places drawing
   unfolding weight
   files-none b not =
       record {
         placeIs = rw not (omega arith);
         entryIs = rw not (omega arith);
-        monitoredIs = omega arith;
+        drawingIs = omega arith;
         layoutsAre = rw not (no-more layouts (at .place .0));
         entriesAre = rw not (no-more entries (at .entry));
         placesAre = rw not (no-more places (at .entry));
-        monitoredAre = no-more monitored (at .monitored);
+        drawingAre = no-more drawing (at .drawing);
       }
 
-  pub files-monitored : (x : ℕ) → leb least 0 ≡ false → x ≡ classLayout Monitored → at .place .0 < length layouts → at .monitored < length monitored
-      → FilesTone least Monitored at layouts entries places monitored (record { place = record { 0 = at .place .0 + 1 }; entry = at .entry; monitored = at .monitored + 1 })
-      (set layouts (at .place .0) x) entries places (set monitored (at .monitored) (at .place .0))
+  -- a tone without data
+  pub files-empty : (c : Class) → isDrawing c ≡ true → leb least 0 ≡ false → (x : ℕ) → x ≡ classLayout c → at .place .0 < length layouts → at .drawing < length drawing
+      → {r : Cursors} {layoutsAfter drawingAfter : List ℕ} → FilesEmpty x at layouts drawing r layoutsAfter drawingAfter
+      → FilesTone least c at layouts entries places drawing r layoutsAfter entries places drawingAfter
   unfolding weight
-  files-monitored x not is lt mt =
+  files-empty c empty not x is lt dt f =
+      let z = draws-placed least c empty in
       record {
-        placeIs = refl;
-        entryIs = rw not (omega arith);
-        monitoredIs = refl;
-        layoutsAre = rw is (more layouts (at .place .0) (classLayout Monitored) lt);
-        entriesAre = rw not (no-more entries (at .entry));
-        placesAre = rw not (no-more places (at .entry));
-        monitoredAre = more monitored (at .monitored) (at .place .0) mt;
-      }
-
-  pub files-silent : (x : ℕ) → leb least 0 ≡ false → x ≡ classLayout Silent → at .place .0 < length layouts
-      → FilesTone least Silent at layouts entries places monitored (record { place = record { 0 = at .place .0 + 1 }; entry = at .entry; monitored = at .monitored }) (set layouts (at .place .0) x) entries places monitored
-  unfolding weight
-  files-silent x not is lt =
-      record {
-        placeIs = refl;
-        entryIs = rw not (omega arith);
-        monitoredIs = omega arith;
-        layoutsAre = rw is (more layouts (at .place .0) (classLayout Silent) lt);
-        entriesAre = rw not (no-more entries (at .entry));
-        placesAre = rw not (no-more places (at .entry));
-        monitoredAre = no-more monitored (at .monitored);
+        placeIs = rw (z .1) (f .placeIs);
+        entryIs = rw (z .0, not) (f .entryIs ∙ omega arith);
+        drawingIs = rw empty (f .drawingIs);
+        layoutsAre = rw (z .1, f .placeIs, f .layoutsAre, is) (more layouts (at .place .0) (classLayout c) lt);
+        entriesAre = rw (z .0, not, f .entryIs) (no-more entries (at .entry));
+        placesAre = rw (z .0, not, f .entryIs) (no-more places (at .entry));
+        drawingAre = rw (empty, f .drawingIs, f .drawingAre) (more drawing (at .drawing) (at .place .0) dt);
       }
 
 -- ---- a tone more
 
-module _ (least : ℕ) (cs : List Class) {at r : Cursors} {layouts entries places monitored layoutsAfter entriesAfter placesAfter monitoredAfter : List ℕ} (c : Class)
-    (f : Filing least cs at layouts entries places monitored)
-    (w : FilesTone least c at layouts entries places monitored r layoutsAfter entriesAfter placesAfter monitoredAfter) where
+module _ (least : ℕ) (cs : List Class) {at r : Cursors} {layouts entries places drawing layoutsAfter entriesAfter placesAfter drawingAfter : List ℕ} (c : Class)
+    (f : Filing least cs at layouts entries places drawing)
+    (w : FilesTone least c at layouts entries places drawing r layoutsAfter entriesAfter placesAfter drawingAfter) where
   -- at a place of its own
-  placed : isPlaced least c ≡ true → Filing least (cs ++ (c ∷ [])) r layoutsAfter entriesAfter placesAfter monitoredAfter
+  placed : isPlaced least c ≡ true → Filing least (cs ++ (c ∷ [])) r layoutsAfter entriesAfter placesAfter drawingAfter
   unfolding weight
   placed here =
       let one : r .place .0 ≡ at .place .0 + 1 = w .placeIs ∙ ap (λ (b : Bool). at .place .0 + weight b) here in
@@ -135,41 +129,41 @@ module _ (least : ℕ) (cs : List Class) {at r : Cursors} {layouts entries place
             w .placesAre
             ∙ ap (λ (l : List ℕ). l ++ consIf (leb least (load c)) (at .place .0) []) (f .placesAre)
             ∙ sym (ap (placesWhere (leb least) 0) z ∙ places-append (leb least) 0 (map load cs) (load c ∷ []) ∙ rw n);
-        monitoredAre =
-            w .monitoredAre
-            ∙ ap (λ (l : List ℕ). l ++ consIf (isMonitored c) (at .place .0) []) (f .monitoredAre)
-            ∙ sym (places-append isMonitored 0 cs (c ∷ []) ∙ rw m);
+        drawingAre =
+            w .drawingAre
+            ∙ ap (λ (l : List ℕ). l ++ consIf (isDrawing c) (at .place .0) []) (f .drawingAre)
+            ∙ sym (places-append isDrawing 0 cs (c ∷ []) ∙ rw m);
         entryMost = omega (arith, f .entryMost, w .entryIs, weight-le (leb least (load c)));
-        monitoredMost = omega (arith, f .monitoredMost, w .monitoredIs, weight-le (isMonitored c));
+        drawingMost = omega (arith, f .drawingMost, w .drawingIs, weight-le (isDrawing c));
       }
 
   -- among those that share: it adds nothing
-  passed : (c : Class) → isPlaced least c ≡ false → (leb least (load c) ≡ false) × (isMonitored c ≡ false)
+  passed : (c : Class) → isPlaced least c ≡ false → (leb least (load c) ≡ false) × (isDrawing c ≡ false)
   passed (Data b) e = (e, refl)
   passed Monitored e = let z : _≡_ {A = ℕ} 0 1 = cc in absurd (omega arith)
   passed Silent e = let z : _≡_ {A = ℕ} 0 1 = cc in absurd (omega arith)
 
-  skipped : isPlaced least c ≡ false → Filing least cs r layoutsAfter entriesAfter placesAfter monitoredAfter
+  skipped : isPlaced least c ≡ false → Filing least cs r layoutsAfter entriesAfter placesAfter drawingAfter
   unfolding weight
   skipped not =
       let q = passed c not in
       let a : r .place .0 ≡ at .place .0 + 0 = w .placeIs ∙ ap (λ (b : Bool). at .place .0 + weight b) not in
       let b : r .entry ≡ at .entry + 0 = w .entryIs ∙ ap (λ (b : Bool). at .entry + weight b) (q .0) in
-      let d : r .monitored ≡ at .monitored + 0 = w .monitoredIs ∙ ap (λ (b : Bool). at .monitored + weight b) (q .1) in
+      let d : r .drawing ≡ at .drawing + 0 = w .drawingIs ∙ ap (λ (b : Bool). at .drawing + weight b) (q .1) in
       record {
         placeIs = omega (arith, f .placeIs);
         layoutsAre = w .layoutsAre ∙ rw not (append-nil (take (at .place .0) layouts)) ∙ f .layoutsAre;
         entriesAre = w .entriesAre ∙ rw (q .0) (append-nil (take (at .entry) entries)) ∙ f .entriesAre;
         placesAre = w .placesAre ∙ rw (q .0) (append-nil (take (at .entry) places)) ∙ f .placesAre;
-        monitoredAre = w .monitoredAre ∙ rw (q .1) (append-nil (take (at .monitored) monitored)) ∙ f .monitoredAre;
+        drawingAre = w .drawingAre ∙ rw (q .1) (append-nil (take (at .drawing) drawing)) ∙ f .drawingAre;
         entryMost = omega (arith, f .entryMost);
-        monitoredMost = omega (arith, f .monitoredMost);
+        drawingMost = omega (arith, f .drawingMost);
       }
 
-  pub tone-more : Filing least (cs ++ filter (isPlaced least) (c ∷ [])) r layoutsAfter entriesAfter placesAfter monitoredAfter
+  pub tone-more : Filing least (cs ++ filter (isPlaced least) (c ∷ [])) r layoutsAfter entriesAfter placesAfter drawingAfter
   tone-more = go (isPlaced least c) refl
     where
-      go : (b : Bool) → isPlaced least c ≡ b → Filing least (cs ++ consIf b c []) r layoutsAfter entriesAfter placesAfter monitoredAfter
+      go : (b : Bool) → isPlaced least c ≡ b → Filing least (cs ++ consIf b c []) r layoutsAfter entriesAfter placesAfter drawingAfter
       go true e = placed e
       go false e = rw (append-nil cs) (skipped e)
 

@@ -13,12 +13,12 @@ use Rattle.g9932.proofs.Reordering.{length-order}
 use Rattle.g9932.proofs.Sent.{single-classes}
 use Rattle.g9932.specs.Order.{consIf, filter, isOne, oneBit, others, singles, ones, reorderedTones}
 use Rattle.g9932.specs.Sizes.{tables, entry, toneOf, classBy}
-use Rattle.g9932.specs.Symbol.{load, isMonitored, classAt, classesBy}
+use Rattle.g9932.specs.Symbol.{load, classAt, classesBy}
 use Rattle.g9932.specs.declared.Class.{Class}
 use Rattle.g9932.specs.declared.Class.the-variants.{Data, Monitored, Silent}
 use Rattle.g9932.specs.declared.Mode.{Mode}
 use Rattle.g9932.specs.declared.Mode.the-variants.{Uncoded, Coded}
-use Rattle.plan.specs.Plan.{leastOwn, placesWhere, everySecond, sharedFrom, PlanIs, isPlaced, Filing, Shares}
+use Rattle.plan.specs.Plan.{leastOwn, isDrawing, placesWhere, everySecond, sharedFrom, PlanIs, isPlaced, Filing, Shares}
 use Rattle.tables.specs.Modes.{sharing}
 use Rattle.plan.specs.declared.filing.Cursors.{Cursors}
 use Rattle.plan.proofs.Steps.{places-append}
@@ -114,17 +114,17 @@ module _ (m : Mode) (b g t : List ℕ) where
       ap (placesWhere (leb (leastOwn m)) 0) plan-loads ∙ places-append (leb (leastOwn m)) 0 (map load cs) (map load ends)
       ∙ rw (entry-places-tail (0 + length (map load cs))) (append-nil (placesWhere (leb (leastOwn m)) 0 (map load cs)))
 
-  plan-monitored : placesWhere isMonitored 0 (classesBy b g (reorderedTones m b t)) ≡ placesWhere isMonitored 0 cs
-  plan-monitored =
-      ap (placesWhere isMonitored 0) (classes-plan m b g t) ∙ places-append isMonitored 0 cs ends
-      ∙ rw (places-tail isMonitored (Data 1) refl (sharing m b t) (0 + length cs)) (append-nil (placesWhere isMonitored 0 cs))
+  plan-drawing : placesWhere isDrawing 0 (classesBy b g (reorderedTones m b t)) ≡ placesWhere isDrawing 0 cs
+  plan-drawing =
+      ap (placesWhere isDrawing 0) (classes-plan m b g t) ∙ places-append isDrawing 0 cs ends
+      ∙ rw (places-tail isDrawing (Data 1) refl (sharing m b t) (0 + length cs)) (append-nil (placesWhere isDrawing 0 cs))
 
   -- the lists as filed, with the shared entries behind them
-  pub plan-is : (sharers size : ℕ) (at : Cursors) (layouts entries places monitored layoutsAfter entriesAfter placesAfter : List ℕ)
-      → sharers ≡ sharing m b t → sharers % 2 ≡ 0 → Filing (leastOwn m) cs at layouts entries places monitored
+  pub plan-is : (sharers size : ℕ) (at : Cursors) (layouts entries places drawing layoutsAfter entriesAfter placesAfter : List ℕ)
+      → sharers ≡ sharing m b t → sharers % 2 ≡ 0 → Filing (leastOwn m) cs at layouts entries places drawing
       → Shares (layoutOf 1) (at .place .0) (sharers / 2) (at .entry) layouts entries places layoutsAfter entriesAfter placesAfter
-      → PlanIs (tables m b g t) (record { size = size; «entry_count» = at .entry + sharers / 2; «shared_from» = at .place; «monitored_count» = at .monitored }) layoutsAfter entriesAfter placesAfter monitored
-  plan-is sharers size at layouts entries places monitored layoutsAfter entriesAfter placesAfter o even f s =
+      → PlanIs (tables m b g t) (record { size = size; «entry_count» = at .entry + sharers / 2; «shared_from» = at .place; «drawing_count» = at .drawing }) layoutsAfter entriesAfter placesAfter drawing
+  plan-is sharers size at layouts entries places drawing layoutsAfter entriesAfter placesAfter o even f s =
       let n = placed-count in
       let two : 2 * (sharers / 2) ≡ sharing m b t = omega arith in
       let all : at .place .0 + 2 * (sharers / 2) ≡ length t = omega (arith, f .placeIs) in
@@ -134,9 +134,9 @@ module _ (m : Mode) (b g t : List ℕ) where
         sharedIs = from;
         entriesAre = s .entriesAre ∙ ap₂ (λ (k l : List ℕ). k ++ l) (f .entriesAre ∙ sym plan-entries) (ap (λ (n : ℕ). replicate (n / 2) 2) o);
         placesAre = s .placesAre ∙ ap₂ (λ (k l : List ℕ). k ++ l) (f .placesAre ∙ sym plan-places) (ap₂ (λ (p n : ℕ). everySecond p (n / 2)) from o);
-        monitoredAre = f .monitoredAre ∙ sym plan-monitored;
+        drawingAre = f .drawingAre ∙ sym plan-drawing;
         entriesMost = omega (arith, f .entryMost, f .placeIs);
-        monitoredMost = omega (arith, f .monitoredMost, f .placeIs);
+        drawingMost = omega (arith, f .drawingMost, f .placeIs);
       }
 
 pub least-own : (m : Mode) → 1 ≤ leastOwn m

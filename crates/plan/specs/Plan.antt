@@ -3,14 +3,15 @@ use Prim.Native.Nat.{ℕ, zero, suc, _+_, _-_, _*_, _/_, _%_, _≤_, _<_}
 use mathlib.Core.Bool.{Bool, true}
 use mathlib.Core.List.{List, [], _∷_, _++_, map}
 use mathlib.Core.Path.{_≡_}
-use lib.Dec.{leb}
-use lib.ListN.{length, take, replicate}
+use lib.Dec.{ltb, leb}
+use lib.ListN.{length, take, set, replicate}
 use Rattle.constellation.specs.Layouts.{classLayout}
 use Rattle.g9932.specs.Bits.{weight}
+use Rattle.g9932.specs.Filler.{draws}
 use Rattle.g9932.specs.Order.{consIf, filter}
 use Rattle.g9932.specs.Refusals.{numberOf, placeOf, Verdict, refused, accepted, tableVerdict}
 use Rattle.g9932.specs.Sizes.{Tables, entry, mostTones}
-use Rattle.g9932.specs.Symbol.{load, isMonitored, classesOf}
+use Rattle.g9932.specs.Symbol.{load, classesOf}
 use Rattle.g9932.specs.declared.Class.{Class}
 use Rattle.g9932.specs.declared.Class.the-variants.{Data, Monitored, Silent}
 use Rattle.g9932.specs.declared.Mode.{Mode}
@@ -54,9 +55,12 @@ entriesIn T = filter (leb (leastOwn (T .mode))) (map load (classesOf T)) ++ repl
 abbrev pub placesIn : Tables → List ℕ
 placesIn T = placesWhere (leb (leastOwn (T .mode))) 0 (map load (classesOf T)) ++ everySecond (sharedFrom T) (sharing (T .mode) (T .bits) (T .tones) / 2)
 
--- the monitored places
-abbrev pub monitoredIn : Tables → List ℕ
-monitoredIn T = placesWhere isMonitored 0 (classesOf T)
+-- the places that draw filler bits: those of the 0-bit tones
+abbrev pub isDrawing : Class → Bool
+isDrawing c = ltb 0 (draws c)
+
+abbrev pub drawingIn : Tables → List ℕ
+drawingIn T = placesWhere isDrawing 0 (classesOf T)
 
 -- ---- what planning answers
 
@@ -64,35 +68,35 @@ abbrev pub plannedVerdict : Planned → Verdict
 plannedVerdict (Lists p) = accepted (p .size)
 plannedVerdict (Refused x) = refused (numberOf x) (placeOf x)
 
-pub record PlanIs (T : Tables) (p : PlanSizes) (layouts entries places monitored : List ℕ) : Type 0 where
+pub record PlanIs (T : Tables) (p : PlanSizes) (layouts entries places drawing : List ℕ) : Type 0 where
   pub layoutsAre : take (length (T .tones)) layouts ≡ layoutsIn T
   pub sharedIs : p .«shared_from» .0 ≡ sharedFrom T
   pub entriesAre : take (p .«entry_count») entries ≡ entriesIn T
   pub placesAre : take (p .«entry_count») places ≡ placesIn T
-  pub monitoredAre : take (p .«monitored_count») monitored ≡ monitoredIn T
+  pub drawingAre : take (p .«drawing_count») drawing ≡ drawingIn T
   pub entriesMost : p .«entry_count» ≤ length (T .tones)
-  pub monitoredMost : p .«monitored_count» ≤ length (T .tones)
+  pub drawingMost : p .«drawing_count» ≤ length (T .tones)
 
 abbrev pub Made : Tables → Planned → List ℕ → List ℕ → List ℕ → List ℕ → Type 0
-Made T (Lists p) layouts entries places monitored = PlanIs T p layouts entries places monitored
-Made T (Refused x) layouts entries places monitored = Unit {0}
+Made T (Lists p) layouts entries places drawing = PlanIs T p layouts entries places drawing
+Made T (Refused x) layouts entries places drawing = Unit {0}
 
 -- the answer, and where nothing is refused the four lists
-pub record Plans (T : Tables) (r : Planned) (layouts entries places monitored : List ℕ) : Type 0 where
+pub record Plans (T : Tables) (r : Planned) (layouts entries places drawing : List ℕ) : Type 0 where
   pub answer : plannedVerdict r ≡ tableVerdict T
-  pub made : Made T r layouts entries places monitored
+  pub made : Made T r layouts entries places drawing
 
 -- ---- filing the tones
 
 -- the four lists, in arrays long enough for any tables
-pub record Arrays (layouts entries places monitored : List ℕ) : Type 0 where
+pub record Arrays (layouts entries places drawing : List ℕ) : Type 0 where
   pub layoutsLength : length layouts ≡ mostTones
   pub entriesLength : length entries ≡ mostTones
   pub placesLength : length places ≡ mostTones
-  pub monitoredLength : length monitored ≡ mostTones
+  pub drawingLength : length drawing ≡ mostTones
 
-pub record PlanNeeds (m : Mode) (sharers : ℕ) (b g t layouts entries places monitored : List ℕ) : Type 0 where
-  pub arrays : Arrays layouts entries places monitored
+pub record PlanNeeds (m : Mode) (sharers : ℕ) (b g t layouts entries places drawing : List ℕ) : Type 0 where
+  pub arrays : Arrays layouts entries places drawing
   pub below : Below (length b) t
   pub bitsMost : (k : ℕ) → entry b k ≤ 15
   pub gains : length g ≡ length b
@@ -112,38 +116,53 @@ isPlaced least (Data b) = leb least b
 isPlaced least Monitored = true
 isPlaced least Silent = true
 
+-- a tone without data: its place fits two of the lists, and goes into both
+pub record EmptyNeeds (at : Cursors) (layouts drawing : List ℕ) : Type 0 where
+  pub layoutsLength : length layouts ≡ mostTones
+  pub drawingLength : length drawing ≡ mostTones
+  pub placeMost : at .place .0 < mostTones
+  pub entryMost : at .entry ≤ at .place .0
+  pub drawingMost : at .drawing ≤ at .place .0
+
+pub record FilesEmpty (layout : ℕ) (at : Cursors) (layouts drawing : List ℕ) (r : Cursors) (layoutsAfter drawingAfter : List ℕ) : Type 0 where
+  pub placeIs : r .place .0 ≡ at .place .0 + 1
+  pub entryIs : r .entry ≡ at .entry
+  pub drawingIs : r .drawing ≡ at .drawing + 1
+  pub layoutsAre : layoutsAfter ≡ set layouts (at .place .0) layout
+  pub drawingAre : drawingAfter ≡ set drawing (at .drawing) (at .place .0)
+
 -- what filing one tone asks: it fits the lists
-pub record ToneNeeds (c : Class) (least : ℕ) (at : Cursors) (layouts entries places monitored : List ℕ) : Type 0 where
-  pub arrays : Arrays layouts entries places monitored
+pub record ToneNeeds (c : Class) (least : ℕ) (at : Cursors) (layouts entries places drawing : List ℕ) : Type 0 where
+  pub arrays : Arrays layouts entries places drawing
   pub carries : ClassBits c
   pub leastIs : 1 ≤ least
   pub placeMost : at .place .0 < mostTones
   pub entryMost : at .entry ≤ at .place .0
-  pub monitoredMost : at .monitored ≤ at .place .0
+  pub drawingMost : at .drawing ≤ at .place .0
 
 -- what one tone adds to the lists, up to the cursors
-pub record FilesTone (least : ℕ) (c : Class) (at : Cursors) (layouts entries places monitored : List ℕ)
-    (r : Cursors) (layoutsAfter entriesAfter placesAfter monitoredAfter : List ℕ) : Type 0 where
+pub record FilesTone (least : ℕ) (c : Class) (at : Cursors) (layouts entries places drawing : List ℕ)
+    (r : Cursors) (layoutsAfter entriesAfter placesAfter drawingAfter : List ℕ) : Type 0 where
   pub placeIs : r .place .0 ≡ at .place .0 + weight (isPlaced least c)
   pub entryIs : r .entry ≡ at .entry + weight (leb least (load c))
-  pub monitoredIs : r .monitored ≡ at .monitored + weight (isMonitored c)
+  pub drawingIs : r .drawing ≡ at .drawing + weight (isDrawing c)
   pub layoutsAre : take (r .place .0) layoutsAfter ≡ take (at .place .0) layouts ++ consIf (isPlaced least c) (classLayout c) []
   pub entriesAre : take (r .entry) entriesAfter ≡ take (at .entry) entries ++ consIf (leb least (load c)) (load c) []
   pub placesAre : take (r .entry) placesAfter ≡ take (at .entry) places ++ consIf (leb least (load c)) (at .place .0) []
-  pub monitoredAre : take (r .monitored) monitoredAfter ≡ take (at .monitored) monitored ++ consIf (isMonitored c) (at .place .0) []
+  pub drawingAre : take (r .drawing) drawingAfter ≡ take (at .drawing) drawing ++ consIf (isDrawing c) (at .place .0) []
 
 -- the lists of classes in the order of their places, up to the cursors
-pub record Filing (least : ℕ) (cs : List Class) (at : Cursors) (layouts entries places monitored : List ℕ) : Type 0 where
+pub record Filing (least : ℕ) (cs : List Class) (at : Cursors) (layouts entries places drawing : List ℕ) : Type 0 where
   pub placeIs : at .place .0 ≡ length cs
   pub layoutsAre : take (at .place .0) layouts ≡ map classLayout cs
   pub entriesAre : take (at .entry) entries ≡ filter (leb least) (map load cs)
   pub placesAre : take (at .entry) places ≡ placesWhere (leb least) 0 (map load cs)
-  pub monitoredAre : take (at .monitored) monitored ≡ placesWhere isMonitored 0 cs
+  pub drawingAre : take (at .drawing) drawing ≡ placesWhere isDrawing 0 cs
   pub entryMost : at .entry ≤ at .place .0
-  pub monitoredMost : at .monitored ≤ at .place .0
+  pub drawingMost : at .drawing ≤ at .place .0
 
-pub record FileNeeds (least : ℕ) (b g t layouts entries places monitored : List ℕ) : Type 0 where
-  pub arrays : Arrays layouts entries places monitored
+pub record FileNeeds (least : ℕ) (b g t layouts entries places drawing : List ℕ) : Type 0 where
+  pub arrays : Arrays layouts entries places drawing
   pub below : Below (length b) t
   pub bitsMost : (k : ℕ) → entry b k ≤ 15
   pub gains : length g ≡ length b

@@ -3,7 +3,7 @@ ghost use mathlib.Core.Path.{_≡_};
 ghost use Rattle.constellation.specs.Layouts.{layoutList};
 ghost use Rattle.g9932.specs.Order.{filter};
 ghost use Rattle.g9932.specs.Symbol.{classesBy};
-ghost use Rattle.plan.specs.Plan.{isPlaced, ToneNeeds, FilesTone, Filing, FileNeeds, ShareNeeds, Shares};
+ghost use Rattle.plan.specs.Plan.{isPlaced, EmptyNeeds, FilesEmpty, ToneNeeds, FilesTone, Filing, FileNeeds, ShareNeeds, Shares};
 use g9932::Class;
 use g9932::Place;
 use g9932::Tone;
@@ -12,11 +12,27 @@ use g9932::Tone;
 pub struct Cursors {
     pub place: Place,
     pub entry: usize,
-    pub monitored: usize,
+    pub drawing: usize,
+}
+
+// Files a tone without data: at its place it has a layout and draws filler bits, monitored or silent.
+fn file_empty(layout: u16, at: Cursors, layouts: &mut [u16], drawing: &mut [u16]) -> Cursors
+    requires { ⌜ EmptyNeeds at (now layouts) (now drawing) ⌝ }
+    ensures { λ r. ⌜ FilesEmpty layout at (now (layouts .entry)) (now (drawing .entry)) r (now (layouts .exit)) (now (drawing .exit)) ⌝ }
+{
+    let place = at.place.0;
+    let next = at.drawing;
+    layouts[place] = layout;
+    drawing[next] = place as u16;
+    Cursors {
+        place: Place(place + 1),
+        entry: at.entry,
+        drawing: next + 1,
+    }
 }
 
 // Files one tone by its class. With data of `least` bits or more it has a place and an entry of its own; with fewer it shares, and is left
-// out here; without data it has a place, which is listed if it is monitored.
+// out here.
 fn file_tone(
     tone: Tone,
     least: u8,
@@ -25,14 +41,13 @@ fn file_tone(
     layouts: &mut [u16],
     entries: &mut [u8],
     places: &mut [u16],
-    monitored: &mut [u16],
+    drawing: &mut [u16],
 ) -> Cursors
-    requires { ⌜ ToneNeeds (tone .class) least at (now layouts) (now entries) (now places) (now monitored) × (now table ≡ layoutList) ⌝ }
-    ensures { λ r. ⌜ FilesTone least (tone .class) at (now (layouts .entry)) (now (entries .entry)) (now (places .entry)) (now (monitored .entry)) r (now (layouts .exit)) (now (entries .exit)) (now (places .exit)) (now (monitored .exit)) ⌝ }
+    requires { ⌜ ToneNeeds (tone .class) least at (now layouts) (now entries) (now places) (now drawing) × (now table ≡ layoutList) ⌝ }
+    ensures { λ r. ⌜ FilesTone least (tone .class) at (now (layouts .entry)) (now (entries .entry)) (now (places .entry)) (now (drawing .entry)) r (now (layouts .exit)) (now (entries .exit)) (now (places .exit)) (now (drawing .exit)) ⌝ }
 {
     let place = at.place.0;
     let entry = at.entry;
-    let next = at.monitored;
     let class = tone.class;
     match class {
         Class::Data(bits) => {
@@ -46,26 +61,11 @@ fn file_tone(
             Cursors {
                 place: Place(place + 1),
                 entry: entry + 1,
-                monitored: next,
+                drawing: at.drawing,
             }
         }
-        Class::Monitored => {
-            layouts[place] = table[2];
-            monitored[next] = place as u16;
-            Cursors {
-                place: Place(place + 1),
-                entry,
-                monitored: next + 1,
-            }
-        }
-        Class::Silent => {
-            layouts[place] = table[0];
-            Cursors {
-                place: Place(place + 1),
-                entry,
-                monitored: next,
-            }
-        }
+        Class::Monitored => file_empty(table[2], at, layouts, drawing),
+        Class::Silent => file_empty(table[0], at, layouts, drawing),
     }
 }
 
@@ -79,15 +79,15 @@ pub fn file_tones(
     layouts: &mut [u16],
     entries: &mut [u8],
     places: &mut [u16],
-    monitored: &mut [u16],
+    drawing: &mut [u16],
 ) -> Cursors
-    requires { ⌜ FileNeeds least (now bits) (now gains) (now tones) (now layouts) (now entries) (now places) (now monitored) × (now table ≡ layoutList) ⌝ }
-    ensures { λ r. ⌜ Filing least (filter (isPlaced least) (classesBy (now (bits .entry)) (now (gains .entry)) (now (tones .entry)))) r (now (layouts .exit)) (now (entries .exit)) (now (places .exit)) (now (monitored .exit)) ⌝ }
+    requires { ⌜ FileNeeds least (now bits) (now gains) (now tones) (now layouts) (now entries) (now places) (now drawing) × (now table ≡ layoutList) ⌝ }
+    ensures { λ r. ⌜ Filing least (filter (isPlaced least) (classesBy (now (bits .entry)) (now (gains .entry)) (now (tones .entry)))) r (now (layouts .exit)) (now (entries .exit)) (now (places .exit)) (now (drawing .exit)) ⌝ }
 {
     let mut at = Cursors {
         place: Place(0),
         entry: 0,
-        monitored: 0,
+        drawing: 0,
     };
     let mut i = 0;
     while i < tones.len() {
@@ -95,7 +95,7 @@ pub fn file_tones(
         let b = tables::bits_of(bits, k);
         let gain = tables::gain_of(gains, k);
         let tone = tables::tone_of(b, gain);
-        at = file_tone(tone, least, at, table, layouts, entries, places, monitored);
+        at = file_tone(tone, least, at, table, layouts, entries, places, drawing);
         i += 1;
     }
     at

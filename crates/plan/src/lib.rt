@@ -1,5 +1,5 @@
 // The plan of a symbol: what its passes need of the tables, made once. By place in t' it has the layout of the tone there; by entry of
-// b' that is not 0, the entry's bits and the place of its tone; and the monitored places.
+// b' that is not 0, the entry's bits and the place of its tone; and the places that draw filler bits.
 mod filing;
 
 ghost use mathlib.Core.Path.{_≡_};
@@ -10,12 +10,12 @@ use g9932::Place;
 use g9932::Refusal;
 use tables::sizes::Sized;
 
-// L, and how far the lists of a plan reach: its entries, the first of the places that share entries, and its monitored places.
+// L, and how far the lists of a plan reach: its entries, the first of the places that share entries, and the places that draw.
 pub struct PlanSizes {
     pub size: usize,
     pub entry_count: usize,
     pub shared_from: Place,
-    pub monitored_count: usize,
+    pub drawing_count: usize,
 }
 
 // The answer of planning.
@@ -45,10 +45,10 @@ fn file_plan(
     layouts: &mut [u16],
     entries: &mut [u8],
     places: &mut [u16],
-    monitored: &mut [u16],
+    drawing: &mut [u16],
 ) -> PlanSizes
-    requires { ⌜ PlanNeeds mode sharers (now bits) (now gains) (now tones) (now layouts) (now entries) (now places) (now monitored) ⌝ }
-    ensures { λ r. ⌜ PlanIs (tables mode (now (bits .entry)) (now (gains .entry)) (now (tones .entry))) r (now (layouts .exit)) (now (entries .exit)) (now (places .exit)) (now (monitored .exit)) × (r .size ≡ size) ⌝ }
+    requires { ⌜ PlanNeeds mode sharers (now bits) (now gains) (now tones) (now layouts) (now entries) (now places) (now drawing) ⌝ }
+    ensures { λ r. ⌜ PlanIs (tables mode (now (bits .entry)) (now (gains .entry)) (now (tones .entry))) r (now (layouts .exit)) (now (entries .exit)) (now (places .exit)) (now (drawing .exit)) × (r .size ≡ size) ⌝ }
 {
     let table = constellation::layout_table();
     let least = least_own(mode);
@@ -61,7 +61,7 @@ fn file_plan(
         layouts,
         entries,
         places,
-        monitored,
+        drawing,
     );
     let shared_from = at.place;
     let entry = at.entry;
@@ -78,7 +78,7 @@ fn file_plan(
         size,
         entry_count: entry + sharers / 2,
         shared_from,
-        monitored_count: at.monitored,
+        drawing_count: at.drawing,
     }
 }
 
@@ -92,10 +92,10 @@ pub fn plan_tables(
     layouts: &mut [u16],
     entries: &mut [u8],
     places: &mut [u16],
-    monitored: &mut [u16],
+    drawing: &mut [u16],
 ) -> Planned
-    requires { ⌜ Arrays (now layouts) (now entries) (now places) (now monitored) ⌝ }
-    ensures { λ r. ⌜ Plans (tables mode (now (bits .entry)) (now (gains .entry)) (now (tones .entry))) r (now (layouts .exit)) (now (entries .exit)) (now (places .exit)) (now (monitored .exit)) ⌝ }
+    requires { ⌜ Arrays (now layouts) (now entries) (now places) (now drawing) ⌝ }
+    ensures { λ r. ⌜ Plans (tables mode (now (bits .entry)) (now (gains .entry)) (now (tones .entry))) r (now (layouts .exit)) (now (entries .exit)) (now (places .exit)) (now (drawing .exit)) ⌝ }
 {
     let s = tables::sizes::size_tables(mode, bits, gains, tones);
     match s {
@@ -111,7 +111,7 @@ pub fn plan_tables(
                 layouts,
                 entries,
                 places,
-                monitored,
+                drawing,
             );
             Planned::Lists(p)
         }

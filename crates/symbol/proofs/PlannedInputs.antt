@@ -46,13 +46,13 @@ refused-answer T v (Refused y) t c e A tables inputs = tables (sym (ap plannedVe
 refused-answer T v (Lists p) t c e A tables inputs = inputs (p .size) t (sym (ap plannedVerdict e) ∙ c .answer)
 
 -- nothing is refused
-pub record Passed (T : Tables) (v : ℕ → Verdict) (p : PlanSizes) (layouts entries places monitored : List ℕ) : Type 0 where
+pub record Passed (T : Tables) (v : ℕ → Verdict) (p : PlanSizes) (layouts entries places drawing : List ℕ) : Type 0 where
   pub tablesPass : accepted (p .size) ≡ tableVerdict T
   pub inputsPass : accepted (p .size) ≡ v (p .size)
-  pub plan : PlanIs T p layouts entries places monitored
+  pub plan : PlanIs T p layouts entries places drawing
 
-pub passed : {T : Tables} {v : ℕ → Verdict} {planned r : Planned} {layouts entries places monitored : List ℕ} → Plans T planned layouts entries places monitored → ChecksInputs v planned r
-    → {p : PlanSizes} → r ≡ Lists p → Passed T v p layouts entries places monitored
+pub passed : {T : Tables} {v : ℕ → Verdict} {planned r : Planned} {layouts entries places drawing : List ℕ} → Plans T planned layouts entries places drawing → ChecksInputs v planned r
+    → {p : PlanSizes} → r ≡ Lists p → Passed T v p layouts entries places drawing
 passed {T} {v} w c {p} e =
     let is = c .passed p e in
     record {
@@ -61,20 +61,20 @@ passed {T} {v} w c {p} e =
       plan = rw is at (w .made);
     }
 
-module _ {T : Tables} {v : ℕ → Verdict} {p : PlanSizes} {layouts entries places monitored : List ℕ} (h : Passed T v p layouts entries places monitored) where
+module _ {T : Tables} {v : ℕ → Verdict} {p : PlanSizes} {layouts entries places drawing : List ℕ} (h : Passed T v p layouts entries places drawing) where
   pub accepts : tableVerdict T .number ≡ 0
   accepts = number-none (h .tablesPass)
 
   -- the arrays hold the lists
-  pub lists-fit : Arrays layouts entries places monitored → {labels : List ℕ} → length labels ≡ mostTones → PlanFits p (length (T .tones)) layouts entries places monitored labels
+  pub lists-fit : Arrays layouts entries places drawing → {labels : List ℕ} → length labels ≡ mostTones → PlanFits p (length (T .tones)) layouts entries places drawing labels
   lists-fit a n =
       let m = tones-most T accepts in
       let e : p .«entry_count» ≤ mostTones = omega (arith, h .plan .entriesMost) in
-      let o : p .«monitored_count» ≤ mostTones = omega (arith, h .plan .monitoredMost) in
+      let o : p .«drawing_count» ≤ mostTones = omega (arith, h .plan .drawingMost) in
       record {
         layoutsFit = omega (arith, a .layoutsLength);
         entriesFit = omega (arith, a .entriesLength);
         placesFit = omega (arith, a .placesLength);
-        monitoredFit = omega (arith, a .monitoredLength);
+        drawingFit = omega (arith, a .drawingLength);
         labelsFit = omega (arith, n);
       }

@@ -66,14 +66,14 @@ module _ (T : Tables) (ok : tableVerdict T .number ≡ 0) where
       go Uncoded e = refl
       go Coded e = known .coded e .onesEven
 
-  module _ (p : PlanSizes) {layouts entries places monitored : List ℕ} (is : PlanIs T p layouts entries places monitored) where
+  module _ (p : PlanSizes) {layouts entries places drawing : List ℕ} (is : PlanIs T p layouts entries places drawing) where
     abbrev es : List ℕ
     es = take (p .«entry_count») entries
 
     abbrev ps : List ℕ
     ps = take (p .«entry_count») places
 
-    pub the-plan : PlanOf (classesOf T) (p .«shared_from» .0) es ps (take (p .«monitored_count») monitored) (take (length (T .tones)) layouts)
+    pub the-plan : PlanOf (classesOf T) (p .«shared_from» .0) es ps (take (p .«drawing_count») drawing) (take (length (T .tones)) layouts)
     the-plan = plan-of T p (known .bitsMost) sharing-even is
 
     -- the entries, by the mode

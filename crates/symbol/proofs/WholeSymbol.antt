@@ -39,9 +39,9 @@ use Rattle.symbol.proofs.TablePlan.{the-plan, label-needs, sent-is, hel
 
 -- ---- from the tables' plan
 
-module _ (T : Tables) (ok : tableVerdict T .number ≡ 0) (p : PlanSizes) {layouts entries places monitored : List ℕ} (is : PlanIs T p layouts entries places monitored) where
+module _ (T : Tables) (ok : tableVerdict T .number ≡ 0) (p : PlanSizes) {layouts entries places drawing : List ℕ} (is : PlanIs T p layouts entries places drawing) where
   pub symbol-of : (f labels : List ℕ) (xs ys : List ℤ) → frameTest (sizeOf T) f ≡ false → length labels ≡ length (T .tones) → length xs ≡ length (T .tones) → length ys ≡ length (T .tones)
-      → WriteSymbolSupposes T (T .mode) (p .«shared_from» .0) f (take (p .«entry_count») entries) (take (p .«entry_count») places) (take (p .«monitored_count») monitored) (take (length (T .tones)) layouts) labels xs ys
+      → WriteSymbolSupposes T (T .mode) (p .«shared_from» .0) f (take (p .«entry_count») entries) (take (p .«entry_count») places) (take (p .«drawing_count») drawing) (take (length (T .tones)) layouts) labels xs ys
   symbol-of f labels xs ys fits n nx ny =
       let c = length-classes T in
       record {
@@ -78,7 +78,7 @@ module _ (T : Tables) (ok : tableVerdict T .number ≡ 0) (p : PlanSizes) {layou
 
   pub read-of : (size : ℕ) (xs ys : List ℤ) (labels held f : List ℕ) → length labels ≡ length (T .tones) → length xs ≡ length (T .tones) → length ys ≡ length (T .tones)
       → length held ≡ mostHeld → size ≡ sizeOf T → length f ≡ bytesFor (sizeOf T)
-      → ReadSymbolSupposes T (T .mode) (p .«shared_from» .0) size (take (p .«entry_count») entries) (take (p .«entry_count») places) (take (p .«monitored_count») monitored) (take (length (T .tones)) layouts) xs ys labels held f
+      → ReadSymbolSupposes T (T .mode) (p .«shared_from» .0) size (take (p .«entry_count») entries) (take (p .«entry_count») places) (take (p .«drawing_count») drawing) (take (length (T .tones)) layouts) xs ys labels held f
   read-of size xs ys labels held f n nx ny nh s nf =
       let c = length-classes T in
       record {
@@ -97,35 +97,35 @@ module _ (T : Tables) (ok : tableVerdict T .number ≡ 0) (p : PlanSizes) {layou
 
 -- ---- from the answers of planning and of checking the inputs
 
-module _ {T : Tables} {p : PlanSizes} {layouts entries places monitored : List ℕ} (a : Arrays layouts entries places monitored) (labels : List ℕ) (n : length labels ≡ mostTones) where
-  module _ {f : List ℕ} (r : ℕ) {xs ys : List ℤ} (h : Passed T (λ size. encodeInputs size (length (T .tones)) (length xs) (length ys) f r) p layouts entries places monitored) where
-    symbol-by : WriteSymbolBy T (T .mode) p (length (T .tones)) f layouts entries places monitored labels xs ys
+module _ {T : Tables} {p : PlanSizes} {layouts entries places drawing : List ℕ} (a : Arrays layouts entries places drawing) (labels : List ℕ) (n : length labels ≡ mostTones) where
+  module _ {f : List ℕ} (r : ℕ) {xs ys : List ℤ} (h : Passed T (λ size. encodeInputs size (length (T .tones)) (length xs) (length ys) f r) p layouts entries places drawing) where
+    symbol-by : WriteSymbolBy T (T .mode) p (length (T .tones)) f layouts entries places drawing labels xs ys
     symbol-by =
         let z = inputs-encoded (p .size) (length (T .tones)) (length xs) (length ys) f r (p .size) (h .inputsPass) in
         let l = length-take-le _ labels (lists-fit h a {labels = labels} n .labelsFit) in
         symbol-of T (accepts h) p (h .plan) f (take (length (T .tones)) labels) xs ys (rw (size-is T (h .tablesPass)) at (z .1)) l (z .0 .0) (z .0 .1)
 
-    pub symbol-needs : WriteSymbolNeeds (T .mode) p (length (T .tones)) f layouts entries places monitored labels xs ys
+    pub symbol-needs : WriteSymbolNeeds (T .mode) p (length (T .tones)) f layouts entries places drawing labels xs ys
     symbol-needs = record { fits = lists-fit h a n; tables = T; planned = symbol-by }
 
-    pub encode-written : {after : ℕ} {xsAfter ysAfter : List ℤ} → WritesAnySymbol (T .mode) p (length (T .tones)) f layouts entries places monitored labels xs ys r after xsAfter ysAfter
+    pub encode-written : {after : ℕ} {xsAfter ysAfter : List ℤ} → WritesAnySymbol (T .mode) p (length (T .tones)) f layouts entries places drawing labels xs ys r after xsAfter ysAfter
         → Encodes T f r xs ys (Done (p .size) after) xsAfter ysAfter
     unfolding writtenPoints
     encode-written writes = let w = writes T symbol-by in encode-done T f r xs ys (h .tablesPass) _ _ _ _ (h .inputsPass) (w .registerIs) (w .xsHold) (w .ysHold)
 
   module _ (r : ℕ) {xs ys : List ℤ} {held f : List ℕ} (nh : length held ≡ mostHeld)
-      (h : Passed T (λ size. readInputs size (length (T .tones)) (length xs) (length ys) (length f) r) p layouts entries places monitored) where
-    read-by : ReadSymbolBy T (T .mode) p (length (T .tones)) layouts entries places monitored xs ys labels held f
+      (h : Passed T (λ size. readInputs size (length (T .tones)) (length xs) (length ys) (length f) r) p layouts entries places drawing) where
+    read-by : ReadSymbolBy T (T .mode) p (length (T .tones)) layouts entries places drawing xs ys labels held f
     read-by =
         let z = inputs-read (p .size) (length (T .tones)) (length xs) (length ys) (length f) r (p .size) (h .inputsPass) in
         let s : p .size ≡ sizeOf T = size-is T (h .tablesPass) in
         let l = length-take-le _ labels (lists-fit h a {labels = labels} n .labelsFit) in
         read-of T (accepts h) p (h .plan) (p .size) xs ys (take (length (T .tones)) labels) held f l (z .0 .0 .0) (z .0 .0 .1) nh s (z .0 .1 ∙ ap bytesFor s)
 
-    pub read-needs : ReadSymbolNeeds (T .mode) p (length (T .tones)) layouts entries places monitored xs ys labels held f
+    pub read-needs : ReadSymbolNeeds (T .mode) p (length (T .tones)) layouts entries places drawing xs ys labels held f
     read-needs = record { fits = lists-fit h a n; tables = T; planned = read-by }
 
-    pub read-done : {answer : Answer} {after : List ℕ} → ReadsAnySymbol (T .mode) p (length (T .tones)) layouts entries places monitored xs ys labels held f r answer after
+    pub read-done : {answer : Answer} {after : List ℕ} → ReadsAnySymbol (T .mode) p (length (T .tones)) layouts entries places drawing xs ys labels held f r answer after
         → Reads T xs ys r f answer after
     read-done reads = read-points T xs ys r f (h .tablesPass) (h .inputsPass) _ _ (reads T read-by)
 

@@ -27,7 +27,7 @@ pub fn encode(
     let mut layouts = [0u16; MOST_TONES];
     let mut entries = [0u8; MOST_TONES];
     let mut places = [0u16; MOST_TONES];
-    let mut monitored = [0u16; MOST_TONES];
+    let mut drawing = [0u16; MOST_TONES];
     let mut labels = [0u16; MOST_TONES];
     let n = tones.len();
     let planned = plan::plan_tables(
@@ -38,7 +38,7 @@ pub fn encode(
         &mut layouts,
         &mut entries,
         &mut places,
-        &mut monitored,
+        &mut drawing,
     );
     let checked = encoding::check_inputs(planned, n, xs.len(), ys.len(), frame, register);
     match checked {
@@ -53,7 +53,7 @@ pub fn encode(
                 &layouts,
                 &entries,
                 &places,
-                &monitored,
+                &drawing,
                 &mut labels,
                 xs,
                 ys,
@@ -84,7 +84,7 @@ pub fn read(
     let mut layouts = [0u16; MOST_TONES];
     let mut entries = [0u8; MOST_TONES];
     let mut places = [0u16; MOST_TONES];
-    let mut monitored = [0u16; MOST_TONES];
+    let mut drawing = [0u16; MOST_TONES];
     let mut labels = [0u16; MOST_TONES];
     let mut held = [0u8; MOST_HELD];
     let n = tones.len();
@@ -96,7 +96,7 @@ pub fn read(
         &mut layouts,
         &mut entries,
         &mut places,
-        &mut monitored,
+        &mut drawing,
     );
     let checked = reading::check_inputs(planned, n, xs.len(), ys.len(), frame.len(), register);
     match checked {
@@ -109,7 +109,7 @@ pub fn read(
                 &layouts,
                 &entries,
                 &places,
-                &monitored,
+                &drawing,
                 xs,
                 ys,
                 register,

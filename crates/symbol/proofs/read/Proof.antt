@@ -19,7 +19,7 @@ read-symbol-requires c κs =
       layoutsLength = plan-tables .kept .1 .1 .1 .1 .0;
       entriesLength = plan-tables .kept .1 .1 .1 .1 .1 .0;
       placesLength = plan-tables .kept .1 .1 .1 .1 .1 .1 .0;
-      monitoredLength = plan-tables .kept .1 .1 .1 .1 .1 .1 .1 .0;
+      drawingLength = plan-tables .kept .1 .1 .1 .1 .1 .1 .1 .0;
     })
     (replicate 4096 0)
     refl
@@ -50,7 +50,7 @@ returns-2 c =
       layoutsLength = plan-tables .kept .1 .1 .1 .1 .0;
       entriesLength = plan-tables .kept .1 .1 .1 .1 .1 .0;
       placesLength = plan-tables .kept .1 .1 .1 .1 .1 .1 .0;
-      monitoredLength = plan-tables .kept .1 .1 .1 .1 .1 .1 .1 .0;
+      drawingLength = plan-tables .kept .1 .1 .1 .1 .1 .1 .1 .0;
     })
     (replicate 4096 0)
     refl

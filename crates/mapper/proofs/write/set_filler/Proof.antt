@@ -1,5 +1,5 @@
 -- `mapper::write::set_filler` meets its contract. The invariant: the places from k on, filled from the register now, give what is asked. The
--- measure is the monitored places left.
+-- measure is the places left that draw.
 use native.Mathlib.Omega.{arith}
 use Prim.Native.Nat.{_-_}
 use lib.ListN.{length}
@@ -9,15 +9,15 @@ use Rattle.mapper.proofs.write.set_filler.Statement.{statement}
 use Rattle.mapper.proofs.write.set_filler.Tie as tie
 
 abbrev Inv-loop : tie.InvT-loop
-Inv-loop monitored register labels₀ next₀ k₀ labels next k = Filling monitored register labels₀ labels next k
+Inv-loop drawing register labels₀ next₀ k₀ labels next k = Filling drawing register labels₀ labels next k
 
 abbrev μ-loop : tie.MeasureT-loop
-μ-loop monitored register labels₀ next₀ k₀ labels next k = length monitored - k
+μ-loop drawing register labels₀ next₀ k₀ labels next k = length drawing - k
 
 loop-holds : tie.Need-loop-holds Inv-loop μ-loop
 loop-holds c =
     let a = c .before .before .args in
-    fill-start (a .monitored .now) (a .register) (a .labels .now)
+    fill-start (a .drawing .now) (a .register) (a .labels .now)
 
 cast-put-label : tie.Need-cast-put-label Inv-loop μ-loop
 cast-put-label c =

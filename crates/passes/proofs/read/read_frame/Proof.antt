@@ -40,7 +40,7 @@ returns c =
     let new2 = c .before .before .before .before .before .before .before .before .before .new2 in
     let p = c .before .before .before .before .before .before .read-labels in
     let e = rw (new2 .ensures, join-shared .ensures) at (p .ensures) in
-    λ cs d ms layouts w. broken-found w (enum-told2 .given .1) e (p .last .1 .1 .1 .1 .0) (c .before .broken .given .1)
+    λ cs d ds layouts w. broken-found w (enum-told2 .given .1) e (p .last .1 .1 .1 .1 .0) (c .before .broken .given .1)
 
 finish-requires-2 : tie.Need-finish-requires-2
 finish-requires-2 c κs =
@@ -60,7 +60,7 @@ returns-2 c =
     let w = c .before .before .before .before .before .before .collect-labels in
     let e = rw (new .ensures, join-shared .ensures) at (w .ensures) in
     let f = c .before .before .finish in
-    λ cs d ms layouts s. collected s (enum-told .given .1) e (w .kept .1 .1 .1 .1 .0) (f .kept .1 .0) (f .ensures)
+    λ cs d ds layouts s. collected s (enum-told .given .1) e (w .kept .1 .1 .1 .1 .0) (f .kept .1 .0) (f .ensures)
 
 returns-3 : tie.Need-returns-3
 returns-3 c =
@@ -71,7 +71,7 @@ returns-3 c =
     let p = c .before .before .before .before .before .before .before .before .before .read-labels in
     let e = rw (new2 .ensures, join-shared .ensures) at (p .ensures) in
     let f = c .before .before .finish2 in
-    λ cs d ms layouts s. none-broken s (enum-told2 .given .1) e (enum-told3 .given .1) (p .kept .1 .1 .1 .1 .0) (f .kept .1 .0) (f .ensures)
+    λ cs d ds layouts s. none-broken s (enum-told2 .given .1) e (enum-told3 .given .1) (p .kept .1 .1 .1 .1 .0) (f .kept .1 .0) (f .ensures)
 
 pub read-frame-spec : {M : Type 1} → statement M
 read-frame-spec =

@@ -1,6 +1,6 @@
 -- `passes::read::read_places` meets its contract: 13 at the first place off its constellation, or 14 at the first whose label is not
 -- the filler bits, or the labels.
-use Rattle.passes.proofs.ReadPlaces.{demap-needs, filler-needs, off-found, filler-found, none-found}
+use Rattle.passes.proofs.ReadPlaces.{demap-needs, check-needs, off-found, filler-found, none-found}
 use mathlib.Core.Path.{_∙_}
 use borrow.Author.Needs.{needs}
 use Rattle.passes.proofs.read.read_places.Statement.{statement}
@@ -19,7 +19,7 @@ check-filler-requires : tie.Need-check-filler-requires
 check-filler-requires c κs =
     let s = c .before .before .before .before .before .before .before .before .before .before in
     let d = c .before .before .before .before .before .demap-points in
-    filler-needs (s .pre .4) (d .last .1 .1 .1 .0) (d .ensures .labelsLength ∙ s .pre .4 .xsLength)
+    check-needs (s .pre .4) (d .last .1 .1 .1 .0) (d .ensures .labelsLength ∙ s .pre .4 .xsLength)
 
 returns-2 : tie.Need-returns-2
 returns-2 c =

@@ -21,7 +21,7 @@ lent-again c =
 slice-aggregate-read-places : tie.Need-slice-aggregate-read-places
 slice-aggregate-read-places c =
     let s = c .before .before .before .before .before .before .before .before in
-    sym (length-take-le _ (s .args .monitored .now) (s .pre .fits .monitoredFit))
+    sym (length-take-le _ (s .args .drawing .now) (s .pre .fits .drawingFit))
 
 slice-aggregate-read-places-2 : tie.Need-slice-aggregate-read-places-2
 slice-aggregate-read-places-2 c =

@@ -39,7 +39,7 @@ label-frame-requires c κs = c .before .before .before .before .before .before .
 slice-aggregate-write-points : tie.Need-slice-aggregate-write-points
 slice-aggregate-write-points c =
     let s = c .before .before .before .before .before .before .before .before .before .before .before .before .before in
-    sym (length-take-le _ (s .args .monitored .now) (s .pre .fits .monitoredFit))
+    sym (length-take-le _ (s .args .drawing .now) (s .pre .fits .drawingFit))
 
 slice-aggregate-write-points-2 : tie.Need-slice-aggregate-write-points-2
 slice-aggregate-write-points-2 c =

@@ -17,17 +17,17 @@ use Rattle.plan.proofs.filing.file_tones.Statement.{statement}
 use Rattle.plan.proofs.filing.file_tones.Tie as tie
 
 abbrev Inv-loop : tie.InvT-loop
-Inv-loop least bits gains tones table layouts₀ entries₀ places₀ monitored₀ at₀ i₀ layouts entries places monitored at i =
-    (at .place .0 ≤ i) × (i ≤ length tones) × Arrays layouts entries places monitored
-    × Filing least (filter (isPlaced least) (classesBy bits gains (take i tones))) at layouts entries places monitored
+Inv-loop least bits gains tones table layouts₀ entries₀ places₀ drawing₀ at₀ i₀ layouts entries places drawing at i =
+    (at .place .0 ≤ i) × (i ≤ length tones) × Arrays layouts entries places drawing
+    × Filing least (filter (isPlaced least) (classesBy bits gains (take i tones))) at layouts entries places drawing
 
 abbrev μ-loop : tie.MeasureT-loop
-μ-loop least bits gains tones table layouts₀ entries₀ places₀ monitored₀ at₀ i₀ layouts entries places monitored at i = length tones - i
+μ-loop least bits gains tones table layouts₀ entries₀ places₀ drawing₀ at₀ i₀ layouts entries places drawing at i = length tones - i
 
 loop-holds : tie.Need-loop-holds Inv-loop μ-loop
 loop-holds c =
     let s = c .before .before .before .before .before .before .before in
-    (omega arith, omega arith, s .pre .0 .arrays, record { placeIs = refl; layoutsAre = refl; entriesAre = refl; placesAre = refl; monitoredAre = refl; entryMost = omega arith; monitoredMost = omega arith })
+    (omega arith, omega arith, s .pre .0 .arrays, record { placeIs = refl; layoutsAre = refl; entriesAre = refl; placesAre = refl; drawingAre = refl; entryMost = omega arith; drawingMost = omega arith })
 
 bits-of-requires : tie.Need-bits-of-requires Inv-loop μ-loop
 bits-of-requires c κs =
@@ -52,7 +52,7 @@ file-tone-requires c κs =
         leastIs = s .pre .0 .leastIs;
         placeMost = omega (arith, l .inv .0, s .pre .0 .most);
         entryMost = l .inv .3 .entryMost;
-        monitoredMost = l .inv .3 .monitoredMost;
+        drawingMost = l .inv .3 .drawingMost;
       },
       s .pre .1,
     )
@@ -83,7 +83,7 @@ loop-again c =
       layoutsLength = f .kept .1 .1 .1 .1 .0 ∙ l .inv .2 .layoutsLength;
       entriesLength = f .kept .1 .1 .1 .1 .1 .0 ∙ l .inv .2 .entriesLength;
       placesLength = f .kept .1 .1 .1 .1 .1 .1 .0 ∙ l .inv .2 .placesLength;
-      monitoredLength = f .kept .1 .1 .1 .1 .1 .1 .1 .0 ∙ l .inv .2 .monitoredLength;
+      drawingLength = f .kept .1 .1 .1 .1 .1 .1 .1 .0 ∙ l .inv .2 .drawingLength;
     } in
     (omega (arith, l .inv .0, one-place (a .least) cs t (l .inv .3) w), omega (arith, i), arrays, rw (classes-more (a .least) (a .bits .now) (a .gains .now) (a .tones .now) (l .i) (omega (arith, i))) g)
 
