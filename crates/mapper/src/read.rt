@@ -89,8 +89,8 @@ fn or_here(found: Found, holds: bool, p: Place) -> Found
     }
 }
 
-// Compares the labels of the places that draw with their filler bits, but for silent tones, whose bits are thrown away. Called by proved
-// code only.
+// Compares the labels of the places that draw with their filler bits, but for silent tones, whose bits are thrown away.
+// Called by proved code only.
 pub fn check_filler(drawing: &[u16], layouts: &[u16], register: u32, labels: &[u16]) -> FillerRead
     requires { ⌜ CheckNeeds (now drawing) (now layouts) (now labels) ⌝ }
     ensures { λ r. ⌜ ChecksFiller (now (drawing .entry)) (now (layouts .entry)) register (now (labels .entry)) r ⌝ }

@@ -121,7 +121,6 @@ pub record EmptyNeeds (at : Cursors) (layouts drawing : List ℕ) : Type 0 where
   pub layoutsLength : length layouts ≡ mostTones
   pub drawingLength : length drawing ≡ mostTones
   pub placeMost : at .place .0 < mostTones
-  pub entryMost : at .entry ≤ at .place .0
   pub drawingMost : at .drawing ≤ at .place .0
 
 pub record FilesEmpty (layout : ℕ) (at : Cursors) (layouts drawing : List ℕ) (r : Cursors) (layoutsAfter drawingAfter : List ℕ) : Type 0 where
