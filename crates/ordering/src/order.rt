@@ -133,7 +133,7 @@ fn write_coded(
 }
 
 // Writes t' and b'. Coded, b' is 0 but for its last `entries`, and `sharers` of the tones share one with another; uncoded neither
-// number is needed.
+// number is needed. Called by proved code only.
 pub fn write_order(
     mode: Mode,
     entries: usize,

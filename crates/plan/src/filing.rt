@@ -1,4 +1,4 @@
-// Filing the tones of t by place and by entry. Called by proved code only.
+// Filing the tones of t by place and by entry.
 ghost use mathlib.Core.Path.{_≡_};
 ghost use Rattle.constellation.specs.Layouts.{layoutList};
 ghost use Rattle.g9932.specs.Order.{filter};
@@ -69,7 +69,7 @@ fn file_tone(
     }
 }
 
-// Files the tones of t, all but those that share.
+// Files the tones of t, all but those that share. Called by proved code only.
 pub fn file_tones(
     least: u8,
     bits: &[u8],
@@ -102,6 +102,7 @@ pub fn file_tones(
 }
 
 // Adds `count` entries of 2 bits, each shared by two tones of 1 bit: from place `shared_from` on, and from entry `at` on.
+// Called by proved code only.
 pub fn share_entries(
     count: usize,
     shared_from: Place,

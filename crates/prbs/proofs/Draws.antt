@@ -38,6 +38,7 @@ two-drawn r =
 
 -- ---- two draws at once
 
+-- digits differ where their sum is odd
 digit : (a b : ℕ) → differ (a % 2) (b % 2) ≡ (a % 2 + b % 2) % 2
 digit a b = go (a % 2) (b % 2) (omega arith) (omega arith)
   where
@@ -57,6 +58,7 @@ low-xor a b = rw (xor-step a b, xor-step (a / 2) (b / 2), digit a b, digit (a / 
     top : (x d e : ℕ) → d < 2 → e < 2 → ((x * 2 + e) * 2 + d) % 4 ≡ d + 2 * e
     top x d e h k = omega arith
 
+-- the register after both, whose two fed bits are those of an exclusive or
 pub two-fed : (r : ℕ) → afterDraws 2 r ≡ r / 4 + 2097152 * (bitXor r (r / 32) % 4)
 unfolding drawOf
 two-fed r =

@@ -195,6 +195,7 @@ fn code_forced_pairs(
 }
 
 // Codes the pairs of the entries from `from` on: the free pairs, then the last two. The label of an entry goes to its place.
+// Called by proved code only.
 pub fn code_from(
     c: Coder,
     frame: &[u8],
