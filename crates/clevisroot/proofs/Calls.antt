@@ -7,14 +7,15 @@ use lib.IntN.{ℤ}
 use mathlib.Core.List.{List}
 use lib.ListN.{length}
 use Rattle.g9932.specs.Bits.{weight}
-use Rattle.g9932.specs.Sizes.{tables}
+use Rattle.g9932.proofs.Aligned.{start-zero-encoding, start-zero-reading}
+use Rattle.g9932.specs.Sizes.{Tables, tables}
 use Rattle.g9932.specs.Refusals.{Verdict, tableVerdict}
-use Rattle.g9932.specs.Answers.{verdictOf, reportOf, reportBy, Reorders, Encodes, Reads}
+use Rattle.g9932.specs.Answers.{verdictOf, reportOf, reportBy, Reorders, Encoded, Encodes, Read, Reads}
 use Rattle.g9932.specs.declared.Mode.{Mode}
 use Rattle.g9932.specs.declared.Mode.the-variants.{Coded}
 use Rattle.g9932.specs.declared.Checked.{Checked}
 use Rattle.g9932.specs.declared.Answer.{Answer}
-use Rattle.clevisroot.specs.CAnswers.{modeOf, answerOf, reported, Small, ReorderAnswered, EncodeAnswered, ReadAnswered}
+use Rattle.clevisroot.specs.CAnswers.{modeOf, answerOf, reported, Small, ReorderAnswered, EncodeAnswered, ReadAnswered, EncodeAtAnswered, ReadAtAnswered}
 use Rattle.clevisroot.specs.declared.SymbolAnswer.{SymbolAnswer}
 use Rattle.clevisroot.specs.declared.PointAnswer.{PointAnswer}
 use Rattle.clevisroot.proofs.Places.{small-table, small-order, small-encode, small-read}
@@ -63,18 +64,37 @@ module _ {m n : Mode} (b g t : List ℕ) (e : m ≡ n) where
       → ReorderAnswered (tables n b g t) tones bits v tonesAfter bitsAfter
   order-answered h k = rw (sym e) (record { answer = k ∙ ap (λ (w : Verdict). answerOf w 0) (h .answer); tonesHold = h .tonesHold; bitsHold = h .bitsHold })
 
-  pub encode-small : {f : List ℕ} {r : ℕ} {xs ys xsAfter ysAfter : List ℤ} {a : Answer} → Encodes (tables m b g t) f r xs ys a xsAfter ysAfter → Small (reportOf a .verdict)
-  unfolding reportBy
-  encode-small {f = f} {r = r} {xs = xs} {ys = ys} h = rw (h .answer) (small-encode (tables m b g t) f r (length xs) (length ys))
+  module _ {start : ℕ} {f : List ℕ} {r : ℕ} {xs ys xsAfter ysAfter : List ℤ} {a : Answer} (h : Encodes (tables m b g t) start f r xs ys a xsAfter ysAfter) where
+    pub encode-small : Small (reportOf a .verdict)
+    unfolding reportBy
+    encode-small = rw (h .answer) (small-encode (tables m b g t) start f r (length xs) (length ys))
 
-  pub encode-answered : {f : List ℕ} {r : ℕ} {xs ys xsAfter ysAfter : List ℤ} {a : Answer} {v : SymbolAnswer} → Encodes (tables m b g t) f r xs ys a xsAfter ysAfter → v ≡ reported (reportOf a)
-      → EncodeAnswered (tables n b g t) f r xs ys v xsAfter ysAfter
-  encode-answered h k = rw (sym e) (record { answer = k ∙ ap reported (h .answer); xsHold = h .xsHold; ysHold = h .ysHold })
+    pub encode-at : {v : SymbolAnswer} → v ≡ reported (reportOf a) → EncodeAtAnswered (tables n b g t) start f r xs ys v xsAfter ysAfter
+    encode-at k = rw (sym e) (record { answer = k ∙ ap reported (h .answer); xsHold = h .xsHold; ysHold = h .ysHold })
 
-  pub read-small : {f fAfter : List ℕ} {r : ℕ} {xs ys : List ℤ} {a : Answer} → Reads (tables m b g t) xs ys r f a fAfter → Small (reportOf a .verdict)
-  unfolding reportBy
-  read-small {f = f} {r = r} {xs = xs} {ys = ys} h = rw (h .answer) (small-read (tables m b g t) xs ys r (length f))
+  module _ {start : ℕ} {f fAfter : List ℕ} {r : ℕ} {xs ys : List ℤ} {a : Answer} (h : Reads (tables m b g t) xs ys r start f a fAfter) where
+    pub read-small : Small (reportOf a .verdict)
+    unfolding reportBy
+    read-small = rw (h .answer) (small-read (tables m b g t) xs ys r start (length f))
 
-  pub read-answered : {f fAfter : List ℕ} {r : ℕ} {xs ys : List ℤ} {a : Answer} {v : SymbolAnswer} → Reads (tables m b g t) xs ys r f a fAfter → v ≡ reported (reportOf a)
-      → ReadAnswered (tables n b g t) xs ys r f v fAfter
-  read-answered h k = rw (sym e) (record { answer = k ∙ ap reported (h .answer); frameHolds = h .frameHolds })
+    pub read-at : {v : SymbolAnswer} → v ≡ reported (reportOf a) → ReadAtAnswered (tables n b g t) xs ys r start f v fAfter
+    read-at k = rw (sym e) (record { answer = k ∙ ap reported (h .answer); frameHolds = h .frameHolds })
+
+-- a call without a start is that with start 0
+pub encode-answered : {T : Tables} {f : List ℕ} {r : ℕ} {xs ys xsAfter ysAfter : List ℤ} {v : SymbolAnswer} → EncodeAtAnswered T 0 f r xs ys v xsAfter ysAfter
+    → EncodeAnswered T f r xs ys v xsAfter ysAfter
+encode-answered {T} {f} {r} {xs} {ys} h =
+    let same = start-zero-encoding T f r xs ys in
+    record {
+      answer = h .answer ∙ ap (λ (x : Encoded). reported (x .report)) same;
+      xsHold = h .xsHold ∙ ap (λ (x : Encoded). x .xs) same;
+      ysHold = h .ysHold ∙ ap (λ (x : Encoded). x .ys) same;
+    }
+
+pub read-answered : {T : Tables} {f fAfter : List ℕ} {r : ℕ} {xs ys : List ℤ} {v : SymbolAnswer} → ReadAtAnswered T xs ys r 0 f v fAfter → ReadAnswered T xs ys r f v fAfter
+read-answered {T} {f} {fAfter} {r} {xs} {ys} h =
+    let same = start-zero-reading T xs ys r f in
+    record {
+      answer = h .answer ∙ ap (λ (x : Read). reported (x .report)) same;
+      frameHolds = h .frameHolds ∙ ap (λ (x : Read). x .frame) same;
+    }

@@ -146,9 +146,9 @@ pub small-order : (T : Tables) (a b : ℕ) → Small (orderVerdict T a b)
 unfolding orderVerdict
 small-order T a b = small-then T _ (λ _. place-if mostTones 10 _ _ (omega arith)) (size-if 9 _ _ (sizeOf T) (λ _. refl))
 
-pub small-encode : (T : Tables) (f : List ℕ) (r a b : ℕ) → Small (encodeVerdict T f r a b)
+pub small-encode : (T : Tables) (start : ℕ) (f : List ℕ) (r a b : ℕ) → Small (encodeVerdict T start f r a b)
 unfolding encodeVerdict encodeInputs
-small-encode T f r a b =
+small-encode T start f r a b =
     small-then T _ (λ _. place-if mostTones 10 _ _ (place-if mostTones 11 _ _ (place-if mostTones 12 _ _ (omega arith))))
     (size-if 9 _ _ (sizeOf T) (size-if 10 _ _ (sizeOf T) (size-if 11 _ _ (sizeOf T) (λ _. refl))))
 
@@ -168,11 +168,11 @@ break-inside T q = go (T .mode)
     go Uncoded = omega arith
     go Coded = breaks-inside (pairsIn T) zeroState (gatherBits (classesOf T) q)
 
-pub small-read : (T : Tables) (xs ys : List ℤ) (r a : ℕ) → Small (readVerdict T xs ys r a)
+pub small-read : (T : Tables) (xs ys : List ℤ) (r start a : ℕ) → Small (readVerdict T xs ys r start a)
 unfolding readVerdict readInputs pointsVerdict
-small-read T xs ys r a =
+small-read T xs ys r start a =
     let q = points xs ys in
-    let inputs = readInputs (sizeOf T) (length (T .tones)) (length xs) (length ys) a r in
+    let inputs = readInputs start (sizeOf T) (length (T .tones)) (length xs) (length ys) a r in
     small-then T (andThen inputs (pointsVerdict T q r))
     (λ e.
     let k = accepted-tables T e in
@@ -181,7 +181,7 @@ small-read T xs ys r a =
     let i = break-inside T q in
     let c = pairs-most T k in
     place-and mostTones inputs (pointsVerdict T q r)
-    (place-if mostTones 10 _ _ (place-if mostTones 12 _ _ (omega arith)))
+    (place-if mostTones 10 _ _ (place-if mostTones 11 _ _ (place-if mostTones 12 _ _ (omega arith))))
     (λ _. place-and mostTones (placesVerdict (classesOf T) q r) _
     (place-first mostTones 13 _ (length (classesOf T)) _ (omega arith)
     (place-first mostTones 14 _ (length (classesOf T)) _ (omega arith)

@@ -8,7 +8,8 @@ use lib.IntN.{ℤ}
 use Rattle.g9932.specs.Bits.{weight}
 use Rattle.g9932.specs.Sizes.{Tables, mostTones, mostBits, Point, origin}
 use Rattle.g9932.specs.Refusals.{Verdict}
-use Rattle.g9932.specs.Answers.{Report, OneTone, Draw, reorderOf, encodeOf, readOf}
+use Rattle.g9932.specs.Answers.{Report, OneTone, Draw, reorderOf, encodeAt, readAt}
+use Rattle.g9932.specs.Aligned.{encodeOf, readOf}
 use Rattle.g9932.specs.declared.Mode.{Mode}
 use Rattle.g9932.specs.declared.Mode.the-variants.{Uncoded, Coded}
 use Rattle.clevisroot.specs.declared.SymbolAnswer.{SymbolAnswer}
@@ -39,6 +40,7 @@ pub record ReorderAnswered (T : Tables) (tones bits : List ℕ) (a : SymbolAnswe
   pub tonesHold : tonesAfter ≡ reorderOf T tones bits .tones
   pub bitsHold : bitsAfter ≡ reorderOf T tones bits .bits
 
+-- without a start: document 01's own
 pub record EncodeAnswered (T : Tables) (f : List ℕ) (r : ℕ) (xs ys : List ℤ) (a : SymbolAnswer) (xsAfter ysAfter : List ℤ) : Type 0 where
   pub answer : a ≡ reported (encodeOf T f r xs ys .report)
   pub xsHold : xsAfter ≡ encodeOf T f r xs ys .xs
@@ -47,6 +49,16 @@ pub record EncodeAnswered (T : Tables) (f : List ℕ) (r : ℕ) (xs ys : List �
 pub record ReadAnswered (T : Tables) (xs ys : List ℤ) (r : ℕ) (f : List ℕ) (a : SymbolAnswer) (fAfter : List ℕ) : Type 0 where
   pub answer : a ≡ reported (readOf T xs ys r f .report)
   pub frameHolds : fAfter ≡ readOf T xs ys r f .frame
+
+-- with a start
+pub record EncodeAtAnswered (T : Tables) (start : ℕ) (f : List ℕ) (r : ℕ) (xs ys : List ℤ) (a : SymbolAnswer) (xsAfter ysAfter : List ℤ) : Type 0 where
+  pub answer : a ≡ reported (encodeAt T start f r xs ys .report)
+  pub xsHold : xsAfter ≡ encodeAt T start f r xs ys .xs
+  pub ysHold : ysAfter ≡ encodeAt T start f r xs ys .ys
+
+pub record ReadAtAnswered (T : Tables) (xs ys : List ℤ) (r start : ℕ) (f : List ℕ) (a : SymbolAnswer) (fAfter : List ℕ) : Type 0 where
+  pub answer : a ≡ reported (readAt T xs ys r start f .report)
+  pub frameHolds : fAfter ≡ readAt T xs ys r start f .frame
 
 -- ---- one-tone calls, and one draw: a refused one has point (0, 0), label 0, bit 0
 

@@ -4,7 +4,7 @@ ghost use Prim.Native.Nat.{_≤_};
 ghost use Rattle.g9932.specs.Sizes.{tables, mostTones, point};
 ghost use Rattle.g9932.specs.Refusals.{numberOf, placeOf, refused, tableVerdict};
 ghost use Rattle.g9932.specs.Answers.{verdictOf, reportOf, mapLabel, readPoint, drawAnswer};
-ghost use Rattle.clevisroot.specs.CAnswers.{modeOf, answerOf, reported, pointAnswered, labelAnswered, drawAnswered, Small, ReorderAnswered, EncodeAnswered, ReadAnswered};
+ghost use Rattle.clevisroot.specs.CAnswers.{modeOf, answerOf, reported, pointAnswered, labelAnswered, drawAnswered, Small, ReorderAnswered, EncodeAnswered, ReadAnswered, EncodeAtAnswered, ReadAtAnswered};
 use g9932::Answer;
 use g9932::Checked;
 use g9932::Drawn;
@@ -148,7 +148,7 @@ pub extern "C" fn clevisroot_encode(
 ) -> SymbolAnswer
     ensures { λ r. ⌜ EncodeAnswered (tables (modeOf coded) (now (bits .entry)) (now (gains .entry)) (now (tones .entry))) (now (frame .entry)) reg (now (x .entry)) (now (y .entry)) r (now (x .exit)) (now (y .exit)) ⌝ }
 {
-    answered(symbol::encode(mode_of(coded), bits, gains, tones, frame, reg, x, y))
+    answered(symbol::encode(mode_of(coded), bits, gains, tones, frame, 0, reg, x, y))
 }
 
 #[no_mangle]
@@ -164,7 +164,41 @@ pub extern "C" fn clevisroot_read(
 ) -> SymbolAnswer
     ensures { λ r. ⌜ ReadAnswered (tables (modeOf coded) (now (bits .entry)) (now (gains .entry)) (now (tones .entry))) (now (x .entry)) (now (y .entry)) reg (now (frame .entry)) r (now (frame .exit)) ⌝ }
 {
-    answered(symbol::read(mode_of(coded), bits, gains, tones, x, y, reg, frame))
+    answered(symbol::read(mode_of(coded), bits, gains, tones, x, y, reg, frame, 0))
+}
+
+#[no_mangle]
+pub extern "C" fn clevisroot_encode_at(
+    coded: u8,
+    bits: &[u8],
+    gains: &[u16],
+    tones: &[u16],
+    frame: &[u8],
+    start: u8,
+    reg: u32,
+    x: &mut [i16],
+    y: &mut [i16],
+) -> SymbolAnswer
+    ensures { λ r. ⌜ EncodeAtAnswered (tables (modeOf coded) (now (bits .entry)) (now (gains .entry)) (now (tones .entry))) start (now (frame .entry)) reg (now (x .entry)) (now (y .entry)) r (now (x .exit)) (now (y .exit)) ⌝ }
+{
+    answered(symbol::encode(mode_of(coded), bits, gains, tones, frame, start, reg, x, y))
+}
+
+#[no_mangle]
+pub extern "C" fn clevisroot_read_at(
+    coded: u8,
+    bits: &[u8],
+    gains: &[u16],
+    tones: &[u16],
+    x: &[i16],
+    y: &[i16],
+    reg: u32,
+    frame: &mut [u8],
+    start: u8,
+) -> SymbolAnswer
+    ensures { λ r. ⌜ ReadAtAnswered (tables (modeOf coded) (now (bits .entry)) (now (gains .entry)) (now (tones .entry))) (now (x .entry)) (now (y .entry)) reg start (now (frame .entry)) r (now (frame .exit)) ⌝ }
+{
+    answered(symbol::read(mode_of(coded), bits, gains, tones, x, y, reg, frame, start))
 }
 
 #[no_mangle]

@@ -62,7 +62,7 @@ fn order(bits: &[u8], gains: &[u16], tones: &[u16]) {
     list(&wide);
 }
 
-// Writes the points of a frame of one byte, coded, and answers the register.
+// Writes the points of a frame of one byte that starts at its bit 0, coded, and answers the register.
 fn encode(
     bits: &[u8],
     gains: &[u16],
@@ -72,10 +72,10 @@ fn encode(
     ys: &mut [i16],
 ) -> Outcome {
     let frame = [byte];
-    answered(symbol::encode(Mode::Coded, bits, gains, tones, &frame, RESET, xs, ys))
+    answered(symbol::encode(Mode::Coded, bits, gains, tones, &frame, 0, RESET, xs, ys))
 }
 
-// The frame of one byte that the points are read as, coded.
+// The frame of one byte, from its bit 0 on, that the points are read as, coded.
 fn read(bits: &[u8], gains: &[u16], tones: &[u16], xs: &[i16], ys: &[i16]) -> Outcome {
     let mut frame = [0u8; 1];
     let outcome = answered(symbol::read(
@@ -87,6 +87,7 @@ fn read(bits: &[u8], gains: &[u16], tones: &[u16], xs: &[i16], ys: &[i16]) -> Ou
         ys,
         RESET,
         &mut frame,
+        0,
     ));
     with_byte(outcome, frame[0])
 }

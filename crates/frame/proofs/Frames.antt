@@ -1,4 +1,4 @@
--- The FRAME test: a frame of the right length has its unused bits in its last byte.
+-- The FRAME test: a frame of the right length has its unused bits in its first byte and its last.
 use mathlib.Core.Path.{_≡_, refl, _∙_}
 use mathlib.Core.Bool.{Bool, true, false, not}
 use mathlib.Core.List.{List, [], _∷_}
@@ -6,13 +6,13 @@ use Prim.Native.Nat.{ℕ, _+_, _*_, _/_, _%_, _^_, _≤_}
 use native.Mathlib.Omega.{arith}
 use lib.Dec.{eqb}
 use borrow.Author.Tests.{eq-eqb, ne-eqb, eqb-true, eqb-false}
-use lib.ListN.{length, drop, drop-of-length-le}
+use lib.ListN.{length, take, drop, drop-of-length-le}
 use lib.Seq.{drop-drop}
 use Rattle.g9932.specs.Bits.{weight, num}
 use Rattle.g9932.specs.Sizes.{bytesFor, unpack}
-use Rattle.g9932.specs.Refusals.{someOne, frameTest}
+use Rattle.g9932.specs.Refusals.{someOne, startTest, frameTest}
 use Rattle.g9932.proofs.Words.{num-drop}
-use Rattle.g9932.proofs.Packed.{drop-unpack}
+use Rattle.g9932.proofs.Packed.{drop-unpack, someOne-append}
 use Rattle.frame.proofs.BitsAhead.{ByteAt, from-byte}
 
 doubled : (n : ℕ) → eqb (2 * n) 0 ≡ eqb n 0
@@ -31,20 +31,45 @@ someOne-num (false ∷ l) =
     let z : 0 + 2 * num l ≡ 2 * num l = omega arith in
     rw (z, doubled (num l)) (someOne-num l)
 
-past-end : (f : List ℕ) (l b : ℕ) → length f ≡ bytesFor l → ByteAt f (l / 8) b → num (drop l (unpack f)) ≡ b / 2 ^ (l % 8)
+-- the bits after the end, bit e, are in the last byte
+past-end : (f : List ℕ) (e b : ℕ) → length f ≡ (e + 7) / 8 → ByteAt f (e / 8) b → num (drop e (unpack f)) ≡ b / 2 ^ (e % 8)
 unfolding unpack num
-past-end f l b hl hb =
-    let at : 8 * (l / 8) + l % 8 ≡ l = omega arith in
-    let g : length f ≤ l / 8 + 1 = omega arith in
-    let d : drop (l / 8 + 1) f ≡ [] = drop-of-length-le f g in
-    let e : num (unpack (drop (l / 8) f)) ≡ b = rw d at (from-byte f (l / 8) b hb) ∙ omega arith in
-    let s : drop l (unpack f) ≡ drop (l % 8) (unpack (drop (l / 8) f)) = rw (← drop-unpack, drop-drop, at) in
-    rw (s, num-drop, e)
+past-end f e b hl hb =
+    let at : 8 * (e / 8) + e % 8 ≡ e = omega arith in
+    let g : length f ≤ e / 8 + 1 = omega arith in
+    let d : drop (e / 8 + 1) f ≡ [] = drop-of-length-le f g in
+    let last : num (unpack (drop (e / 8) f)) ≡ b = rw d at (from-byte f (e / 8) b hb) ∙ omega arith in
+    let s : drop e (unpack f) ≡ drop (e % 8) (unpack (drop (e / 8) f)) = rw (← drop-unpack, drop-drop, at) in
+    rw (s, num-drop, last)
 
-pub length-refused : (f : List ℕ) (l : ℕ) → (length f ≡ bytesFor l → ⊥) → true ≡ frameTest l f
-unfolding frameTest
-length-refused f l h = rw (ne-eqb (length f) (bytesFor l) h)
+module _ (start l : ℕ) (f : List ℕ) where
+  pub late-refused : startTest start ≡ true → true ≡ frameTest start l f
+  unfolding frameTest
+  late-refused h = rw h
 
-pub unused-refused : (f : List ℕ) (l b : ℕ) → length f ≡ bytesFor l → ByteAt f (l / 8) b → not (eqb (b / 2 ^ (l % 8)) 0) ≡ frameTest l f
-unfolding frameTest
-unused-refused f l b hl hb = rw (eq-eqb (length f) (bytesFor l) hl, someOne-num (drop l (unpack f)), past-end f l b hl hb)
+  module _ (early : startTest start ≡ false) where
+    pub length-refused : (length f ≡ bytesFor start l → ⊥) → true ≡ frameTest start l f
+    unfolding frameTest
+    length-refused h = rw (early, ne-eqb (length f) (bytesFor start l) h)
+
+    module _ (fits : length f ≡ bytesFor start l) {a : ℕ} (before : a ≡ num (take start (unpack f))) where
+      pub before-refused : (a ≡ 0 → ⊥) → true ≡ frameTest start l f
+      unfolding frameTest
+      before-refused h =
+          rw (early, eq-eqb (length f) (bytesFor start l) fits, someOne-append, someOne-num (take start (unpack f)), ← before, ne-eqb a 0 h)
+
+      pub after-refused : a ≡ 0 → (i j b : ℕ) → i ≡ (start + l) / 8 → j ≡ (start + l) % 8 → ByteAt f i b → not (eqb (b / 2 ^ j) 0) ≡ frameTest start l f
+      unfolding frameTest
+      after-refused z i j b hi hj hb =
+          let after = past-end f (start + l) b fits (rw hi at hb) in
+          rw (
+            early,
+            eq-eqb (length f) (bytesFor start l) fits,
+            someOne-append,
+            someOne-num (take start (unpack f)),
+            ← before,
+            eq-eqb a 0 z,
+            someOne-num (drop (start + l) (unpack f)),
+            after,
+            hj,
+          )

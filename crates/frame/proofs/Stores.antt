@@ -3,19 +3,18 @@ use mathlib.Core.Path.{_≡_, refl, sym, ap, _∙_}
 use mathlib.Core.Bool.{Bool, true, false}
 use mathlib.Core.List.{List, [], _∷_, _++_, append-assoc, append-nil}
 use Prim.Native.Nat.{ℕ, zero, suc, _+_, _-_, _*_, _/_, _%_, _^_, _≤_, _<_}
-use native.Mathlib.Nat.{lt-trans, div-one, div-eq-of-lt}
+use native.Mathlib.Nat.{lt-trans, div-one, zero-mod, div-eq-of-lt}
 use native.Mathlib.Numerals.{add-one}
 use native.Mathlib.Omega.{arith}
 use borrow.Author.Tests.{eq-eqb}
 use lib.Arith.{digits-lt}
-use lib.Pow.{pow-add, pow-lt, shl-exact, shr-lt, high, low}
+use lib.Pow.{pow-add, pow-lt, pow-pos, shl-exact, shr-lt, high, low}
 use lib.ListN.{length, take, drop, set, length-set, length-append}
 use lib.Seq.{take-append-add, take-take, take-suc-set, take-at, drop-at, length-take-le}
-use Rattle.g9932.specs.Bits.{bits, odd}
-use Rattle.g9932.specs.Refusals.{someOne, frameTest}
-use Rattle.g9932.specs.Sizes.{unpack, bytesFor}
-use Rattle.g9932.proofs.Words.{length-bits, bits-add, take-bits, bits-mod}
-use Rattle.g9932.proofs.Packed.{length-unpack, unpack-append, take-unpack}
+use Rattle.g9932.specs.Bits.{bits, num, zeros}
+use Rattle.g9932.specs.Sizes.{unpack, bytesFor, pack}
+use Rattle.g9932.proofs.Words.{length-bits, num-append, num-inj, num-take, bits-add, take-bits, bits-mod}
+use Rattle.g9932.proofs.Packed.{length-unpack, unpack-append, take-unpack, number-zeros, length-pack, packed-number}
 use Rattle.frame.specs.declared.BitWriter.{BitWriter}
 use Rattle.frame.specs.Written.{emptyWriter, written, Waits, bitsPut, Put, Framed}
 
@@ -137,58 +136,33 @@ length-written w l h =
     let c = length-bits (w .fill) (w .acc) in
     length-append (unpack (take (w .next) l)) (bits (w .fill) (w .acc)) ∙ omega arith
 
--- after `finish` the buffer begins with the frame of what was put
-someOne-zeros : (n : ℕ) → someOne (bits n 0) ≡ false
-unfolding bits odd
-someOne-zeros zero = refl
-someOne-zeros (suc n) = someOne-zeros n
-
-someOne-take : (k : ℕ) (l : List Bool) → someOne l ≡ false → someOne (take k l) ≡ false
-someOne-take zero l h = refl
-someOne-take (suc k) [] h = refl
-someOne-take (suc k) (true ∷ l) h = h
-someOne-take (suc k) (false ∷ l) h = someOne-take k l h
-
-module _ (w : BitWriter) (l l' : List ℕ) (h : w .next ≤ length l) (h' : w .next < length l') (waits : Waits w)
-    (e : unpack (take (w .next + 1) l') ≡ written w l ++ bits (8 - w .fill) 0) where
-  begins : (n : ℕ) → n ≤ 8 * (w .next + 1) → take n (unpack l') ≡ take n (written w l ++ bits (8 - w .fill) 0)
-  begins n k = sym (take-take n (8 * (w .next + 1)) (unpack l') k) ∙ rw (take-unpack, e)
-
-  put-bits : take (length (written w l)) (unpack l') ≡ written w l
-  put-bits =
-      let few = waits .few in
-      let n = length-written w l h in
-      begins (length (written w l)) (omega arith) ∙ take-at (written w l) (bits (8 - w .fill) 0) (length (written w l)) refl
-
-  -- the unused bits are those that `finish` clears
-  unused : drop (length (written w l)) (unpack (take (bytesFor (length (written w l))) l'))
-      ≡ take (8 * bytesFor (length (written w l)) - length (written w l)) (bits (8 - w .fill) 0)
-  unused =
-      let few = waits .few in
-      let n = length-written w l h in
-      let x : List Bool = written w l in
-      let m : ℕ = 8 * bytesFor (length x) in
-      let s : m ≡ length x + (m - length x) = omega arith in
-      let t : take m (unpack l') ≡ x ++ take (m - length x) (bits (8 - w .fill) 0) =
-      begins m (omega arith) ∙ ap (λ (k : ℕ). take k (x ++ bits (8 - w .fill) 0)) s ∙ take-append-add x (bits (8 - w .fill) 0) (m - length x) in
-      rw (← take-unpack, t) (drop-at x (take (m - length x) (bits (8 - w .fill) 0)) (length x) refl)
-
-  pub finished : Framed (written w l) l'
-  unfolding frameTest
-  finished =
-      let few = waits .few in
-      let n = length-written w l h in
-      let b : length (take (bytesFor (length (written w l))) l') ≡ bytesFor (length (written w l)) =
-      length-take-le (bytesFor (length (written w l))) l' (omega arith) in
-      record {
-        starts = put-bits;
-        clean = rw (eq-eqb _ _ b, unused) (someOne-take (8 * bytesFor (length (written w l)) - length (written w l)) (bits (8 - w .fill) 0) (someOne-zeros (8 - w .fill)));
-      }
+-- after `finish` the buffer begins with the frame of what was put behind the zeros before its start
+pub finished : (w : BitWriter) (l l' : List ℕ) → w .next ≤ length l → w .next < length l' → Waits w
+    → unpack (take (w .next + 1) l') ≡ written w l ++ bits (8 - w .fill) 0 → (start : ℕ) (x : List Bool) → written w l ≡ zeros start ++ x → Framed start x l'
+finished w l l' h h' waits e start x is =
+    let few = waits .few in
+    let y : List Bool = written w l in
+    let n : ℕ = bytesFor start (length x) in
+    let put = length-written w l h in
+    let long : length y ≡ start + length x = ap length is ∙ length-append (zeros start) x ∙ ap (λ (k : ℕ). k + length x) (length-bits start 0) in
+    let s : 8 * n ≡ length y + (8 * n - length y) = omega arith in
+    let t : unpack (take n l') ≡ y ++ take (8 * n - length y) (zeros (8 - w .fill)) =
+    sym (take-unpack n l') ∙ sym (take-take (8 * n) (8 * (w .next + 1)) (unpack l') (omega arith))
+    ∙ ap (take (8 * n)) (take-unpack (w .next + 1) l' ∙ e)
+    ∙ ap (λ (k : ℕ). take k (y ++ zeros (8 - w .fill))) s ∙ take-append-add y (zeros (8 - w .fill)) (8 * n - length y) in
+    let z : num (take (8 * n - length y) (zeros (8 - w .fill))) ≡ 0 =
+    num-take (8 * n - length y) (zeros (8 - w .fill)) ∙ rw (number-zeros (8 - w .fill)) (zero-mod (2 ^ (8 * n - length y))) in
+    let number : num (unpack (take n l')) ≡ num (unpack (pack start x)) =
+    ap num t ∙ num-append y (take (8 * n - length y) (zeros (8 - w .fill))) ∙ ap (λ (k : ℕ). num y + 2 ^ length y * k) z
+    ∙ omega arith ∙ ap num is ∙ sym (packed-number start x) in
+    let size : length (unpack (take n l')) ≡ length (unpack (pack start x)) =
+    omega (arith, length-unpack (take n l'), length-take-le n l' (omega arith), length-unpack (pack start x), length-pack n (zeros start ++ x)) in
+    num-inj (unpack (take n l')) (unpack (pack start x)) size number
 
 -- nothing put yet
-pub written-empty : (l : List ℕ) → written emptyWriter l ≡ []
-unfolding written unpack bits
-written-empty l = refl
+pub written-empty : (start : ℕ) (l : List ℕ) → written (emptyWriter start) l ≡ zeros start
+unfolding written unpack
+written-empty start l = refl
 
-pub empty-waits : Waits emptyWriter
-empty-waits = record { few = omega arith; small = omega arith }
+pub empty-waits : (start : ℕ) → start ≤ 7 → Waits (emptyWriter start)
+empty-waits start small = record { few = omega arith; small = pow-pos start }

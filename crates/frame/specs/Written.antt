@@ -1,17 +1,16 @@
 -- What a bit writer over a buffer stands for.
 use mathlib.Core.Path.{_≡_}
-use mathlib.Core.Bool.{Bool, false}
+use mathlib.Core.Bool.{Bool}
 use mathlib.Core.List.{List, _++_}
 use Prim.Native.Nat.{ℕ, _+_, _*_, _^_, _<_}
 use lib.ListN.{length, take}
 use Rattle.g9932.specs.Bits.{bits}
-use Rattle.g9932.specs.Refusals.{frameTest}
-use Rattle.g9932.specs.Sizes.{unpack, bytesFor}
+use Rattle.g9932.specs.Sizes.{unpack, bytesFor, pack}
 use Rattle.frame.specs.declared.BitWriter.{BitWriter}
 
--- nothing put yet
-abbrev pub emptyWriter : BitWriter
-emptyWriter = record { acc = 0; fill = 0; next = 0 }
+-- nothing put yet: before the start there are zeros, which wait
+abbrev pub emptyWriter : ℕ → BitWriter
+emptyWriter start = record { acc = 0; fill = start; next = 0 }
 
 -- the bits put so far: the whole bytes before next, and the bits that wait
 unfoldable pub written : BitWriter → List ℕ → List Bool
@@ -32,7 +31,6 @@ pub record Put (w : BitWriter) (before : List ℕ) (x : List Bool) (v : BitWrite
   pub waits : Waits v
   pub counted : bitsPut v ≡ bitsPut w + length x
 
--- a buffer that begins with the frame of the bits x
-pub record Framed (x : List Bool) (buffer : List ℕ) : Type 0 where
-  pub starts : take (length x) (unpack buffer) ≡ x
-  pub clean : frameTest (length x) (take (bytesFor (length x)) buffer) ≡ false
+-- a buffer that begins with the bits of a frame's bytes: of x from a start, zeros around
+abbrev pub Framed : ℕ → List Bool → List ℕ → Type 0
+Framed start x buffer = unpack (take (bytesFor start (length x)) buffer) ≡ unpack (pack start x)

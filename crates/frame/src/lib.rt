@@ -8,7 +8,7 @@ ghost use Prim.Native.Nat.{_+_, _-_, _*_, _/_, _%_, _^_, _≤_, _<_};
 ghost use lib.ListN.{length, getD, take, drop};
 ghost use Rattle.g9932.specs.Bits.{bits, num};
 ghost use Rattle.g9932.specs.Sizes.{bytesFor, unpack};
-ghost use Rattle.g9932.specs.Refusals.{frameTest};
+ghost use Rattle.g9932.specs.Refusals.{startTest, frameTest};
 ghost use Rattle.frame.specs.BitsAhead.{Ahead};
 ghost use Rattle.frame.specs.Written.{emptyWriter, written, Waits, Put};
 
@@ -19,21 +19,35 @@ fn byte_at(bytes: &[u8], i: usize) -> u64
     if i < bytes.len() { bytes[i] as u64 } else { 0 }
 }
 
-// The bytes of a frame of l bits: l/8 rounded up.
-pub fn bytes_for(l: usize) -> usize
-    ensures { λ r. ⌜ r ≡ bytesFor l ⌝ }
+// The bytes of a frame of l bits: (start + l)/8 rounded up, whatever the start.
+pub fn bytes_for(start: u8, l: usize) -> usize
+    ensures { λ r. ⌜ r ≡ bytesFor start l ⌝ }
 {
-    l / 8 + (l % 8 + 7) / 8
+    l / 8 + (l % 8 + start as usize + 7) / 8
 }
 
-// Whether FRAME (11) applies to a frame of l bits: its length is wrong, or an unused bit is 1.
-pub fn frame_refused(frame: &[u8], l: usize) -> bool
-    ensures { λ r. ⌜ r ≡ frameTest l (now (frame .entry)) ⌝ }
+// Whether FRAME (11) applies to a start: it is above 7.
+pub fn start_refused(start: u8) -> bool
+    ensures { λ r. ⌜ r ≡ startTest start ⌝ }
 {
-    if frame.len() != bytes_for(l) {
+    start > 7
+}
+
+// Whether FRAME (11) applies to a frame of l bits: its start is above 7, its length is wrong, or an unused bit is 1.
+pub fn frame_refused(frame: &[u8], start: u8, l: usize) -> bool
+    ensures { λ r. ⌜ r ≡ frameTest start l (now (frame .entry)) ⌝ }
+{
+    if start_refused(start) {
         return true;
     }
-    byte_at(frame, l / 8) >> (l % 8) != 0
+    if frame.len() != bytes_for(start, l) {
+        return true;
+    }
+    if get(frame, 0, start as usize) != 0 {
+        return true;
+    }
+    let end = l % 8 + start as usize;
+    byte_at(frame, l / 8 + end / 8) >> (end % 8) != 0
 }
 
 // Five bytes from byte i on; past the end they count as 0.
@@ -156,12 +170,13 @@ pub struct BitWriter {
 }
 
 impl BitWriter {
-    pub fn new() -> Self
-        ensures { λ r. ⌜ r ≡ emptyWriter ⌝ }
+    // Nothing put yet: the first bit comes at bit `start` of the first byte, behind zeros.
+    pub fn starting_at(start: u8) -> Self
+        ensures { λ r. ⌜ r ≡ emptyWriter start ⌝ }
     {
         Self {
             acc: 0,
-            fill: 0,
+            fill: start as usize,
             next: 0,
         }
     }

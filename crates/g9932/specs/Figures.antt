@@ -8,7 +8,7 @@ use Rattle.g9932.specs.Sizes.{Tables, tables, minus, point}
 use Rattle.g9932.specs.Refusals.{accepted, tableVerdict}
 use Rattle.g9932.specs.Filler.{resetRegister}
 use Rattle.g9932.specs.Symbol.{reorderedTonesOf, reorderedBitsOf}
-use Rattle.g9932.specs.Answers.{Report, Encoded, encodeOf, readOf, toneDone, mapLabel}
+use Rattle.g9932.specs.Answers.{Report, Encoded, encodeAt, readAt, toneDone, mapLabel}
 use Rattle.g9932.specs.declared.Mode.the-variants.{Coded}
 
 -- Bench table A, with a gain for sub-carrier 4
@@ -27,9 +27,9 @@ fiveTones =
 abbrev pub blank : Tables → List ℤ
 blank T = map (λ k. pos 0) (T .tones)
 
--- encoding from the register at reset, into two lists of as many entries as there are tones
+-- encoding a frame of one byte that starts at its bit 0, from the register at reset, into two lists of as many entries as there are tones
 abbrev pub encoding : Tables → ℕ → Encoded
-encoding T byte = encodeOf T (byte ∷ []) resetRegister (blank T) (blank T)
+encoding T byte = encodeAt T 0 (byte ∷ []) resetRegister (blank T) (blank T)
 
 abbrev pub done : ℕ → ℕ → Report
 done l r = record { verdict = accepted l; register = r }
@@ -49,7 +49,7 @@ pub record MarkedFigures : Type 0 where
   pub byte1 :
       (encoding (tableA 512) 1 .xs ≡ pos 3 ∷ minus 1 ∷ pos 1 ∷ minus 1 ∷ pos 1 ∷ pos 1 ∷ []) ×
       (encoding (tableA 512) 1 .ys ≡ pos 3 ∷ minus 1 ∷ pos 1 ∷ minus 1 ∷ pos 1 ∷ pos 1 ∷ [])
-  pub minusOne15 : readOf (tableA 0) allMinusOne allMinusOne resetRegister (0 ∷ []) ≡ record { report = done 5 2_097_151; frame = 15 ∷ [] }
+  pub minusOne15 : readAt (tableA 0) allMinusOne allMinusOne resetRegister 0 (0 ∷ []) ≡ record { report = done 5 2_097_151; frame = 15 ∷ [] }
   pub silent0 : encoding (tableA 0) 0 .report ≡ done 5 2_097_151
   pub five : tableVerdict fiveTones ≡ accepted 3
   pub five1 :

@@ -78,7 +78,7 @@ table-10-2 =
 
 -- ---- accepted tables and an accepted frame
 
-module _ (T : Tables) (ok : AcceptedTables T) (m : T .mode ≡ Coded) (f : List ℕ) (a : AcceptedFrame T f) where
+module _ (T : Tables) (ok : AcceptedTables T) (m : T .mode ≡ Coded) (start : ℕ) (f : List ℕ) (a : AcceptedFrame T start f) where
   facts : Accepted T
   facts = accepted-tables T ok
 
@@ -94,24 +94,24 @@ module _ (T : Tables) (ok : AcceptedTables T) (m : T .mode ≡ Coded) (f : List 
 
   -- the bits of a frame
   abbrev g : List Bool
-  g = frameBits (sizeOf T) f
+  g = frameBits start (sizeOf T) f
 
   taken-bits : length g ≡ takenTotal (pairsIn T)
-  taken-bits = length-taken T facts m f (a .passes)
+  taken-bits = length-taken T facts m start f (a .passes)
 
-  length-sent-bits : length (sentIn T f) ≡ sum (bitsOf (T .bits) (T .tones))
-  length-sent-bits = length-sentOf T facts g (length-frame (sizeOf T) f (a .passes))
+  length-sent-bits : length (sentIn T start f) ≡ sum (bitsOf (T .bits) (T .tones))
+  length-sent-bits = length-sentOf T facts g (length-frame start (sizeOf T) f (a .passes))
 
-  pub state-ends : stateAfter zeroState (wordsIn T f) ≡ zeroState
+  pub state-ends : stateAfter zeroState (wordsIn T start f) ≡ zeroState
   state-ends = formed-zero (pairsIn T) zeroState g (c .formed)
 
   -- each entry's label begins with the two lowest bits of its word
-  pub entries-low : map (take 2) (labelsOf (entries (T .bits) (T .tones)) (sentIn T f)) ≡ lowest (pairsIn T) (wordsIn T f)
+  pub entries-low : map (take 2) (labelsOf (entries (T .bits) (T .tones)) (sentIn T start f)) ≡ lowest (pairsIn T) (wordsIn T start f)
   unfolding sentOf
   entries-low =
       let es : List ℕ = entries (T .bits) (T .tones) in
-      let sent : sentIn T f ≡ encodePairs zeroState (pairsIn T) g = ap (λ (n : Mode). sentOf n (pairsIn T) g) m in
-      let low : map (take 2) (labelsOf es (encodePairs zeroState (pairsIn T) g)) ≡ lowest (pairsIn T) (wordsIn T f) =
+      let sent : sentIn T start f ≡ encodePairs zeroState (pairsIn T) g = ap (λ (n : Mode). sentOf n (pairsIn T) g) m in
+      let low : map (take 2) (labelsOf es (encodePairs zeroState (pairsIn T) g)) ≡ lowest (pairsIn T) (wordsIn T start f) =
       rw (c .pairs) (pairs-low es zeroState g (allTwo-entries (T .bits) (T .tones)) (c .enoughEntries) (taken-bits ∙ ap takenTotal (c .pairs))) in
       ap (λ (d : List Bool). map (take 2) (labelsOf es d)) sent ∙ low
 
@@ -121,12 +121,12 @@ module _ (T : Tables) (ok : AcceptedTables T) (m : T .mode ≡ Coded) (f : List 
       omega (arith, length-append big (replicate twos 2), length-replicate {A = ℕ} twos 2, ap length (entries-law (T .bits) (T .tones)))
       ∙ sym (ap (λ (n : Mode). count (ltb 0) (reorderedBits n (T .bits) (T .tones))) m ∙ nonzero-entries (T .bits) (T .tones))
 
-  low-bit : (j i : ℕ) → j < twos → i < 2 → bit (lowestAt T f (sharedEntry T j)) i ≡ bit (drop (sum big) (sentIn T f)) (2 * j + i)
+  low-bit : (j i : ℕ) → j < twos → i < 2 → bit (lowestAt T start f (sharedEntry T j)) i ≡ bit (drop (sum big) (sentIn T start f)) (2 * j + i)
   low-bit j i h l =
-      let d : List Bool = sentIn T f in
+      let d : List Bool = sentIn T start f in
       let before : List (List Bool) = map (take 2) (labelsOf big d) in
       let after : List (List Bool) = map (take 2) (labelsOf (replicate twos 2) (drop (sum big) d)) in
-      let cut : lowest (pairsIn T) (wordsIn T f) ≡ before ++ after =
+      let cut : lowest (pairsIn T) (wordsIn T start f) ≡ before ++ after =
       sym entries-low ∙ ap (λ (ns : List ℕ). map (take 2) (labelsOf ns d)) (entries-law (T .bits) (T .tones))
       ∙ ap (map (take 2)) (labels-append big (replicate twos 2) d) ∙ map-append (take 2) (labelsOf big d) (labelsOf (replicate twos 2) (drop (sum big) d)) in
       let at : sharedEntry T j ≡ length before + j =
@@ -163,10 +163,10 @@ module _ (T : Tables) (ok : AcceptedTables T) (m : T .mode ≡ Coded) (f : List 
       )
 
   point-at : (r i : ℕ) → i < oneBitTones T
-      → getD (writtenPoints T r f) (length (T .tones) - oneBitTones T + i) origin ≡ pointOf 1 (bit (drop (sum big) (sentIn T f)) i ∷ [])
+      → getD (writtenPoints T r start f) (length (T .tones) - oneBitTones T + i) origin ≡ pointOf 1 (bit (drop (sum big) (sentIn T start f)) i ∷ [])
   unfolding writtenPoints
   point-at r i h =
-      let d : List Bool = sentIn T f in
+      let d : List Bool = sentIn T start f in
       let n : ℕ = oneBitTones T in
       let front : List Point = writePoints r before d in
       let back : List Point = writePoints (registerAfter r before) (replicate n (Data 1)) (drop (loads before) d) in
@@ -180,13 +180,13 @@ module _ (T : Tables) (ok : AcceptedTables T) (m : T .mode ≡ Coded) (f : List 
       ∙ ap (λ (k : ℕ). pointOf 1 (bit (drop k d) i ∷ [])) loads-before
 
   pub two-ones : (r j : ℕ) → j < oneBitTones T / 2
-      → (getD (writtenPoints T r f) (firstOfTwo T j) origin ≡ pointOf 1 (bit (lowestAt T f (sharedEntry T j)) 0 ∷ []))
-      × (getD (writtenPoints T r f) (firstOfTwo T j + 1) origin ≡ pointOf 1 (bit (lowestAt T f (sharedEntry T j)) 1 ∷ []))
+      → (getD (writtenPoints T r start f) (firstOfTwo T j) origin ≡ pointOf 1 (bit (lowestAt T start f (sharedEntry T j)) 0 ∷ []))
+      × (getD (writtenPoints T r start f) (firstOfTwo T j + 1) origin ≡ pointOf 1 (bit (lowestAt T start f (sharedEntry T j)) 1 ∷ []))
   two-ones r j h =
       let first : firstOfTwo T j ≡ length (T .tones) - oneBitTones T + (2 * j + 0) = omega arith in
       let second : firstOfTwo T j + 1 ≡ length (T .tones) - oneBitTones T + (2 * j + 1) = omega arith in
-      let point : (i : ℕ) → i < 2 → getD (writtenPoints T r f) (length (T .tones) - oneBitTones T + (2 * j + i)) origin ≡ pointOf 1 (bit (lowestAt T f (sharedEntry T j)) i ∷ []) =
+      let point : (i : ℕ) → i < 2 → getD (writtenPoints T r start f) (length (T .tones) - oneBitTones T + (2 * j + i)) origin ≡ pointOf 1 (bit (lowestAt T start f (sharedEntry T j)) i ∷ []) =
       λ i l. point-at r (2 * j + i) (omega arith) ∙ ap (λ (b : Bool). pointOf 1 (b ∷ [])) (sym (low-bit j i h l)) in (
-        ap (λ (k : ℕ). getD (writtenPoints T r f) k origin) first ∙ point 0 (omega arith),
-        ap (λ (k : ℕ). getD (writtenPoints T r f) k origin) second ∙ point 1 (omega arith),
+        ap (λ (k : ℕ). getD (writtenPoints T r start f) k origin) first ∙ point 0 (omega arith),
+        ap (λ (k : ℕ). getD (writtenPoints T r start f) k origin) second ∙ point 1 (omega arith),
       )

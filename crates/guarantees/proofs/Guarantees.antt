@@ -2,27 +2,29 @@
 -- and what else is shown of the definitions. That the code gives what they say is the `ensures` of each operation. Each proof cites
 -- the part that shows it. The words are those of specs/Words.antt and of crate g9932.
 use Prim.Native.Nat.{ℕ, _+_, _-_, _*_, _/_, _%_, _^_, _≤_, _<_}
-use mathlib.Core.Bool.{Bool, true, cond, not}
+use mathlib.Core.Bool.{Bool, true, false, cond, not}
 use mathlib.Core.List.{List, [], _∷_, map}
 use mathlib.Core.Logic.{_↔_, _≢_}
-use mathlib.Core.Path.{_≡_}
+use mathlib.Core.Path.{_≡_, sym, _∙_}
 use lib.Dec.{eqb}
 use lib.IntN.{ℤ}
 use lib.ListN.{length, take, drop, getD}
 use Rattle.g9932.specs.Bits.{_⊕_, bits, bit, num, odd}
-use Rattle.g9932.specs.Sizes.{Tables, entry, unpack, Point, origin}
-use Rattle.g9932.specs.Refusals.{numberOf, accepted, refused, tableVerdict}
+use Rattle.g9932.specs.Sizes.{Tables, entry, bytesFor, pack, frameBits, unusedBits, Point, origin}
+use Rattle.g9932.specs.Refusals.{numberOf, accepted, refused, someOne, tableVerdict}
 use Rattle.g9932.specs.Order.{sum, count, filter, oneBit, bitsOf, entryCount, entries, pairCount}
 use Rattle.g9932.specs.Trellis.{Word, zeroState, lowBits, lowBitsOf, sentBits}
 use Rattle.g9932.specs.Points.{pointOf, negated}
 use Rattle.g9932.specs.Filler.{nextRegister, drawn, afterDraws, registerAfter}
 use Rattle.g9932.specs.Symbol.{reorderedTonesOf, reorderedBitsOf, classesOf, pairsIn, sizeOf, sentIn, writtenPoints, firstMonitored}
-use Rattle.g9932.specs.Answers.{reorderOf, encodeOf, Read, readOf, toneDone, mapLabel, readPoint, drawAnswer}
+use Rattle.g9932.specs.Answers.{reorderOf, encodeAt, Read, readAt, toneDone, mapLabel, readPoint, drawAnswer}
+use Rattle.g9932.specs.Aligned.{encodeOf, readOf}
 use Rattle.g9932.specs.Figures.{MarkedFigures}
 use Rattle.g9932.specs.declared.Class.the-variants.{Monitored, Silent}
 use Rattle.g9932.specs.declared.Found.the-variants.{At, Nothing}
 use Rattle.g9932.specs.declared.Mode.the-variants.{Uncoded, Coded}
 use Rattle.g9932.specs.declared.Refusal.{Refusal}
+use Rattle.g9932.proofs.Aligned as Aligned
 use Rattle.g9932.proofs.Figures as Figures
 use Rattle.g9932.proofs.Packed as Packed
 use Rattle.g9932.proofs.Reordering as Reordering
@@ -38,70 +40,110 @@ use Rattle.guarantees.proofs.Totals as Totals
 
 -- ---- demand 3
 
--- In any accepted tables, with a valid register and lent buffers xs, ys and f₀ of exact lengths:
-module _ (T : Tables) (r : ℕ) (xs ys : List ℤ) (f₀ : List ℕ) (ready : Ready T r xs ys f₀) where
+-- In any accepted tables, with a valid register, any start, the same in every call, and lent buffers xs, ys and f₀ of exact lengths:
+module _ (T : Tables) (r start : ℕ) (xs ys : List ℤ) (f₀ : List ℕ) (ready : Ready T r start xs ys f₀) where
   -- An accepted frame is encoded: DONE, L, the register after the draws, and X and Y of its points.
-  pub encoded : (f : List ℕ) → AcceptedFrame T f
-      → encodeOf T f r xs ys
+  pub encoded : (f : List ℕ) → AcceptedFrame T start f
+      → encodeAt T start f r xs ys
       ≡ record {
         report = record { verdict = accepted (sizeOf T); register = registerAfter r (classesOf T) };
-        xs = map (λ p. p .px) (writtenPoints T r f);
-        ys = map (λ p. p .py) (writtenPoints T r f);
+        xs = map (λ p. p .px) (writtenPoints T r start f);
+        ys = map (λ p. p .py) (writtenPoints T r start f);
       }
-  encoded = Operations.encoded T r xs ys f₀ ready
+  encoded = Operations.encoded T r start xs ys f₀ ready
 
   -- Two accepted frames give the same points exactly when they are the same frame.
-  pub distinct : (f g : List ℕ) → AcceptedFrame T f → AcceptedFrame T g
-      → ((encodeOf T f r xs ys .xs ≡ encodeOf T g r xs ys .xs) × (encodeOf T f r xs ys .ys ≡ encodeOf T g r xs ys .ys)) ↔ (f ≡ g)
-  distinct = RoundTrip.distinct T r xs ys f₀ ready
+  pub distinct : (f g : List ℕ) → AcceptedFrame T start f → AcceptedFrame T start g
+      → ((encodeAt T start f r xs ys .xs ≡ encodeAt T start g r xs ys .xs) × (encodeAt T start f r xs ys .ys ≡ encodeAt T start g r xs ys .ys)) ↔ (f ≡ g)
+  distinct = RoundTrip.distinct T r start xs ys f₀ ready
 
   -- A point list of the right length is read exactly when some accepted frame gives it,
   pub exactly : (X Y : List ℤ) → RightLength T X Y
-      → (readOf T X Y r f₀ .report .verdict .number ≡ 0)
-      ↔ ((f : List ℕ) × AcceptedFrame T f × (encodeOf T f r xs ys .xs ≡ X) × (encodeOf T f r xs ys .ys ≡ Y))
-  exactly = RoundTrip.exactly T r xs ys f₀ ready
+      → (readAt T X Y r start f₀ .report .verdict .number ≡ 0)
+      ↔ ((f : List ℕ) × AcceptedFrame T start f × (encodeAt T start f r xs ys .xs ≡ X) × (encodeAt T start f r xs ys .ys ≡ Y))
+  exactly = RoundTrip.exactly T r start xs ys f₀ ready
 
   -- with that frame as the answer, and with the number, place, L and register of encoding it.
-  pub answered : (f : List ℕ) → AcceptedFrame T f
-      → readOf T (encodeOf T f r xs ys .xs) (encodeOf T f r xs ys .ys) r f₀ ≡ record { report = encodeOf T f r xs ys .report; frame = f }
-  answered = RoundTrip.answered T r xs ys f₀ ready
+  pub answered : (f : List ℕ) → AcceptedFrame T start f
+      → readAt T (encodeAt T start f r xs ys .xs) (encodeAt T start f r xs ys .ys) r start f₀ ≡ record { report = encodeAt T start f r xs ys .report; frame = f }
+  answered = RoundTrip.answered T r start xs ys f₀ ready
 
   -- Coded, a written symbol with every point turned by half a turn:
   abbrev turnedRead : List ℕ → Read
-  turnedRead f = readOf T (turned (encodeOf T f r xs ys .xs)) (turned (encodeOf T f r xs ys .ys)) r f₀
+  turnedRead f = readAt T (turned (encodeAt T start f r xs ys .xs)) (turned (encodeAt T start f r xs ys .ys)) r start f₀
 
   -- it is read as another frame exactly when no tone is monitored and N is even;
-  pub half-turn : T .mode ≡ Coded → (f : List ℕ) → AcceptedFrame T f
-      → ((turnedRead f .report .verdict .number ≡ 0) × AcceptedFrame T (turnedRead f .frame) × (turnedRead f .frame ≢ f))
+  pub half-turn : T .mode ≡ Coded → (f : List ℕ) → AcceptedFrame T start f
+      → ((turnedRead f .report .verdict .number ≡ 0) × AcceptedFrame T start (turnedRead f .frame) × (turnedRead f .frame ≢ f))
       ↔ ((firstMonitored T ≡ Nothing) × (nonZero T % 2 ≡ 0))
-  half-turn = HalfTurn.half-turn T r xs ys f₀ ready
+  half-turn = HalfTurn.half-turn T r start xs ys f₀ ready
 
   -- otherwise it is refused.
-  pub half-turn-refused : T .mode ≡ Coded → (f : List ℕ) → AcceptedFrame T f
+  pub half-turn-refused : T .mode ≡ Coded → (f : List ℕ) → AcceptedFrame T start f
       → ((firstMonitored T ≡ Nothing) × (nonZero T % 2 ≡ 0) → ⊥) → turnedRead f .report .verdict .number ≢ 0
-  half-turn-refused m f ok other e = other (HalfTurn.half-turn-only T r xs ys f₀ ready m f ok e)
+  half-turn-refused m f ok other e = other (HalfTurn.half-turn-only T r start xs ys f₀ ready m f ok e)
 
   -- With a monitored tone, the refusal is MONITOR at the first one;
-  pub half-turn-monitored : T .mode ≡ Coded → (f : List ℕ) → AcceptedFrame T f → (k : ℕ) → firstMonitored T ≡ At k
+  pub half-turn-monitored : T .mode ≡ Coded → (f : List ℕ) → AcceptedFrame T start f → (k : ℕ) → firstMonitored T ≡ At k
       → turnedRead f .report .verdict ≡ refused 14 k
-  half-turn-monitored = HalfTurn.half-turn-monitored T r xs ys f₀ ready
+  half-turn-monitored = HalfTurn.half-turn-monitored T r start xs ys f₀ ready
 
   -- with none, and N odd, it is TRELLIS at pair 1 where P is 3, else at pair 2.
-  pub half-turn-odd : T .mode ≡ Coded → (f : List ℕ) → AcceptedFrame T f → firstMonitored T ≡ Nothing → nonZero T % 2 ≡ 1
+  pub half-turn-odd : T .mode ≡ Coded → (f : List ℕ) → AcceptedFrame T start f → firstMonitored T ≡ Nothing → nonZero T % 2 ≡ 1
       → turnedRead f .report .verdict ≡ refused 15 (cond (eqb (length (pairsIn T)) 3) 1 2)
-  half-turn-odd = HalfTurn.half-turn-odd T r xs ys f₀ ready
+  half-turn-odd = HalfTurn.half-turn-odd T r start xs ys f₀ ready
+
+-- ---- where a frame starts
+
+-- Bit k of a frame is bit k plus the start of its bytes: in byte (k + start) div 8, at weight 2 to the ((k + start) mod 8).
+pub frame-bit : (start l : ℕ) (f : List ℕ) (k : ℕ) → k < l → bit (frameBits start l f) k ≡ odd (getD f ((k + start) / 8) 0 / 2 ^ ((k + start) % 8))
+frame-bit = Packed.bit-frame
+
+-- From every start of 0 to 7 any L bits have an accepted frame, with the same points whatever the start.
+pub at-every-start : (T : Tables) (start : ℕ) → start ≤ 7 → (x : List Bool) → length x ≡ sizeOf T
+    → AcceptedFrame T start (pack start x) × (frameBits start (sizeOf T) (pack start x) ≡ x)
+    × ((r : ℕ) → writtenPoints T r start (pack start x) ≡ writtenPoints T r 0 (pack 0 x))
+at-every-start T start small x l = (
+  RoundTrip.packed-frame T start x l small,
+  RoundTrip.packed-bits T start x l,
+  λ r. RoundTrip.packed-points T start x l r ∙ sym (RoundTrip.packed-points T 0 x l r),
+)
+
+-- Whatever the inputs, what is read is an accepted frame, with zeros around its bits.
+pub zeros-around : (T : Tables) (X Y : List ℤ) (r start : ℕ) (f₀ : List ℕ) → readAt T X Y r start f₀ .report .verdict .number ≡ 0
+    → AcceptedFrame T start (readAt T X Y r start f₀ .frame) × (someOne (unusedBits start (sizeOf T) (readAt T X Y r start f₀ .frame)) ≡ false)
+zeros-around T X Y r start f₀ h =
+    let ok = RoundTrip.read-accepted T X Y r start f₀ h in
+    (ok, Packed.frame-unused start (sizeOf T) _ (ok .passes))
+
+-- A start above 7 is FRAME, after ROOM and whatever the register: in encoding,
+pub late-encoding : (T : Tables) → AcceptedTables T → (xs ys : List ℤ) → RightLength T xs ys → (start : ℕ) → 7 < start → (r : ℕ) (f : List ℕ)
+    → encodeAt T start f r xs ys .report .verdict ≡ refused 11 0
+late-encoding T ok xs ys right = Operations.late-encoding T ok right
+
+-- and in reading, where ROOM was judged with the bytes that this start and L would take.
+pub late-reading : (T : Tables) → AcceptedTables T → (X Y : List ℤ) → RightLength T X Y → (start : ℕ) → 7 < start → (r : ℕ) (f₀ : List ℕ)
+    → length f₀ ≡ bytesFor start (sizeOf T) → readAt T X Y r start f₀ .report .verdict ≡ refused 11 0
+late-reading T ok X Y right = Operations.late-reading T ok right
+
+-- Start 0 gives every answer of a call without a start, for all inputs.
+pub start-zero-encoding : (T : Tables) (f : List ℕ) (r : ℕ) (xs ys : List ℤ) → encodeAt T 0 f r xs ys ≡ encodeOf T f r xs ys
+start-zero-encoding = Aligned.start-zero-encoding
+
+pub start-zero-reading : (T : Tables) (X Y : List ℤ) (r : ℕ) (f₀ : List ℕ) → readAt T X Y r 0 f₀ ≡ readOf T X Y r f₀
+start-zero-reading = Aligned.start-zero-reading
 
 -- ---- refusals
 
 -- Whatever the inputs, what is refused returns the given register, leaves every lent buffer as it came, and reports L as 0: reading,
-pub refused-reading : (T : Tables) (X Y : List ℤ) (r : ℕ) (f₀ : List ℕ) → readOf T X Y r f₀ .report .verdict .number ≢ 0
-    → (readOf T X Y r f₀ .report .register ≡ r) × (readOf T X Y r f₀ .frame ≡ f₀) × (readOf T X Y r f₀ .report .verdict .size ≡ 0)
+pub refused-reading : (T : Tables) (X Y : List ℤ) (r start : ℕ) (f₀ : List ℕ) → readAt T X Y r start f₀ .report .verdict .number ≢ 0
+    → (readAt T X Y r start f₀ .report .register ≡ r) × (readAt T X Y r start f₀ .frame ≡ f₀) × (readAt T X Y r start f₀ .report .verdict .size ≡ 0)
 refused-reading = Operations.refused-reading
 
 -- encoding,
-pub refused-encoding : (T : Tables) (f : List ℕ) (r : ℕ) (xs ys : List ℤ) → encodeOf T f r xs ys .report .verdict .number ≢ 0
-    → (encodeOf T f r xs ys .report .register ≡ r) × (encodeOf T f r xs ys .xs ≡ xs) × (encodeOf T f r xs ys .ys ≡ ys)
-    × (encodeOf T f r xs ys .report .verdict .size ≡ 0)
+pub refused-encoding : (T : Tables) (start : ℕ) (f : List ℕ) (r : ℕ) (xs ys : List ℤ) → encodeAt T start f r xs ys .report .verdict .number ≢ 0
+    → (encodeAt T start f r xs ys .report .register ≡ r) × (encodeAt T start f r xs ys .xs ≡ xs) × (encodeAt T start f r xs ys .ys ≡ ys)
+    × (encodeAt T start f r xs ys .report .verdict .size ≡ 0)
 refused-encoding = Operations.refused-encoding
 
 -- re-ordering,
@@ -118,9 +160,9 @@ pub nine-unused : (x : Refusal) → numberOf x ≢ 9
 nine-unused = Verdicts.nine-unused
 
 -- and no call answers it, whatever the inputs: with tables,
-pub nine-with-tables : (T : Tables) (tones bits f f₀ : List ℕ) (xs ys : List ℤ) (r : ℕ)
+pub nine-with-tables : (T : Tables) (tones bits f f₀ : List ℕ) (xs ys : List ℤ) (r start : ℕ)
     → (tableVerdict T .number ≢ 9) × (reorderOf T tones bits .verdict .number ≢ 9)
-    × (encodeOf T f r xs ys .report .verdict .number ≢ 9) × (readOf T xs ys r f₀ .report .verdict .number ≢ 9)
+    × (encodeAt T start f r xs ys .report .verdict .number ≢ 9) × (readAt T xs ys r start f₀ .report .verdict .number ≢ 9)
 nine-with-tables = Operations.nine-with-tables
 
 -- and without.
@@ -139,7 +181,7 @@ module _ (T : Tables) (ok : AcceptedTables T) where
   bits-uncoded = Totals.bits-uncoded T ok
 
   -- and as many are sent for an accepted frame
-  pub bits-sent : (f : List ℕ) → AcceptedFrame T f → length (sentIn T f) ≡ sum (bitsOf (T .bits) (reorderedTonesOf T))
+  pub bits-sent : (start : ℕ) (f : List ℕ) → AcceptedFrame T start f → length (sentIn T start f) ≡ sum (bitsOf (T .bits) (reorderedTonesOf T))
   bits-sent = Totals.bits-sent T ok
 
   -- ---- re-ordering
@@ -163,8 +205,8 @@ module _ (T : Tables) (ok : AcceptedTables T) where
   bits-kept = Totals.bits-kept T ok
 
   -- t', b' and the points have NSC entries each
-  pub lengths : (r : ℕ) (f : List ℕ)
-      → (length (reorderedTonesOf T) ≡ length (T .tones)) × (length (reorderedBitsOf T) ≡ length (T .tones)) × (length (writtenPoints T r f) ≡ length (T .tones))
+  pub lengths : (r start : ℕ) (f : List ℕ)
+      → (length (reorderedTonesOf T) ≡ length (T .tones)) × (length (reorderedBitsOf T) ≡ length (T .tones)) × (length (writtenPoints T r start f) ≡ length (T .tones))
   lengths = Totals.lengths T ok
 
   -- N is counted in b' as document 01 works it out of the tones, and P pairs are cut
@@ -201,20 +243,20 @@ pub sent-low-alone : (u : Word) → take 2 (sentBits 0 u) ≡ lowBitsOf u .w0 �
 sent-low-alone = EntryBits.sent-low-alone
 
 -- In accepted tables, coded, with an accepted frame:
-module _ (T : Tables) (ok : AcceptedTables T) (m : T .mode ≡ Coded) (f : List ℕ) (a : AcceptedFrame T f) where
+module _ (T : Tables) (ok : AcceptedTables T) (m : T .mode ≡ Coded) (start : ℕ) (f : List ℕ) (a : AcceptedFrame T start f) where
   -- the label of each of the N entries begins with v0 v1 of its pair's word, or with w0 w1 where it is the second of its pair,
-  pub entries-low : map (take 2) (labelsOf (entries (T .bits) (T .tones)) (sentIn T f)) ≡ lowest (pairsIn T) (wordsIn T f)
-  entries-low = Coded.entries-low T ok m f a
+  pub entries-low : map (take 2) (labelsOf (entries (T .bits) (T .tones)) (sentIn T start f)) ≡ lowest (pairsIn T) (wordsIn T start f)
+  entries-low = Coded.entries-low T ok m start f a
 
   -- and two consecutive 1-bit tones share an entry: the first gets the first of its two bits, the second the second.
   pub two-ones : (r j : ℕ) → j < oneBitTones T / 2
-      → (getD (writtenPoints T r f) (firstOfTwo T j) origin ≡ pointOf 1 (bit (lowestAt T f (sharedEntry T j)) 0 ∷ []))
-      × (getD (writtenPoints T r f) (firstOfTwo T j + 1) origin ≡ pointOf 1 (bit (lowestAt T f (sharedEntry T j)) 1 ∷ []))
-  two-ones = Coded.two-ones T ok m f a
+      → (getD (writtenPoints T r start f) (firstOfTwo T j) origin ≡ pointOf 1 (bit (lowestAt T start f (sharedEntry T j)) 0 ∷ []))
+      × (getD (writtenPoints T r start f) (firstOfTwo T j + 1) origin ≡ pointOf 1 (bit (lowestAt T start f (sharedEntry T j)) 1 ∷ []))
+  two-ones = Coded.two-ones T ok m start f a
 
   -- The state is zero again after the last pair.
-  pub state-ends : stateAfter zeroState (wordsIn T f) ≡ zeroState
-  state-ends = Coded.state-ends T ok m f a
+  pub state-ends : stateAfter zeroState (wordsIn T start f) ≡ zeroState
+  state-ends = Coded.state-ends T ok m start f a
 
 -- ---- one tone
 
@@ -243,11 +285,7 @@ pub opposite : (b l : ℕ) (p : Point) → 2 ≤ b → mapLabel b l ≡ toneDone
     → (m : ℕ) × (readPoint b (negated p) ≡ toneDone m) × (bit (bits b m) 0 ≡ not (bit (bits b l) 0)) × (bit (bits b m) 1 ≡ not (bit (bits b l) 1))
 opposite = Mapping.opposite
 
--- ---- frames and filler bits
-
--- Bit k of a frame is in byte k div 8, at weight 2 to the (k mod 8).
-pub frame-bit : (f : List ℕ) (k : ℕ) → bit (unpack f) k ≡ odd (getD f (k / 8) 0 / 2 ^ (k % 8))
-frame-bit = Packed.bit-unpack
+-- ---- filler bits
 
 -- Filler bits d1 to d23 are 1; later dn = d(n−18) xor d(n−23).
 pub filler-first : (n : ℕ) → 1 ≤ n → n ≤ 23 → fillerBit n ≡ true
@@ -271,14 +309,14 @@ pub symbol-draws : (T : Tables) (r : ℕ) → registerAfter r (classesOf T) ≡ 
 symbol-draws = Totals.symbol-draws
 
 -- a monitored tone has the point of the next two after those of the 0-bit tones before it in t',
-pub monitored-draws : (T : Tables) (r : ℕ) (f : List ℕ) (k : ℕ) → k < length (T .tones) → getD (classesOf T) k Silent ≡ Monitored
-    → getD (writtenPoints T r f) k origin ≡ pointOf 2 (drawn 2 (afterDraws (2 * zeroBitTones T (take k (reorderedTonesOf T))) r))
+pub monitored-draws : (T : Tables) (r start : ℕ) (f : List ℕ) (k : ℕ) → k < length (T .tones) → getD (classesOf T) k Silent ≡ Monitored
+    → getD (writtenPoints T r start f) k origin ≡ pointOf 2 (drawn 2 (afterDraws (2 * zeroBitTones T (take k (reorderedTonesOf T))) r))
 monitored-draws = Totals.monitored-draws
 
 -- and a silent one has (0, 0).
-pub silent-point : (T : Tables) (r : ℕ) (f : List ℕ) (k : ℕ) → k < length (T .tones) → getD (classesOf T) k Silent ≡ Silent
-    → getD (writtenPoints T r f) k origin ≡ origin
-silent-point T r f k h = Totals.silent-point T r f k
+pub silent-point : (T : Tables) (r start : ℕ) (f : List ℕ) (k : ℕ) → k < length (T .tones) → getD (classesOf T) k Silent ≡ Silent
+    → getD (writtenPoints T r start f) k origin ≡ origin
+silent-point T r start f k h = Totals.silent-point T r start f k
 
 -- ---- the marked bench figures, as one claim (g9932/specs/Figures)
 

@@ -1,6 +1,6 @@
 -- Half a turn of a written symbol in coded mode: with a monitored tone it fails 14 at the first one; else it is read as another
 -- frame where N is even, and breaks the code where N is odd.
-use Prim.Native.Nat.{ℕ, zero, suc, _/_, _%_, _<_}
+use Prim.Native.Nat.{ℕ, zero, suc, _/_, _%_, _≤_, _<_}
 use mathlib.Core.Bool.{Bool, true, false, cond}
 use mathlib.Core.List.{List, [], _∷_, map}
 use mathlib.Core.Logic.{_↔_, _≢_}
@@ -17,7 +17,7 @@ use Rattle.g9932.specs.Order.{count, isOne, ones, entries, reorderedBits}
 use Rattle.g9932.specs.Trellis.{zeroState, encodePairs, frame, readPairs, takenTotal}
 use Rattle.g9932.specs.Points.{negated}
 use Rattle.g9932.specs.Symbol.{classesOf, reorderedTonesOf, pairsIn, sizeOf, writtenPoints, offgridTest, monitorTest, gatherBits, readingIn, firstMonitored}
-use Rattle.g9932.specs.Answers.{reportBy, breakIn, pointsVerdict, Read, readOf}
+use Rattle.g9932.specs.Answers.{reportBy, breakIn, pointsVerdict, Read, readAt}
 use Rattle.g9932.specs.declared.Class.{Class}
 use Rattle.g9932.specs.declared.Class.the-variants.{Data, Monitored, Silent}
 use Rattle.g9932.specs.declared.Found.{Found}
@@ -30,6 +30,7 @@ use Rattle.g9932.proofs.Constellations.{point-opposite}
 use Rattle.g9932.proofs.Formed.{Formed}
 use Rattle.g9932.proofs.HalfPairs.{halfTurned, turned-even, turned-odd}
 use Rattle.g9932.proofs.HalfWord.{half}
+use Rattle.g9932.proofs.Packed.{start-most}
 use Rattle.g9932.proofs.Reordering.{nonzero-entries}
 use Rattle.g9932.proofs.Search.{first-no, first-all}
 use Rattle.g9932.proofs.Sent.{length-classes, loads-sum, length-taken, sentOf-read}
@@ -68,33 +69,33 @@ none-leaves (c ∷ cs) h (suc k) l = none-leaves cs (h .1) k (omega arith)
 
 -- ---- the turned points of accepted tables in coded mode
 
-module _ (T : Tables) (a : Accepted T) (m : T .mode ≡ Coded) (r : ℕ) (f : List ℕ) (ok : AcceptedFrame T f) where
+module _ (T : Tables) (a : Accepted T) (m : T .mode ≡ Coded) (r start : ℕ) (f : List ℕ) (ok : AcceptedFrame T start f) where
   c : AcceptedCoded T
   c = a .coded m
 
   abbrev q : List Point
-  q = map negated (writtenPoints T r f)
+  q = map negated (writtenPoints T r start f)
 
   abbrev g : List Bool
-  g = frameBits (sizeOf T) f
+  g = frameBits start (sizeOf T) f
 
   none : (k : ℕ) → k < length (classesOf T) → leaves halfPoint (getD (classesOf T) k Silent) ≡ false
   none = none-leaves (classesOf T) (loaded-classes (T .bits) (T .gains) (reorderedTonesOf T))
 
   no-13 : (k : ℕ) → k < length (classesOf T) → offgridTest (classesOf T) q k ≡ false
-  no-13 k h = off-13 halfPoint T a m r f ok k h ∙ none k h
+  no-13 k h = off-13 halfPoint T a m r start f ok k h ∙ none k h
 
   is-14 : first (monitorTest r (classesOf T) q) (length (classesOf T)) ≡ firstMonitored T
-  is-14 = ap (first (monitorTest r (classesOf T) q)) (length-classes T) ∙ at-14 halfPoint T a m r f ok
+  is-14 = ap (first (monitorTest r (classesOf T) q)) (length-classes T) ∙ at-14 halfPoint T a m r start f ok
 
   half-reading : readingIn T q ≡ readPairs zeroState (pairsIn T) (halfTurned (pairsIn T) (encodePairs zeroState (pairsIn T) g))
   half-reading =
       let n : ℕ = ones (T .bits) (T .tones) in
       let even : n % 2 ≡ 0 = c .onesEven in
-      turned-reading halfPoint T a m r f ok none (λ d l. half-ones (n / 2) n d (omega arith) l)
+      turned-reading halfPoint T a m r start f ok none (λ d l. half-ones (n / 2) n d (omega arith) l)
 
   taken-bits : length g ≡ takenTotal (pairsIn T)
-  taken-bits = length-taken T a m f (ok .passes)
+  taken-bits = length-taken T a m start f (ok .passes)
 
   parity : nonZero T ≡ length (entries (T .bits) (T .tones))
   parity = ap (λ (n : Mode). count (ltb 0) (reorderedBits n (T .bits) (T .tones))) m ∙ nonzero-entries (T .bits) (T .tones)
@@ -124,7 +125,7 @@ module _ (T : Tables) (a : Accepted T) (m : T .mode ≡ Coded) (r : ℕ) (f : Li
       let o = formed-as false (ne-eqb (length (entries (T .bits) (T .tones)) % 2) 1 (λ h. omega (arith, parity))) in
       let t = turned-even (pairsIn T) g o taken-bits in
       let is : readingIn T q ≡ frame (t .0) = half-reading ∙ t .1 in
-      let lq : length q ≡ length (classesOf T) = length-map (writtenPoints T r f) negated ∙ length-written T a r f ∙ sym (length-classes T) in
+      let lq : length q ≡ length (classesOf T) = length-map (writtenPoints T r start f) negated ∙ length-written T a r start f ∙ sym (length-classes T) in
       let lg = length-gather (classesOf T) q lq no-13 ∙ loads-sum T in (
         record {
           on = no-13;
@@ -138,41 +139,44 @@ module _ (T : Tables) (a : Accepted T) (m : T .mode ≡ Coded) (r : ℕ) (f : Li
 
 -- ---- the promises
 
-module _ (T : Tables) (r : ℕ) (xs ys : List ℤ) (f₀ : List ℕ) (ready : Ready T r xs ys f₀) where
+module _ (T : Tables) (r start : ℕ) (xs ys : List ℤ) (f₀ : List ℕ) (ready : Ready T r start xs ys f₀) where
   abbrev pub turnedRead : List ℕ → Read
-  turnedRead f = readOf T (turned (X-of T r xs ys f₀ ready f)) (turned (Y-of T r xs ys f₀ ready f)) r f₀
+  turnedRead f = readAt T (turned (X-of T r start xs ys f₀ ready f)) (turned (Y-of T r start xs ys f₀ ready f)) r start f₀
 
-  module _ (m : T .mode ≡ Coded) (f : List ℕ) (ok : AcceptedFrame T f) where
+  module _ (m : T .mode ≡ Coded) (f : List ℕ) (ok : AcceptedFrame T start f) where
     facts : Accepted T
     facts = accepted-tables T (ready .tables)
 
+    small : start ≤ 7
+    small = start-most start (sizeOf T) f (ok .passes)
+
     abbrev X′ : List ℤ
-    X′ = turned (X-of T r xs ys f₀ ready f)
+    X′ = turned (X-of T r start xs ys f₀ ready f)
 
     abbrev Y′ : List ℤ
-    Y′ = turned (Y-of T r xs ys f₀ ready f)
+    Y′ = turned (Y-of T r start xs ys f₀ ready f)
 
     pub right : RightLength T X′ Y′
     right =
-        let e = encoded-right T r xs ys f₀ ready f ok in
+        let e = encoded-right T r start xs ys f₀ ready f ok in
         record {
-          xsLength = length-map (X-of T r xs ys f₀ ready f) negℤ ∙ e .xsLength;
-          ysLength = length-map (Y-of T r xs ys f₀ ready f) negℤ ∙ e .ysLength;
+          xsLength = length-map (X-of T r start xs ys f₀ ready f) negℤ ∙ e .xsLength;
+          ysLength = length-map (Y-of T r start xs ys f₀ ready f) negℤ ∙ e .ysLength;
         }
 
-    are-points : points X′ Y′ ≡ map negated (writtenPoints T r f)
-    are-points = rw (encoded-xs T r xs ys f₀ ready f ok, encoded-ys T r xs ys f₀ ready f ok) (points-turned (writtenPoints T r f))
+    are-points : points X′ Y′ ≡ map negated (writtenPoints T r start f)
+    are-points = rw (encoded-xs T r start xs ys f₀ ready f ok, encoded-ys T r start xs ys f₀ ready f ok) (points-turned (writtenPoints T r start f))
 
-    verdict-is : turnedRead f .report .verdict ≡ pointsVerdict T (map negated (writtenPoints T r f)) r
+    verdict-is : turnedRead f .report .verdict ≡ pointsVerdict T (map negated (writtenPoints T r start f)) r
     unfolding reportBy
-    verdict-is = ap (λ (a : Read). a .report .verdict) (reading T r xs ys f₀ ready X′ Y′ right) ∙ ap (λ (q : List Point). pointsVerdict T q r) are-points
+    verdict-is = ap (λ (a : Read). a .report .verdict) (reading T r start xs ys f₀ ready small X′ Y′ right) ∙ ap (λ (q : List Point). pointsVerdict T q r) are-points
 
     pub half-turn-monitored : (k : ℕ) → firstMonitored T ≡ At k → turnedRead f .report .verdict ≡ refused 14 k
-    half-turn-monitored k e = verdict-is ∙ sym (points-monitored T facts m r f ok k e)
+    half-turn-monitored k e = verdict-is ∙ sym (points-monitored T facts m r start f ok k e)
 
     pub half-turn-odd : firstMonitored T ≡ Nothing → nonZero T % 2 ≡ 1
         → turnedRead f .report .verdict ≡ refused 15 (cond (eqb (length (pairsIn T)) 3) 1 2)
-    half-turn-odd e n = verdict-is ∙ sym (points-odd T facts m r f ok e n)
+    half-turn-odd e n = verdict-is ∙ sym (points-odd T facts m r start f ok e n)
 
     pub half-turn-only : turnedRead f .report .verdict .number ≡ 0 → (firstMonitored T ≡ Nothing) × (nonZero T % 2 ≡ 0)
     half-turn-only h = go (firstMonitored T) refl (nonZero T % 2) refl
@@ -183,17 +187,17 @@ module _ (T : Tables) (r : ℕ) (xs ys : List ℤ) (f₀ : List ℕ) (ready : Re
         go Nothing e (suc n) d = absurd (omega (arith, ap (λ (v : Verdict). v .number) (half-turn-odd e (omega arith))))
 
     pub half-turn-even : firstMonitored T ≡ Nothing → nonZero T % 2 ≡ 0
-        → (turnedRead f .report .verdict .number ≡ 0) × AcceptedFrame T (turnedRead f .frame) × (turnedRead f .frame ≢ f)
+        → (turnedRead f .report .verdict .number ≡ 0) × AcceptedFrame T start (turnedRead f .frame) × (turnedRead f .frame ≢ f)
     half-turn-even e n =
-        let p = points-even T facts m r f ok e n in
-        let whole : turnedRead f ≡ record { report = done T r; frame = pack (p .1) } =
-        reading-done T r xs ys f₀ ready X′ Y′ (p .1) right (rw are-points (p .0)) (ap (readingIn T) are-points ∙ p .2) in
-        let is : turnedRead f .frame ≡ pack (p .1) = ap (λ (a : Read). a .frame) whole in (
+        let p = points-even T facts m r start f ok e n in
+        let whole : turnedRead f ≡ record { report = done T r; frame = pack start (p .1) } =
+        reading-done T r start xs ys f₀ ready small X′ Y′ (p .1) right (rw are-points (p .0)) (ap (readingIn T) are-points ∙ p .2) in
+        let is : turnedRead f .frame ≡ pack start (p .1) = ap (λ (a : Read). a .frame) whole in (
           ap (λ (a : Read). a .report .verdict .number) whole,
-          subst (λ (z : List ℕ). AcceptedFrame T z) (sym is) (packed-frame T facts r (p .1) (p .3)),
-          λ same. p .4 (sym (packed-bits T facts r (p .1) (p .3)) ∙ ap (frameBits (sizeOf T)) (sym is ∙ same)),
+          subst (λ (z : List ℕ). AcceptedFrame T start z) (sym is) (packed-frame T start (p .1) (p .3) small),
+          λ same. p .4 (sym (packed-bits T start (p .1) (p .3)) ∙ ap (frameBits start (sizeOf T)) (sym is ∙ same)),
         )
 
-    pub half-turn : ((turnedRead f .report .verdict .number ≡ 0) × AcceptedFrame T (turnedRead f .frame) × (turnedRead f .frame ≢ f))
+    pub half-turn : ((turnedRead f .report .verdict .number ≡ 0) × AcceptedFrame T start (turnedRead f .frame) × (turnedRead f .frame ≢ f))
         ↔ ((firstMonitored T ≡ Nothing) × (nonZero T % 2 ≡ 0))
     half-turn = (λ h. half-turn-only (h .0), λ h. half-turn-even (h .0) (h .1))

@@ -140,25 +140,25 @@ module _ (turn : PointTurn) where
 
   -- ---- of accepted tables, coded, for an accepted frame
 
-  module _ (T : Tables) (a : Accepted T) (m : T .mode ≡ Coded) (r : ℕ) (f : List ℕ) (ok : AcceptedFrame T f) where
+  module _ (T : Tables) (a : Accepted T) (m : T .mode ≡ Coded) (r start : ℕ) (f : List ℕ) (ok : AcceptedFrame T start f) where
     c : AcceptedCoded T
     c = a .coded m
 
     abbrev q : List Point
-    q = map point (writtenPoints T r f)
+    q = map point (writtenPoints T r start f)
 
     abbrev g : List Bool
-    g = frameBits (sizeOf T) f
+    g = frameBits start (sizeOf T) f
 
     pub off-13 : (k : ℕ) → k < length (classesOf T) → offgridTest (classesOf T) q k ≡ leaves (getD (classesOf T) k Silent)
     unfolding writtenPoints
-    off-13 = symbol-off r (classesOf T) (sentIn T f) (loaded-classes (T .bits) (T .gains) (reorderedTonesOf T)) (length-sentIn T a r f ok)
+    off-13 = symbol-off r (classesOf T) (sentIn T start f) (loaded-classes (T .bits) (T .gains) (reorderedTonesOf T)) (length-sentIn T a r start f ok)
 
     pub at-14 : first (monitorTest r (classesOf T) q) (length (T .tones)) ≡ firstMonitored T
     unfolding writtenPoints
     at-14 =
         first-ext (monitorTest r (classesOf T) q) (λ k. isMonitored (getD (classesOf T) k Silent)) (length (T .tones))
-        (λ k h. symbol-monitor r (classesOf T) (sentIn T f) k (rw (length-classes T) h))
+        (λ k h. symbol-monitor r (classesOf T) (sentIn T start f) k (rw (length-classes T) h))
 
     -- what is read where no point leaves its constellation and two 1-bit tones turn as an entry of 2 does
     module _ (none : (k : ℕ) → k < length (classesOf T) → leaves (getD (classesOf T) k Silent) ≡ false)
@@ -167,10 +167,10 @@ module _ (turn : PointTurn) where
       decoded-turned : gatherBits (classesOf T) q ≡ turnedBits word (pairsIn T) (encodePairs zeroState (pairsIn T) g)
       unfolding writtenPoints sentOf
       decoded-turned =
-          symbol-bits r (classesOf T) (sentIn T f) none (length-sentIn T a r f ok)
-          ∙ ap (λ (ns : List ℕ). turnedLabels word ns (sentIn T f))
+          symbol-bits r (classesOf T) (sentIn T start f) none (length-sentIn T a r start f ok)
+          ∙ ap (λ (ns : List ℕ). turnedLabels word ns (sentIn T start f))
           (load-classes (T .bits) (T .gains) (reorderedTonesOf T) ∙ ap (λ (n : Mode). bitsOf (T .bits) (reorderedTones n (T .bits) (T .tones))) m)
-          ∙ tones-pairs (turn .labels) (T .bits) (T .tones) (c .onesEven) twos (sentIn T f) (length-sentIn T a r f ok ∙ loads-sum T)
+          ∙ tones-pairs (turn .labels) (T .bits) (T .tones) (c .onesEven) twos (sentIn T start f) (length-sentIn T a r start f ok ∙ loads-sum T)
           ∙ ap₂ (turnedBits word) (sym (c .pairs)) (ap (λ (n : Mode). sentOf n (pairsIn T) g) m)
 
       pub turned-reading : readingIn T q ≡ readPairs zeroState (pairsIn T) (turnedBits word (pairsIn T) (encodePairs zeroState (pairsIn T) g))

@@ -15,14 +15,14 @@ use Rattle.g9932.specs.Filler.{resetRegister, drawn}
 use Rattle.g9932.specs.Symbol.{reorderedBitsOf, pairsIn, sizeOf}
 use Rattle.g9932.specs.declared.TrellisState.{TrellisState}
 
--- Tables are accepted in a mode when none of 1 to 8 applies, a frame of bytes when 11 doesn't. A register is valid when 12 doesn't
--- apply.
+-- Tables are accepted in a mode when none of 1 to 8 applies, a frame of bytes, from its start, when 11 doesn't. A register is valid
+-- when 12 doesn't apply.
 abbrev pub AcceptedTables : Tables → Type 0
 AcceptedTables T = tableVerdict T .number ≡ 0
 
-pub record AcceptedFrame (T : Tables) (f : List ℕ) : Type 0 where
+pub record AcceptedFrame (T : Tables) (start : ℕ) (f : List ℕ) : Type 0 where
   pub bytes : (k : ℕ) → k < length f → getD f k 0 < 256
-  pub passes : frameTest (sizeOf T) f ≡ false
+  pub passes : frameTest start (sizeOf T) f ≡ false
 
 abbrev pub ValidRegister : ℕ → Type 0
 ValidRegister r = seedTest r ≡ false
@@ -32,12 +32,12 @@ pub record RightLength (T : Tables) (xs ys : List ℤ) : Type 0 where
   pub xsLength : length xs ≡ length (T .tones)
   pub ysLength : length ys ≡ length (T .tones)
 
--- what demand 3 supposes: accepted tables, a valid register, and lent buffers of exact lengths
-pub record Ready (T : Tables) (r : ℕ) (xs ys : List ℤ) (f : List ℕ) : Type 0 where
+-- what demand 3 supposes: accepted tables, a valid register, and lent buffers of exact lengths; of the start nothing
+pub record Ready (T : Tables) (r start : ℕ) (xs ys : List ℤ) (f : List ℕ) : Type 0 where
   pub tables : AcceptedTables T
   pub register : ValidRegister r
   pub lists : RightLength T xs ys
-  pub frame : length f ≡ bytesFor (sizeOf T)
+  pub frame : length f ≡ bytesFor start (sizeOf T)
 
 -- The count of non-zero re-ordered entries is N. The 0 put in front of an odd count isn't in it.
 abbrev pub nonZero : Tables → ℕ
@@ -63,8 +63,8 @@ stateAfter s [] = s
 stateAfter s (u ∷ us) = stateAfter (nextOf s u) us
 
 -- the words of a frame
-abbrev pub wordsIn : Tables → List ℕ → List Word
-wordsIn T f = wordsOf zeroState (pairsIn T) (frameBits (sizeOf T) f)
+abbrev pub wordsIn : Tables → ℕ → List ℕ → List Word
+wordsIn T start f = wordsOf zeroState (pairsIn T) (frameBits start (sizeOf T) f)
 
 -- the two lowest bits of each entry's label: v0 v1 for the first of a pair, w0 w1 for the second; where x = 0 there is no v
 abbrev pub lowestOf : ℕ → Word → List (List Bool)
@@ -82,8 +82,8 @@ labelsOf [] d = []
 labelsOf (n ∷ ns) d = take n d ∷ labelsOf ns (drop n d)
 
 -- the two lowest bits of the label of entry n of the N, for a frame
-abbrev pub lowestAt : Tables → List ℕ → ℕ → List Bool
-lowestAt T f n = getD (lowest (pairsIn T) (wordsIn T f)) n []
+abbrev pub lowestAt : Tables → ℕ → List ℕ → ℕ → List Bool
+lowestAt T start f n = getD (lowest (pairsIn T) (wordsIn T start f)) n []
 
 -- how many 1-bit tones there are, which stand last in t'; the place of the first of the j-th two of them, and the entry that the two
 -- share, j from 0

@@ -15,7 +15,7 @@ use Rattle.frame.specs.declared.BitWriter.{BitWriter}
 use Rattle.g9932.proofs.PointLists.{length-points}
 use Rattle.g9932.proofs.Search.{found-not}
 use Rattle.g9932.proofs.Verdicts.{found-here, found-past}
-use Rattle.g9932.specs.Answers.{breakIn}
+use Rattle.g9932.specs.Answers.{breakIn, frameIn}
 use Rattle.g9932.specs.Bits.{num, bits, first}
 use Rattle.g9932.specs.Filler.{drawn, afterDraws}
 use Rattle.g9932.specs.Order.{pairsOf}
@@ -120,7 +120,7 @@ module _ {cs : List Class} {from : ℕ} {es ps ds layouts labels : List ℕ} {xs
 
 -- ---- the frame
 
-module _ {m : Mode} {cs : List Class} {d : List Bool} {from : ℕ} {es ps ds layouts labels held : List ℕ} (w : ReadFrameSupposes m cs d from es ps ds layouts labels held) where
+module _ {m : Mode} {start : ℕ} {cs : List Class} {d : List Bool} {from : ℕ} {es ps ds layouts labels held : List ℕ} (w : ReadFrameSupposes m start cs d from es ps ds layouts labels held) where
   abbrev small : (k : ℕ) → k < length cs → 1 ≤ entry (map load cs) k → entry labels k < 2 ^ entry (map load cs) k
   small = w .labelled .small
 
@@ -145,71 +145,71 @@ module _ {m : Mode} {cs : List Class} {d : List Bool} {from : ℕ} {es ps ds lay
   bits-are : bitsOfLabels es (labelsAt ps ls) ≡ d
   bits-are = by-entry (w .plan) labels n small ∙ w .labelled .bitsAre
 
-  pub collect-needs : m ≡ Uncoded → CollectNeeds emptyWriter es ps ls held
+  pub collect-needs : m ≡ Uncoded → CollectNeeds (emptyWriter start) es ps ls held
   collect-needs e =
-      let r : HeldFits Uncoded es (length held) = rw e at (w .heldFits) in
+      let r : HeldFits Uncoded start es (length held) = rw e at (w .heldFits) in
       record {
         same = placed .placesLength;
         counts = r .0;
         places = placed .rising;
         within = joined-within (w .plan) labels n small;
         bytes = omega (arith, r .1);
-        waits = empty-waits;
+        waits = empty-waits start (w .startMost);
       }
 
-  pub trellis-needs : m ≡ Coded → Placed es ps ls × TrellisNeeds emptyWriter es (labelsAt ps ls) held
+  pub trellis-needs : m ≡ Coded → Placed es ps ls × TrellisNeeds (emptyWriter start) es (labelsAt ps ls) held
   trellis-needs e =
-      let r : HeldFits Coded es (length held) = rw e at (w .heldFits) in
-      let t : TrellisNeeds emptyWriter es (labelsAt ps ls) held =
+      let r : HeldFits Coded start es (length held) = rw e at (w .heldFits) in
+      let t : TrellisNeeds (emptyWriter start) es (labelsAt ps ls) held =
       record {
         wide = r .0;
         enough = r .1;
         many = r .2;
         within = joined-within (w .plan) labels n small;
         bytes = omega (arith, r .3);
-        waits = empty-waits;
+        waits = empty-waits start (w .startMost);
       } in
       (placed, t)
 
   -- uncoded, the frame's bits are the labels'
-  module _ (e : m ≡ Uncoded) {v : BitWriter} {mid : List ℕ} (c : CollectsLabels emptyWriter es ps ls held v mid) (same : length mid ≡ length held) where
+  module _ (e : m ≡ Uncoded) {v : BitWriter} {mid : List ℕ} (c : CollectsLabels (emptyWriter start) es ps ls held v mid) (same : length mid ≡ length held) where
     -- the last byte is there
     pub collect-fits : v .next < length mid
     collect-fits =
-        let r : HeldFits Uncoded es (length held) = rw e at (w .heldFits) in
+        let r : HeldFits Uncoded start es (length held) = rw e at (w .heldFits) in
         omega (arith, c .counted, r .1)
 
-    pub collected : {after : List ℕ} → length after ≡ length mid → unpack (take (v .next + 1) after) ≡ written v mid ++ bits (8 - v .fill) 0 → ReadsFrame m es d Nothing after
+    pub collected : {after : List ℕ} → length after ≡ length mid → unpack (take (v .next + 1) after) ≡ written v mid ++ bits (8 - v .fill) 0 → ReadsFrame m start es d Nothing after
     unfolding readingOf
     collected {after} k f =
         let h = collect-fits in
         rw e
         (record {
           brokenIs = refl;
-          framed = λ _. rw (c .whole, written-empty held, bits-are) at (finished v mid after (omega arith) (omega arith) (c .waits) f);
+          framed = λ _. finished v mid after (omega arith) (omega arith) (c .waits) f start d (c .whole ∙ rw (written-empty start held, bits-are));
         })
 
   -- coded, the code is read
-  module _ (e : m ≡ Coded) {p : PairsRead} {mid : List ℕ} (c : ReadsLabels emptyWriter es (labelsAt ps ls) held p mid) where
+  module _ (e : m ≡ Coded) {p : PairsRead} {mid : List ℕ} (c : ReadsLabels (emptyWriter start) es (labelsAt ps ls) held p mid) where
     reading-is : readingOf Coded (pairsOf es) (bitsOfLabels es (labelsAt ps ls)) ≡ readingOf Coded (pairsOf es) d
     reading-is = rw bits-are
 
-    pub broken-found : {k : ℕ} (after : List ℕ) → p .broken ≡ At k → ReadsFrame m es d (At k) after
+    pub broken-found : {k : ℕ} (after : List ℕ) → p .broken ≡ At k → ReadsFrame m start es d (At k) after
     broken-found after b = rw e (record { brokenIs = sym b ∙ c .broken ∙ ap breakIn reading-is; framed = λ z. absurd (found-not z) })
 
     module _ (b : p .broken ≡ Nothing) (same : length mid ≡ length held) where
       -- the last byte is there
       pub read-fits : p .writer .next < length mid
       read-fits =
-          let r : HeldFits Coded es (length held) = rw e at (w .heldFits) in
+          let r : HeldFits Coded start es (length held) = rw e at (w .heldFits) in
           omega (arith, c .counted b, r .3)
 
       pub none-broken : {after : List ℕ} → length after ≡ length mid → unpack (take (p .writer .next + 1) after) ≡ written (p .writer) mid ++ bits (8 - p .writer .fill) 0
-          → ReadsFrame m es d Nothing after
+          → ReadsFrame m start es d Nothing after
       none-broken {after} k f =
           let h = read-fits in
           rw e
           (record {
             brokenIs = sym b ∙ c .broken ∙ ap breakIn reading-is;
-            framed = λ _. rw (c .whole b, written-empty held, reading-is) at (finished (p .writer) mid after (omega arith) (omega arith) (c .waits) f);
+            framed = λ _. finished (p .writer) mid after (omega arith) (omega arith) (c .waits) f start (frameIn (readingOf Coded (pairsOf es) d)) (c .whole b ∙ rw (written-empty start held, reading-is));
           })

@@ -36,8 +36,8 @@ module _ (part l : List ℕ) (n : ℕ) (h : n ≤ length l) (e : length part ≡
 
 -- ---- writing
 
-pub points-of : {T : Tables} {m : Mode} {from : ℕ} {f es ps ds layouts labels after sliced : List ℕ} {xs ys : List ℤ} → WriteSymbolSupposes T m from f es ps ds layouts labels xs ys
-    → length after ≡ length labels → sliced ≡ after → EntryLabels (sentFor m f 0 es) es ps after → WritePointsSupposes (classesOf T) (sentIn T f) from es ps ds layouts sliced xs ys
+pub points-of : {T : Tables} {m : Mode} {from start : ℕ} {f es ps ds layouts labels after sliced : List ℕ} {xs ys : List ℤ} → WriteSymbolSupposes T m from f start es ps ds layouts labels xs ys
+    → length after ≡ length labels → sliced ≡ after → EntryLabels (sentFor m f start es) es ps after → WritePointsSupposes (classesOf T) (sentIn T start f) from es ps ds layouts sliced xs ys
 points-of s n is l =
     rw is
     (record {
@@ -50,7 +50,7 @@ points-of s n is l =
 
 -- ---- reading
 
-module _ {T : Tables} {m : Mode} {from size : ℕ} {es ps ds layouts labels held f : List ℕ} {xs ys : List ℤ} (s : ReadSymbolSupposes T m from size es ps ds layouts xs ys labels held f) where
+module _ {T : Tables} {m : Mode} {from size start : ℕ} {es ps ds layouts labels held f : List ℕ} {xs ys : List ℤ} (s : ReadSymbolSupposes T m from size es ps ds layouts xs ys labels held f start) where
   pub places-of : ReadPlacesSupposes (classesOf T) from es ps ds layouts labels xs ys
   places-of = record { plan = s .plan; labelsLength = s .labelsLength; xsLength = s .xsLength; ysLength = s .ysLength }
 
@@ -59,38 +59,38 @@ module _ {T : Tables} {m : Mode} {from size : ℕ} {es ps ds layouts labels held
     found = places (classesOf T) from es ps places-of .answer
 
     -- 13 or 14
-    pub place-refused : {x : Refusal} → t ≡ PlaceRefused x → ReadsPoints T (points xs ys) r f (NotDone x r) f
+    pub place-refused : {x : Refusal} → t ≡ PlaceRefused x → ReadsPoints T (points xs ys) r f start (NotDone x r) f
     place-refused {x} e =
         let by : PlacesBy (classesOf T) r (points xs ys) (PlaceRefused x) after = rw e at found in
-        points-refused T _ _ _ x (place-found T (points xs ys) r x by)
+        points-refused T _ _ _ _ x (place-found T (points xs ys) r x by)
 
     module _ {k : ℕ} (e : t ≡ PlacesPass k) {sliced : List ℕ} (is : sliced ≡ after) where
       done : PlacesDone (classesOf T) r (points xs ys) k after
       done = rw e at found
 
-      pub frame-of : ReadFrameSupposes m (classesOf T) (gatherBits (classesOf T) (points xs ys)) from es ps ds layouts sliced held
-      frame-of = rw is (record { plan = s .plan; labelled = done .labelsAre; heldFits = s .heldFits })
+      pub frame-of : ReadFrameSupposes m start (classesOf T) (gatherBits (classesOf T) (points xs ys)) from es ps ds layouts sliced held
+      frame-of = rw is (record { plan = s .plan; labelled = done .labelsAre; startMost = s .startMost; heldFits = s .heldFits })
 
-      module _ {b : Found} {stored : List ℕ} (frames : ReadsAnyFrame m from es ps sliced held b stored) where
-        reads : ReadsFrame m es (gatherBits (classesOf T) (points xs ys)) b stored
+      module _ {b : Found} {stored : List ℕ} (frames : ReadsAnyFrame m start from es ps sliced held b stored) where
+        reads : ReadsFrame m start es (gatherBits (classesOf T) (points xs ys)) b stored
         reads = frames (classesOf T) _ ds layouts frame-of
 
         breaks-at : b ≡ breakIn (readingIn T (points xs ys))
         breaks-at = reads .brokenIs ∙ ap breakIn (s .readings (points xs ys))
 
         -- 15
-        pub pair-refused : {j : ℕ} → b ≡ At j → ReadsPoints T (points xs ys) r f (NotDone (Trellis j) r) f
-        pair-refused {j} e = points-refused T _ _ _ _ (break-found T _ _ done j (sym breaks-at ∙ e))
+        pub pair-refused : {j : ℕ} → b ≡ At j → ReadsPoints T (points xs ys) r f start (NotDone (Trellis j) r) f
+        pair-refused {j} e = points-refused T _ _ _ _ _ (break-found T _ _ done j (sym breaks-at ∙ e))
 
         module _ (same : length stored ≡ length held) where
           pub frame-fits : length f ≤ length stored
-          frame-fits = omega (arith, s .frameLength, s .heldLength, s .sizeMost)
+          frame-fits = omega (arith, s .frameLength, s .heldLength, s .sizeMost, s .startMost)
 
-          pub frame-read : b ≡ Nothing → Bytes stored → {out : List ℕ} → out ≡ take (length f) stored → ReadsPoints T (points xs ys) r f (Done size k) out
+          pub frame-read : b ≡ Nothing → Bytes stored → {out : List ℕ} → out ≡ take (length f) stored → ReadsPoints T (points xs ys) r f start (Done size k) out
           frame-read whole bytes {out} o =
               let q : List Point = points xs ys in
-              let framed : Framed (frameIn (readingIn T q)) stored = rw (s .readings q) at (reads .framed whole) in
+              let framed : Framed start (frameIn (readingIn T q)) stored = rw (s .readings q) at (reads .framed whole) in
               let nq : length q ≡ length (classesOf T) = length-points xs ys (s .xsLength ∙ sym (s .ysLength)) ∙ s .xsLength in
               let broken : breakIn (readingIn T q) ≡ Nothing = sym breaks-at ∙ whole in
-              let n : length f ≡ bytesFor (length (frameIn (readingIn T q))) = s .frameLength ∙ ap bytesFor (sym (s .whole q r (number-none (done .passed)) nq broken)) in
-              points-done T _ _ done size (s .sizeIs) broken f out (o ∙ framed-bytes (frameIn (readingIn T q)) stored (length f) n frame-fits framed bytes)
+              let n : length f ≡ bytesFor start (length (frameIn (readingIn T q))) = s .frameLength ∙ ap (bytesFor start) (sym (s .whole q r (number-none (done .passed)) nq broken)) in
+              points-done T _ _ done size (s .sizeIs) broken start f out (o ∙ framed-bytes start (frameIn (readingIn T q)) stored (length f) n frame-fits framed bytes)

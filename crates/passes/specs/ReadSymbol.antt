@@ -65,62 +65,64 @@ ReadsAnyPlaces ds layouts labels xs ys r t after =
 
 -- ---- the frame
 
--- what each mode asks of the entries and of a buffer of n bytes
-abbrev pub HeldFits : Mode → List ℕ → ℕ → Type 0
-HeldFits Uncoded es n = ((k : ℕ) → entry es k ≤ 15) × (sum es + 64 ≤ 8 * n)
-HeldFits Coded es n = Wide es × (4 ≤ length es) × (length es ≤ mostTones) × (takenTotal (pairsOf es) + 64 ≤ 8 * n)
+-- what each mode asks of a start, of the entries and of a buffer of n bytes
+abbrev pub HeldFits : Mode → ℕ → List ℕ → ℕ → Type 0
+HeldFits Uncoded start es n = ((k : ℕ) → entry es k ≤ 15) × (start + sum es + 64 ≤ 8 * n)
+HeldFits Coded start es n = Wide es × (4 ≤ length es) × (length es ≤ mostTones) × (start + takenTotal (pairsOf es) + 64 ≤ 8 * n)
 
 -- the labels are those of some classes and their bits
-pub record ReadFrameSupposes (m : Mode) (cs : List Class) (d : List Bool) (from : ℕ) (es ps ds layouts labels held : List ℕ) : Type 0 where
+pub record ReadFrameSupposes (m : Mode) (start : ℕ) (cs : List Class) (d : List Bool) (from : ℕ) (es ps ds layouts labels held : List ℕ) : Type 0 where
   pub plan : PlanOf cs from es ps ds layouts
   pub labelled : ToneLabels cs d labels
-  pub heldFits : HeldFits m es (length held)
+  pub startMost : start ≤ 7
+  pub heldFits : HeldFits m start es (length held)
 
-abbrev pub ReadFrameNeeds : Mode → ℕ → List ℕ → List ℕ → List ℕ → List ℕ → Type 0
-ReadFrameNeeds m from es ps labels held =
-    (cs : List Class) × (d : List Bool) × (ds : List ℕ) × (layouts : List ℕ) × ReadFrameSupposes m cs d from es ps ds layouts labels held
+abbrev pub ReadFrameNeeds : Mode → ℕ → ℕ → List ℕ → List ℕ → List ℕ → List ℕ → Type 0
+ReadFrameNeeds m start from es ps labels held =
+    (cs : List Class) × (d : List Bool) × (ds : List ℕ) × (layouts : List ℕ) × ReadFrameSupposes m start cs d from es ps ds layouts labels held
 
-pub record ReadsFrame (m : Mode) (es : List ℕ) (d : List Bool) (broken : Found) (after : List ℕ) : Type 0 where
+pub record ReadsFrame (m : Mode) (start : ℕ) (es : List ℕ) (d : List Bool) (broken : Found) (after : List ℕ) : Type 0 where
   pub brokenIs : broken ≡ breakIn (readingOf m (pairsOf es) d)
-  pub framed : broken ≡ Nothing → Framed (frameIn (readingOf m (pairsOf es) d)) after
+  pub framed : broken ≡ Nothing → Framed start (frameIn (readingOf m (pairsOf es) d)) after
 
 -- whatever classes and bits they are
-abbrev pub ReadsAnyFrame : Mode → ℕ → List ℕ → List ℕ → List ℕ → List ℕ → Found → List ℕ → Type 0
-ReadsAnyFrame m from es ps labels held broken after =
-    (cs : List Class) (d : List Bool) (ds layouts : List ℕ) → ReadFrameSupposes m cs d from es ps ds layouts labels held → ReadsFrame m es d broken after
+abbrev pub ReadsAnyFrame : Mode → ℕ → ℕ → List ℕ → List ℕ → List ℕ → List ℕ → Found → List ℕ → Type 0
+ReadsAnyFrame m start from es ps labels held broken after =
+    (cs : List Class) (d : List Bool) (ds layouts : List ℕ) → ReadFrameSupposes m start cs d from es ps ds layouts labels held → ReadsFrame m start es d broken after
 
 -- ---- a whole symbol
 
 -- the points are to be read by the plan of some tables
-pub record ReadSymbolSupposes (T : Tables) (m : Mode) (from size : ℕ) (es ps ds layouts : List ℕ) (xs ys : List ℤ) (labels held f : List ℕ) : Type 0 where
+pub record ReadSymbolSupposes (T : Tables) (m : Mode) (from size : ℕ) (es ps ds layouts : List ℕ) (xs ys : List ℤ) (labels held f : List ℕ) (start : ℕ) : Type 0 where
   pub plan : PlanOf (classesOf T) from es ps ds layouts
   pub labelsLength : length labels ≡ length (classesOf T)
   pub xsLength : length xs ≡ length (classesOf T)
   pub ysLength : length ys ≡ length (classesOf T)
-  pub heldFits : HeldFits m es (length held)
+  pub startMost : start ≤ 7
+  pub heldFits : HeldFits m start es (length held)
   pub heldLength : length held ≡ mostHeld
   pub sizeIs : size ≡ sizeOf T
-  pub frameLength : length f ≡ bytesFor (sizeOf T)
+  pub frameLength : length f ≡ bytesFor start (sizeOf T)
   pub sizeMost : sizeOf T ≤ mostBits
   pub readings : (q : List Point) → readingOf m (pairsOf es) (gatherBits (classesOf T) q) ≡ readingIn T q
   pub whole : (q : List Point) (r : ℕ) → placesVerdict (classesOf T) q r .number ≡ 0 → length q ≡ length (classesOf T)
       → breakIn (readingIn T q) ≡ Nothing → length (frameIn (readingIn T q)) ≡ sizeOf T
 
 -- the same, of arrays that begin with the lists of the plan
-abbrev pub ReadSymbolBy : Tables → Mode → PlanSizes → ℕ → List ℕ → List ℕ → List ℕ → List ℕ → List ℤ → List ℤ → List ℕ → List ℕ → List ℕ → Type 0
-ReadSymbolBy T m p n layouts entries places drawing xs ys labels held f =
-    ReadSymbolSupposes T m (p .«shared_from» .0) (p .size) (take (p .«entry_count») entries) (take (p .«entry_count») places) (take (p .«drawing_count») drawing) (take n layouts) xs ys (take n labels) held f
+abbrev pub ReadSymbolBy : Tables → Mode → PlanSizes → ℕ → List ℕ → List ℕ → List ℕ → List ℕ → List ℤ → List ℤ → List ℕ → List ℕ → List ℕ → ℕ → Type 0
+ReadSymbolBy T m p n layouts entries places drawing xs ys labels held f start =
+    ReadSymbolSupposes T m (p .«shared_from» .0) (p .size) (take (p .«entry_count») entries) (take (p .«entry_count») places) (take (p .«drawing_count») drawing) (take n layouts) xs ys (take n labels) held f start
 
-pub record ReadSymbolNeeds (m : Mode) (p : PlanSizes) (n : ℕ) (layouts entries places drawing : List ℕ) (xs ys : List ℤ) (labels held f : List ℕ) : Type 0 where
+pub record ReadSymbolNeeds (m : Mode) (p : PlanSizes) (n : ℕ) (layouts entries places drawing : List ℕ) (xs ys : List ℤ) (labels held f : List ℕ) (start : ℕ) : Type 0 where
   pub fits : PlanFits p n layouts entries places drawing labels
   pub tables : Tables
-  pub planned : ReadSymbolBy tables m p n layouts entries places drawing xs ys labels held f
+  pub planned : ReadSymbolBy tables m p n layouts entries places drawing xs ys labels held f start
 
-pub record ReadsPoints (T : Tables) (q : List Point) (r : ℕ) (before : List ℕ) (a : Answer) (after : List ℕ) : Type 0 where
+pub record ReadsPoints (T : Tables) (q : List Point) (r : ℕ) (before : List ℕ) (start : ℕ) (a : Answer) (after : List ℕ) : Type 0 where
   pub answer : reportOf a ≡ reportBy (pointsVerdict T q r) r (registerAfter r (classesOf T))
-  pub frameHolds : after ≡ onDone (pointsVerdict T q r) (pack (frameIn (readingIn T q))) before
+  pub frameHolds : after ≡ onDone (pointsVerdict T q r) (pack start (frameIn (readingIn T q))) before
 
 -- whatever tables they are
-abbrev pub ReadsAnySymbol : Mode → PlanSizes → ℕ → List ℕ → List ℕ → List ℕ → List ℕ → List ℤ → List ℤ → List ℕ → List ℕ → List ℕ → ℕ → Answer → List ℕ → Type 0
-ReadsAnySymbol m p n layouts entries places drawing xs ys labels held f r a after =
-    (T : Tables) → ReadSymbolBy T m p n layouts entries places drawing xs ys labels held f → ReadsPoints T (points xs ys) r f a after
+abbrev pub ReadsAnySymbol : Mode → PlanSizes → ℕ → List ℕ → List ℕ → List ℕ → List ℕ → List ℤ → List ℤ → List ℕ → List ℕ → List ℕ → ℕ → ℕ → Answer → List ℕ → Type 0
+ReadsAnySymbol m p n layouts entries places drawing xs ys labels held f start r a after =
+    (T : Tables) → ReadSymbolBy T m p n layouts entries places drawing xs ys labels held f start → ReadsPoints T (points xs ys) r f start a after

@@ -64,25 +64,25 @@ WritesAnyPoints from ds layouts labels xs ys r after xsAfter ysAfter =
 -- ---- a whole symbol
 
 -- the frame is to be written by the plan of some tables
-pub record WriteSymbolSupposes (T : Tables) (m : Mode) (from : ℕ) (f es ps ds layouts labels : List ℕ) (xs ys : List ℤ) : Type 0 where
+pub record WriteSymbolSupposes (T : Tables) (m : Mode) (from : ℕ) (f : List ℕ) (start : ℕ) (es ps ds layouts labels : List ℕ) (xs ys : List ℤ) : Type 0 where
   pub plan : PlanOf (classesOf T) from es ps ds layouts
-  pub labelNeeds : LabelFrameNeeds m f 0 es ps labels
-  pub sent : sentFor m f 0 es ≡ sentIn T f
+  pub labelNeeds : LabelFrameNeeds m f start es ps labels
+  pub sent : sentFor m f start es ≡ sentIn T start f
   pub labelsLength : length labels ≡ length (classesOf T)
   pub xsLength : length xs ≡ length (classesOf T)
   pub ysLength : length ys ≡ length (classesOf T)
 
 -- the same, of arrays that begin with the lists of the plan
-abbrev pub WriteSymbolBy : Tables → Mode → PlanSizes → ℕ → List ℕ → List ℕ → List ℕ → List ℕ → List ℕ → List ℕ → List ℤ → List ℤ → Type 0
-WriteSymbolBy T m p n f layouts entries places drawing labels xs ys =
-    WriteSymbolSupposes T m (p .«shared_from» .0) f (take (p .«entry_count») entries) (take (p .«entry_count») places) (take (p .«drawing_count») drawing) (take n layouts) (take n labels) xs ys
+abbrev pub WriteSymbolBy : Tables → Mode → PlanSizes → ℕ → List ℕ → ℕ → List ℕ → List ℕ → List ℕ → List ℕ → List ℕ → List ℤ → List ℤ → Type 0
+WriteSymbolBy T m p n f start layouts entries places drawing labels xs ys =
+    WriteSymbolSupposes T m (p .«shared_from» .0) f start (take (p .«entry_count») entries) (take (p .«entry_count») places) (take (p .«drawing_count») drawing) (take n layouts) (take n labels) xs ys
 
-pub record WriteSymbolNeeds (m : Mode) (p : PlanSizes) (n : ℕ) (f layouts entries places drawing labels : List ℕ) (xs ys : List ℤ) : Type 0 where
+pub record WriteSymbolNeeds (m : Mode) (p : PlanSizes) (n : ℕ) (f : List ℕ) (start : ℕ) (layouts entries places drawing labels : List ℕ) (xs ys : List ℤ) : Type 0 where
   pub fits : PlanFits p n layouts entries places drawing labels
   pub tables : Tables
-  pub planned : WriteSymbolBy tables m p n f layouts entries places drawing labels xs ys
+  pub planned : WriteSymbolBy tables m p n f start layouts entries places drawing labels xs ys
 
 -- whatever tables they are
-abbrev pub WritesAnySymbol : Mode → PlanSizes → ℕ → List ℕ → List ℕ → List ℕ → List ℕ → List ℕ → List ℕ → List ℤ → List ℤ → ℕ → ℕ → List ℤ → List ℤ → Type 0
-WritesAnySymbol m p n f layouts entries places drawing labels xs ys r after xsAfter ysAfter =
-    (T : Tables) → WriteSymbolBy T m p n f layouts entries places drawing labels xs ys → WritesPoints (classesOf T) r (sentIn T f) after xsAfter ysAfter
+abbrev pub WritesAnySymbol : Mode → PlanSizes → ℕ → List ℕ → ℕ → List ℕ → List ℕ → List ℕ → List ℕ → List ℕ → List ℤ → List ℤ → ℕ → ℕ → List ℤ → List ℤ → Type 0
+WritesAnySymbol m p n f start layouts entries places drawing labels xs ys r after xsAfter ysAfter =
+    (T : Tables) → WriteSymbolBy T m p n f start layouts entries places drawing labels xs ys → WritesPoints (classesOf T) r (sentIn T start f) after xsAfter ysAfter

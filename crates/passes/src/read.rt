@@ -39,28 +39,31 @@ fn read_places(
     PlacesRead::Done(f.register)
 }
 
-// The frame of labels by place, at the start of a buffer, or else the first pair that breaks the code. From place `shared_from` on two
-// tones share a label.
+// The frame of labels by place, from bit `start` on and with zeros around it, in the first bytes of a buffer; or else the first pair that
+// breaks the code. From place `shared_from` on two tones share a label.
 fn read_frame(
     mode: Mode,
+    start: u8,
     shared_from: Place,
     entries: &[u8],
     places: &[u16],
     labels: &mut [u16],
     held: &mut [u8],
 ) -> Found
-    requires { ⌜ ReadFrameNeeds mode («shared_from» .0) (now entries) (now places) (now labels) (now held) ⌝ }
-    ensures { λ r. ⌜ ReadsAnyFrame mode («shared_from» .0) (now (entries .entry)) (now (places .entry)) (now (labels .entry)) (now (held .entry)) r (now (held .exit)) ⌝ }
+    requires { ⌜ ReadFrameNeeds mode start («shared_from» .0) (now entries) (now places) (now labels) (now held) ⌝ }
+    ensures { λ r. ⌜ ReadsAnyFrame mode start («shared_from» .0) (now (entries .entry)) (now (places .entry)) (now (labels .entry)) (now (held .entry)) r (now (held .exit)) ⌝ }
 {
     mapper::read::join_shared(labels, shared_from);
     match mode {
         Mode::Uncoded => {
-            let w = mapper::read::collect_labels(BitWriter::new(), entries, places, labels, held);
+            let first = BitWriter::starting_at(start);
+            let w = mapper::read::collect_labels(first, entries, places, labels, held);
             w.finish(held);
             Found::Nothing
         }
         Mode::Coded => {
-            let p = decoder::read_labels(BitWriter::new(), labels, entries, places, held);
+            let first = BitWriter::starting_at(start);
+            let p = decoder::read_labels(first, labels, entries, places, held);
             let broken = p.broken;
             let w = p.writer;
             if let Found::At(k) = broken {
@@ -88,10 +91,11 @@ pub fn read_symbol(
     labels: &mut [u16],
     held: &mut [u8],
     frame: &mut [u8],
+    start: u8,
 ) -> Answer
-    requires { ⌜ ReadSymbolNeeds mode p n (now layouts) (now entries) (now places) (now drawing) (now xs) (now ys) (now labels) (now held) (now frame) ⌝ }
+    requires { ⌜ ReadSymbolNeeds mode p n (now layouts) (now entries) (now places) (now drawing) (now xs) (now ys) (now labels) (now held) (now frame) start ⌝ }
     ensures { λ r. ⌜ ReadsAnySymbol mode p n (now (layouts .entry)) (now (entries .entry)) (now (places .entry)) (now (drawing .entry))
-        (now (xs .entry)) (now (ys .entry)) (now (labels .entry)) (now (held .entry)) (now (frame .entry)) register r (now (frame .exit)) ⌝ }
+        (now (xs .entry)) (now (ys .entry)) (now (labels .entry)) (now (held .entry)) (now (frame .entry)) start register r (now (frame .exit)) ⌝ }
 {
     let e = p.entry_count;
     let d = p.drawing_count;
@@ -110,6 +114,7 @@ pub fn read_symbol(
         PlacesRead::Done(after) => {
             let broken = read_frame(
                 mode,
+                start,
                 p.shared_from,
                 &entries[..e],
                 &places[..e],

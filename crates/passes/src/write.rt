@@ -48,6 +48,7 @@ pub fn write_symbol(
     p: PlanSizes,
     n: usize,
     frame: &[u8],
+    start: u8,
     register: u32,
     layouts: &[u16],
     entries: &[u8],
@@ -57,8 +58,8 @@ pub fn write_symbol(
     xs: &mut [i16],
     ys: &mut [i16],
 ) -> u32
-    requires { ⌜ WriteSymbolNeeds mode p n (now frame) (now layouts) (now entries) (now places) (now drawing) (now labels) (now xs) (now ys) ⌝ }
-    ensures { λ r. ⌜ WritesAnySymbol mode p n (now (frame .entry)) (now (layouts .entry)) (now (entries .entry)) (now (places .entry)) (now (drawing .entry))
+    requires { ⌜ WriteSymbolNeeds mode p n (now frame) start (now layouts) (now entries) (now places) (now drawing) (now labels) (now xs) (now ys) ⌝ }
+    ensures { λ r. ⌜ WritesAnySymbol mode p n (now (frame .entry)) start (now (layouts .entry)) (now (entries .entry)) (now (places .entry)) (now (drawing .entry))
         (now (labels .entry)) (now (xs .entry)) (now (ys .entry)) register r (now (xs .exit)) (now (ys .exit)) ⌝ }
 {
     let e = p.entry_count;
@@ -66,7 +67,7 @@ pub fn write_symbol(
     label_frame(
         mode,
         frame,
-        0,
+        start as usize,
         &entries[..e],
         &places[..e],
         &mut labels[..n],

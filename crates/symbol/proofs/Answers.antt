@@ -1,9 +1,9 @@
 -- The answers of encoding and of reading: refused by the tables, refused after them, and what follows.
-use Prim.Native.Nat.{ℕ}
+use Prim.Native.Nat.{ℕ, _≤_}
 use mathlib.Core.Bool.{Bool, true, false, not, _||_, true≢false}
 use mathlib.Core.List.{List, map}
 use mathlib.Core.Path.{_≡_, refl, sym, ap, _∙_}
-use borrow.Author.Tests.{eq-eqb, ne-eqb, eqb-true}
+use borrow.Author.Tests.{eq-eqb, ne-eqb, eqb-true, ltb-false}
 use lib.Dec.{eqb}
 use lib.IntN.{ℤ}
 use lib.ListN.{length}
@@ -47,25 +47,25 @@ size-is T e = ap (λ (v : Verdict). v .size) (e ∙ accepted-tables T (number-no
 
 -- ---- encoding
 
-module _ (T : Tables) (f : List ℕ) (r : ℕ) (xs ys : List ℤ) where
-  encode-unchanged : (x : Refusal) → verdictOf (Refused x) ≡ encodeVerdict T f r (length xs) (length ys) → Encodes T f r xs ys (NotDone x r) xs ys
+module _ (T : Tables) (start : ℕ) (f : List ℕ) (r : ℕ) (xs ys : List ℤ) where
+  encode-unchanged : (x : Refusal) → verdictOf (Refused x) ≡ encodeVerdict T start f r (length xs) (length ys) → Encodes T start f r xs ys (NotDone x r) xs ys
   encode-unchanged x e = record { answer = report-refused x r _ e; xsHold = done-refused x _ _ e; ysHold = done-refused x _ _ e }
 
-  pub encode-tables : (x : Refusal) → verdictOf (Refused x) ≡ tableVerdict T → Encodes T f r xs ys (NotDone x r) xs ys
+  pub encode-tables : (x : Refusal) → verdictOf (Refused x) ≡ tableVerdict T → Encodes T start f r xs ys (NotDone x r) xs ys
   unfolding encodeVerdict
   encode-tables x e = encode-unchanged x (and-refused x _ e)
 
   module _ {l : ℕ} (ok : accepted l ≡ tableVerdict T) where
-    pub encode-inputs : (x : Refusal) → verdictOf (Refused x) ≡ encodeInputs l (length (T .tones)) (length xs) (length ys) f r → Encodes T f r xs ys (NotDone x r) xs ys
+    pub encode-inputs : (x : Refusal) → verdictOf (Refused x) ≡ encodeInputs start l (length (T .tones)) (length xs) (length ys) f r → Encodes T start f r xs ys (NotDone x r) xs ys
     unfolding encodeVerdict
     encode-inputs x e = encode-unchanged x (and-accepted l ok (rw (size-is T ok) at e))
 
-    pub encode-done : (k after : ℕ) (xsAfter ysAfter : List ℤ) → accepted k ≡ encodeInputs l (length (T .tones)) (length xs) (length ys) f r
-        → after ≡ registerAfter r (classesOf T) → xsAfter ≡ map (λ p. p .px) (writtenPoints T r f) → ysAfter ≡ map (λ p. p .py) (writtenPoints T r f)
-        → Encodes T f r xs ys (Done k after) xsAfter ysAfter
+    pub encode-done : (k after : ℕ) (xsAfter ysAfter : List ℤ) → accepted k ≡ encodeInputs start l (length (T .tones)) (length xs) (length ys) f r
+        → after ≡ registerAfter r (classesOf T) → xsAfter ≡ map (λ p. p .px) (writtenPoints T r start f) → ysAfter ≡ map (λ p. p .py) (writtenPoints T r start f)
+        → Encodes T start f r xs ys (Done k after) xsAfter ysAfter
     unfolding encodeVerdict
     encode-done k after xsAfter ysAfter e n x y =
-        let v : accepted k ≡ encodeVerdict T f r (length xs) (length ys) = and-accepted l ok (rw (size-is T ok) at e) in
+        let v : accepted k ≡ encodeVerdict T start f r (length xs) (length ys) = and-accepted l ok (rw (size-is T ok) at e) in
         record {
           answer = ap (λ (n : ℕ). reportOf (Done k n)) n ∙ report-done k r (registerAfter r (classesOf T)) v;
           xsHold = x ∙ done-accepted k _ _ v;
@@ -81,39 +81,40 @@ no-room a b n e = go (eqb a n) (eqb b n) refl refl e
     go true false p q e = absurd (true≢false e)
     go false d p q e = absurd (true≢false e)
 
-pub inputs-encoded : (size nsc a b : ℕ) (f : List ℕ) (r k : ℕ) → accepted k ≡ encodeInputs size nsc a b f r → ((a ≡ nsc) × (b ≡ nsc)) × (frameTest size f ≡ false)
+pub inputs-encoded : (start size nsc a b : ℕ) (f : List ℕ) (r k : ℕ) → accepted k ≡ encodeInputs start size nsc a b f r
+    → ((a ≡ nsc) × (b ≡ nsc)) × (frameTest start size f ≡ false)
 unfolding encodeInputs
-inputs-encoded size nsc a b f r k e =
+inputs-encoded start size nsc a b f r k e =
     let t = test-none 9 _ _ (number-none e) in
     let u = test-none 10 _ _ (t .1) in
     (no-room a b nsc (t .0), u .0)
 
 -- ---- reading
 
-module _ (T : Tables) (xs ys : List ℤ) (r : ℕ) (f : List ℕ) where
-  read-unchanged : (x : Refusal) → verdictOf (Refused x) ≡ readVerdict T xs ys r (length f) → Reads T xs ys r f (NotDone x r) f
+module _ (T : Tables) (xs ys : List ℤ) (r start : ℕ) (f : List ℕ) where
+  read-unchanged : (x : Refusal) → verdictOf (Refused x) ≡ readVerdict T xs ys r start (length f) → Reads T xs ys r start f (NotDone x r) f
   read-unchanged x e = record { answer = report-refused x r _ e; frameHolds = done-refused x _ _ e }
 
-  pub read-tables : (x : Refusal) → verdictOf (Refused x) ≡ tableVerdict T → Reads T xs ys r f (NotDone x r) f
+  pub read-tables : (x : Refusal) → verdictOf (Refused x) ≡ tableVerdict T → Reads T xs ys r start f (NotDone x r) f
   unfolding readVerdict
   read-tables x e = read-unchanged x (and-refused x _ e)
 
   module _ {l : ℕ} (ok : accepted l ≡ tableVerdict T) where
-    pub read-inputs : (x : Refusal) → verdictOf (Refused x) ≡ readInputs l (length (T .tones)) (length xs) (length ys) (length f) r → Reads T xs ys r f (NotDone x r) f
+    pub read-inputs : (x : Refusal) → verdictOf (Refused x) ≡ readInputs start l (length (T .tones)) (length xs) (length ys) (length f) r → Reads T xs ys r start f (NotDone x r) f
     unfolding readVerdict
     read-inputs x e = read-unchanged x (and-accepted l ok (and-refused x (pointsVerdict T (points xs ys) r) (rw (size-is T ok) at e)))
 
-    module _ {k : ℕ} (e : accepted k ≡ readInputs l (length (T .tones)) (length xs) (length ys) (length f) r) where
+    module _ {k : ℕ} (e : accepted k ≡ readInputs start l (length (T .tones)) (length xs) (length ys) (length f) r) where
       -- nothing is refused but by the points
-      past-inputs : pointsVerdict T (points xs ys) r ≡ readVerdict T xs ys r (length f)
+      past-inputs : pointsVerdict T (points xs ys) r ≡ readVerdict T xs ys r start (length f)
       unfolding readVerdict
       past-inputs = and-accepted l ok (and-accepted k (rw (size-is T ok) at e) refl)
 
-      pub read-points : (a : Answer) (after : List ℕ) → ReadsPoints T (points xs ys) r f a after → Reads T xs ys r f a after
+      pub read-points : (a : Answer) (after : List ℕ) → ReadsPoints T (points xs ys) r f start a after → Reads T xs ys r start f a after
       read-points a after p =
           record {
             answer = p .answer ∙ ap (λ v. reportBy v r (registerAfter r (classesOf T))) past-inputs;
-            frameHolds = p .frameHolds ∙ ap (λ v. onDone v (pack (frameIn (readingIn T (points xs ys)))) f) past-inputs;
+            frameHolds = p .frameHolds ∙ ap (λ v. onDone v (pack start (frameIn (readingIn T (points xs ys)))) f) past-inputs;
           }
 
 no-rooms : (a b n c m : ℕ) → roomTest a n || roomTest b n || roomTest c m ≡ false → ((a ≡ n) × (b ≡ n)) × (c ≡ m)
@@ -125,9 +126,10 @@ no-rooms a b n c m e = go (eqb a n) (eqb b n) (eqb c m) refl refl refl e
     go true false z p q s e = absurd (true≢false e)
     go false y z p q s e = absurd (true≢false e)
 
-pub inputs-read : (size nsc a b c r k : ℕ) → accepted k ≡ readInputs size nsc a b c r → (((a ≡ nsc) × (b ≡ nsc)) × (c ≡ bytesFor size)) × (k ≡ size)
+pub inputs-read : (start size nsc a b c r k : ℕ) → accepted k ≡ readInputs start size nsc a b c r
+    → (((a ≡ nsc) × (b ≡ nsc)) × (c ≡ bytesFor start size)) × (start ≤ 7)
 unfolding readInputs
-inputs-read size nsc a b c r k e =
+inputs-read start size nsc a b c r k e =
     let t = test-none 9 _ _ (number-none e) in
-    let u = test-none 11 _ _ (t .1) in
-    (no-rooms a b nsc c (bytesFor size) (t .0), ap (λ (v : Verdict). v .size) (e ∙ sym (test-past 10 (t .0) (test-past 12 (u .0) refl))))
+    let u = test-none 10 _ _ (t .1) in
+    (no-rooms a b nsc c (bytesFor start size) (t .0), ltb-false 7 start (u .0))

@@ -6,10 +6,10 @@ use mathlib.Core.Path.{_≡_, refl, sym, ap, _∙_}
 use native.Mathlib.Omega.{arith}
 use borrow.Author.Tests.{leb-false}
 use lib.Dec.{leb}
-use lib.ListN.{length, take, replicate}
+use lib.ListN.{length, take, drop, replicate}
 use Rattle.frame.specs.Labels.{Placed}
 use Rattle.g9932.proofs.Accepted.{Accepted, accepted-tables}
-use Rattle.g9932.proofs.Packed.{frame-length}
+use Rattle.g9932.proofs.Packed.{start-most, frame-length}
 use Rattle.g9932.proofs.Prefixes.{encode-take}
 use Rattle.g9932.specs.Order.{Pair, consIf, filter, sum, bitsOf, entries as codedEntries, pairsOf, reorderedTones}
 use Rattle.g9932.specs.Refusals.{tableVerdict, frameTest}
@@ -112,28 +112,33 @@ module _ (T : Tables) (ok : tableVerdict T .number ≡ 0) where
 
     -- ---- writing
 
-    module _ (f : List ℕ) (accepted : frameTest (sizeOf T) f ≡ false) where
-      bytes : length f ≡ bytesFor (sizeOf T)
-      bytes = frame-length (sizeOf T) f accepted
+    module _ (start : ℕ) (f : List ℕ) (accepted : frameTest start (sizeOf T) f ≡ false) where
+      bytes : length f ≡ bytesFor start (sizeOf T)
+      bytes = frame-length start (sizeOf T) f accepted
 
-      pub label-needs : (labels : List ℕ) → length labels ≡ length (classesOf T) → LabelFrameNeeds (T .mode) f 0 es ps labels
+      early : start ≤ 7
+      early = start-most start (sizeOf T) f accepted
+
+      pub label-needs : (labels : List ℕ) → length labels ≡ length (classesOf T) → LabelFrameNeeds (T .mode) f start es ps labels
       label-needs labels n = go (T .mode) refl
         where
           placed : Placed es ps labels
           placed = plan-placed the-plan labels n
 
-          go : (m : Mode) → T .mode ≡ m → LabelFrameNeeds m f 0 es ps labels
+          go : (m : Mode) → T .mode ≡ m → LabelFrameNeeds m f start es ps labels
           go Uncoded e =
               let s = plain-sum e in
               let b = bytes in
+              let a = early in
               let m = known .sizeMost in
               record { same = placed .placesLength; counts = plain-most e; places = placed .rising; bits = omega arith; small = omega arith }
           go Coded e =
               let c = known .coded e in
               let b = bytes in
+              let a = early in
               let m = known .sizeMost in
               let t = coded-taken e in
-              let needs : FrameNeeds f 0 es =
+              let needs : FrameNeeds f start es =
               record {
                 wide = rw (coded-is e) (c .entriesRange);
                 enough = rw (coded-is e) (c .enoughEntries);
@@ -144,23 +149,23 @@ module _ (T : Tables) (ok : tableVerdict T .number ≡ 0) where
               (needs, placed)
 
       -- the bits sent are document 01's
-      pub sent-is : sentFor (T .mode) f 0 es ≡ sentIn T f
+      pub sent-is : sentFor (T .mode) f start es ≡ sentIn T start f
       unfolding sentOf
       sent-is = go (T .mode) refl
         where
-          go : (m : Mode) → T .mode ≡ m → sentFor m f 0 es ≡ sentOf m (pairsIn T) (frameBits (sizeOf T) f)
-          go Uncoded e = ap (λ (n : ℕ). take n (unpack f)) (plain-sum e)
+          go : (m : Mode) → T .mode ≡ m → sentFor m f start es ≡ sentOf m (pairsIn T) (frameBits start (sizeOf T) f)
+          go Uncoded e = ap (λ (n : ℕ). take n (drop start (unpack f))) (plain-sum e)
           go Coded e =
-              ap (λ (q : List Pair). encodePairs zeroState q (unpack f)) (coded-pairs e)
-              ∙ sym (encode-take (pairsIn T) zeroState (sizeOf T) (unpack f) (omega (arith, known .coded e .taken)))
+              ap (λ (q : List Pair). encodePairs zeroState q (drop start (unpack f))) (coded-pairs e)
+              ∙ sym (encode-take (pairsIn T) zeroState (sizeOf T) (drop start (unpack f)) (omega (arith, known .coded e .taken)))
 
     -- ---- reading
 
     -- the frame fits the buffer that holds it until it is known to be whole
-    pub held-fits : (held : List ℕ) → length held ≡ mostHeld → HeldFits (T .mode) es (length held)
-    held-fits held n = go (T .mode) refl
+    pub held-fits : {start : ℕ} → start ≤ 7 → (held : List ℕ) → length held ≡ mostHeld → HeldFits (T .mode) start es (length held)
+    held-fits {start} early held n = go (T .mode) refl
       where
-        go : (m : Mode) → T .mode ≡ m → HeldFits m es (length held)
+        go : (m : Mode) → T .mode ≡ m → HeldFits m start es (length held)
         go Uncoded e = (plain-most e, omega (arith, plain-sum e, known .sizeMost))
         go Coded e =
             let c = known .coded e in

@@ -1,5 +1,5 @@
 -- A whole symbol from the plan of accepted tables: what writing and reading ask, and what they find.
-use Prim.Native.Nat.{ℕ}
+use Prim.Native.Nat.{ℕ, _≤_}
 use mathlib.Core.Bool.{false}
 use mathlib.Core.List.{List}
 use mathlib.Core.Path.{_≡_, refl, sym, ap, _∙_}
@@ -40,14 +40,14 @@ use Rattle.symbol.proofs.TablePlan.{the-plan, label-needs, sent-is, hel
 -- ---- from the tables' plan
 
 module _ (T : Tables) (ok : tableVerdict T .number ≡ 0) (p : PlanSizes) {layouts entries places drawing : List ℕ} (is : PlanIs T p layouts entries places drawing) where
-  pub symbol-of : (f labels : List ℕ) (xs ys : List ℤ) → frameTest (sizeOf T) f ≡ false → length labels ≡ length (T .tones) → length xs ≡ length (T .tones) → length ys ≡ length (T .tones)
-      → WriteSymbolSupposes T (T .mode) (p .«shared_from» .0) f (take (p .«entry_count») entries) (take (p .«entry_count») places) (take (p .«drawing_count») drawing) (take (length (T .tones)) layouts) labels xs ys
-  symbol-of f labels xs ys fits n nx ny =
+  pub symbol-of : (start : ℕ) (f labels : List ℕ) (xs ys : List ℤ) → frameTest start (sizeOf T) f ≡ false → length labels ≡ length (T .tones) → length xs ≡ length (T .tones) → length ys ≡ length (T .tones)
+      → WriteSymbolSupposes T (T .mode) (p .«shared_from» .0) f start (take (p .«entry_count») entries) (take (p .«entry_count») places) (take (p .«drawing_count») drawing) (take (length (T .tones)) layouts) labels xs ys
+  symbol-of start f labels xs ys fits n nx ny =
       let c = length-classes T in
       record {
         plan = the-plan T ok p is;
-        labelNeeds = label-needs T ok p is f fits labels (n ∙ sym c);
-        sent = sent-is T ok p is f fits;
+        labelNeeds = label-needs T ok p is start f fits labels (n ∙ sym c);
+        sent = sent-is T ok p is start f fits;
         labelsLength = n ∙ sym c;
         xsLength = nx ∙ sym c;
         ysLength = ny ∙ sym c;
@@ -76,17 +76,18 @@ module _ (T : Tables) (ok : tableVerdict T .number ≡ 0) (p : PlanSizes) {layou
       go Uncoded e z = gathered-length q r pass n ∙ sym (size-uncoded T e)
       go Coded e z = read e _ refl z
 
-  pub read-of : (size : ℕ) (xs ys : List ℤ) (labels held f : List ℕ) → length labels ≡ length (T .tones) → length xs ≡ length (T .tones) → length ys ≡ length (T .tones)
-      → length held ≡ mostHeld → size ≡ sizeOf T → length f ≡ bytesFor (sizeOf T)
-      → ReadSymbolSupposes T (T .mode) (p .«shared_from» .0) size (take (p .«entry_count») entries) (take (p .«entry_count») places) (take (p .«drawing_count») drawing) (take (length (T .tones)) layouts) xs ys labels held f
-  read-of size xs ys labels held f n nx ny nh s nf =
+  pub read-of : (size start : ℕ) → start ≤ 7 → (xs ys : List ℤ) (labels held f : List ℕ) → length labels ≡ length (T .tones) → length xs ≡ length (T .tones) → length ys ≡ length (T .tones)
+      → length held ≡ mostHeld → size ≡ sizeOf T → length f ≡ bytesFor start (sizeOf T)
+      → ReadSymbolSupposes T (T .mode) (p .«shared_from» .0) size (take (p .«entry_count») entries) (take (p .«entry_count») places) (take (p .«drawing_count») drawing) (take (length (T .tones)) layouts) xs ys labels held f start
+  read-of size start early xs ys labels held f n nx ny nh s nf =
       let c = length-classes T in
       record {
         plan = the-plan T ok p is;
         labelsLength = n ∙ sym c;
         xsLength = nx ∙ sym c;
         ysLength = ny ∙ sym c;
-        heldFits = held-fits T ok p is held nh;
+        startMost = early;
+        heldFits = held-fits T ok p is early held nh;
         heldLength = nh;
         sizeIs = s;
         frameLength = nf;
@@ -98,43 +99,43 @@ module _ (T : Tables) (ok : tableVerdict T .number ≡ 0) (p : PlanSizes) {layou
 -- ---- from the answers of planning and of checking the inputs
 
 module _ {T : Tables} {p : PlanSizes} {layouts entries places drawing : List ℕ} (a : Arrays layouts entries places drawing) (labels : List ℕ) (n : length labels ≡ mostTones) where
-  module _ {f : List ℕ} (r : ℕ) {xs ys : List ℤ} (h : Passed T (λ size. encodeInputs size (length (T .tones)) (length xs) (length ys) f r) p layouts entries places drawing) where
-    symbol-by : WriteSymbolBy T (T .mode) p (length (T .tones)) f layouts entries places drawing labels xs ys
+  module _ {f : List ℕ} (start r : ℕ) {xs ys : List ℤ} (h : Passed T (λ size. encodeInputs start size (length (T .tones)) (length xs) (length ys) f r) p layouts entries places drawing) where
+    symbol-by : WriteSymbolBy T (T .mode) p (length (T .tones)) f start layouts entries places drawing labels xs ys
     symbol-by =
-        let z = inputs-encoded (p .size) (length (T .tones)) (length xs) (length ys) f r (p .size) (h .inputsPass) in
+        let z = inputs-encoded start (p .size) (length (T .tones)) (length xs) (length ys) f r (p .size) (h .inputsPass) in
         let l = length-take-le _ labels (lists-fit h a {labels = labels} n .labelsFit) in
-        symbol-of T (accepts h) p (h .plan) f (take (length (T .tones)) labels) xs ys (rw (size-is T (h .tablesPass)) at (z .1)) l (z .0 .0) (z .0 .1)
+        symbol-of T (accepts h) p (h .plan) start f (take (length (T .tones)) labels) xs ys (rw (size-is T (h .tablesPass)) at (z .1)) l (z .0 .0) (z .0 .1)
 
-    pub symbol-needs : WriteSymbolNeeds (T .mode) p (length (T .tones)) f layouts entries places drawing labels xs ys
+    pub symbol-needs : WriteSymbolNeeds (T .mode) p (length (T .tones)) f start layouts entries places drawing labels xs ys
     symbol-needs = record { fits = lists-fit h a n; tables = T; planned = symbol-by }
 
-    pub encode-written : {after : ℕ} {xsAfter ysAfter : List ℤ} → WritesAnySymbol (T .mode) p (length (T .tones)) f layouts entries places drawing labels xs ys r after xsAfter ysAfter
-        → Encodes T f r xs ys (Done (p .size) after) xsAfter ysAfter
+    pub encode-written : {after : ℕ} {xsAfter ysAfter : List ℤ} → WritesAnySymbol (T .mode) p (length (T .tones)) f start layouts entries places drawing labels xs ys r after xsAfter ysAfter
+        → Encodes T start f r xs ys (Done (p .size) after) xsAfter ysAfter
     unfolding writtenPoints
-    encode-written writes = let w = writes T symbol-by in encode-done T f r xs ys (h .tablesPass) _ _ _ _ (h .inputsPass) (w .registerIs) (w .xsHold) (w .ysHold)
+    encode-written writes = let w = writes T symbol-by in encode-done T start f r xs ys (h .tablesPass) _ _ _ _ (h .inputsPass) (w .registerIs) (w .xsHold) (w .ysHold)
 
-  module _ (r : ℕ) {xs ys : List ℤ} {held f : List ℕ} (nh : length held ≡ mostHeld)
-      (h : Passed T (λ size. readInputs size (length (T .tones)) (length xs) (length ys) (length f) r) p layouts entries places drawing) where
-    read-by : ReadSymbolBy T (T .mode) p (length (T .tones)) layouts entries places drawing xs ys labels held f
+  module _ (r start : ℕ) {xs ys : List ℤ} {held f : List ℕ} (nh : length held ≡ mostHeld)
+      (h : Passed T (λ size. readInputs start size (length (T .tones)) (length xs) (length ys) (length f) r) p layouts entries places drawing) where
+    read-by : ReadSymbolBy T (T .mode) p (length (T .tones)) layouts entries places drawing xs ys labels held f start
     read-by =
-        let z = inputs-read (p .size) (length (T .tones)) (length xs) (length ys) (length f) r (p .size) (h .inputsPass) in
+        let z = inputs-read start (p .size) (length (T .tones)) (length xs) (length ys) (length f) r (p .size) (h .inputsPass) in
         let s : p .size ≡ sizeOf T = size-is T (h .tablesPass) in
         let l = length-take-le _ labels (lists-fit h a {labels = labels} n .labelsFit) in
-        read-of T (accepts h) p (h .plan) (p .size) xs ys (take (length (T .tones)) labels) held f l (z .0 .0 .0) (z .0 .0 .1) nh s (z .0 .1 ∙ ap bytesFor s)
+        read-of T (accepts h) p (h .plan) (p .size) start (z .1) xs ys (take (length (T .tones)) labels) held f l (z .0 .0 .0) (z .0 .0 .1) nh s (z .0 .1 ∙ ap (bytesFor start) s)
 
-    pub read-needs : ReadSymbolNeeds (T .mode) p (length (T .tones)) layouts entries places drawing xs ys labels held f
+    pub read-needs : ReadSymbolNeeds (T .mode) p (length (T .tones)) layouts entries places drawing xs ys labels held f start
     read-needs = record { fits = lists-fit h a n; tables = T; planned = read-by }
 
-    pub read-done : {answer : Answer} {after : List ℕ} → ReadsAnySymbol (T .mode) p (length (T .tones)) layouts entries places drawing xs ys labels held f r answer after
-        → Reads T xs ys r f answer after
-    read-done reads = read-points T xs ys r f (h .tablesPass) (h .inputsPass) _ _ (reads T read-by)
+    pub read-done : {answer : Answer} {after : List ℕ} → ReadsAnySymbol (T .mode) p (length (T .tones)) layouts entries places drawing xs ys labels held f start r answer after
+        → Reads T xs ys r start f answer after
+    read-done reads = read-points T xs ys r start f (h .tablesPass) (h .inputsPass) _ _ (reads T read-by)
 
-pub encode-refused : {T : Tables} {f : List ℕ} {r : ℕ} {xs ys : List ℤ} {planned q : Planned} {x : Refusal} → plannedVerdict planned ≡ tableVerdict T
-    → ChecksInputs (λ size. encodeInputs size (length (T .tones)) (length xs) (length ys) f r) planned q → q ≡ Refused x → Encodes T f r xs ys (NotDone x r) xs ys
-encode-refused {T} {f} {r} {xs} {ys} {x = x} t c e =
-    refused-answer T _ _ t c e (Encodes T f r xs ys (NotDone x r) xs ys) (encode-tables T f r xs ys x) (λ l ok. encode-inputs T f r xs ys ok x)
+pub encode-refused : {T : Tables} {start : ℕ} {f : List ℕ} {r : ℕ} {xs ys : List ℤ} {planned q : Planned} {x : Refusal} → plannedVerdict planned ≡ tableVerdict T
+    → ChecksInputs (λ size. encodeInputs start size (length (T .tones)) (length xs) (length ys) f r) planned q → q ≡ Refused x → Encodes T start f r xs ys (NotDone x r) xs ys
+encode-refused {T} {start} {f} {r} {xs} {ys} {x = x} t c e =
+    refused-answer T _ _ t c e (Encodes T start f r xs ys (NotDone x r) xs ys) (encode-tables T start f r xs ys x) (λ l ok. encode-inputs T start f r xs ys ok x)
 
-pub read-refused : {T : Tables} {xs ys : List ℤ} {r : ℕ} {f : List ℕ} {planned q : Planned} {x : Refusal} → plannedVerdict planned ≡ tableVerdict T
-    → ChecksInputs (λ size. readInputs size (length (T .tones)) (length xs) (length ys) (length f) r) planned q → q ≡ Refused x → Reads T xs ys r f (NotDone x r) f
-read-refused {T} {xs} {ys} {r} {f} {x = x} t c e =
-    refused-answer T _ _ t c e (Reads T xs ys r f (NotDone x r) f) (read-tables T xs ys r f x) (λ l ok. read-inputs T xs ys r f ok x)
+pub read-refused : {T : Tables} {xs ys : List ℤ} {r start : ℕ} {f : List ℕ} {planned q : Planned} {x : Refusal} → plannedVerdict planned ≡ tableVerdict T
+    → ChecksInputs (λ size. readInputs start size (length (T .tones)) (length xs) (length ys) (length f) r) planned q → q ≡ Refused x → Reads T xs ys r start f (NotDone x r) f
+read-refused {T} {xs} {ys} {r} {start} {f} {x = x} t c e =
+    refused-answer T _ _ t c e (Reads T xs ys r start f (NotDone x r) f) (read-tables T xs ys r start f x) (λ l ok. read-inputs T xs ys r start f ok x)

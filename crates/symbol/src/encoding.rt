@@ -11,9 +11,10 @@ pub fn check_inputs(
     x_len: usize,
     y_len: usize,
     frame: &[u8],
+    start: u8,
     register: u32,
 ) -> Planned
-    ensures { λ r. ⌜ ChecksInputs (λ size. encodeInputs size nsc «x_len» «y_len» (now (frame .entry)) register) planned r ⌝ }
+    ensures { λ r. ⌜ ChecksInputs (λ size. encodeInputs start size nsc «x_len» «y_len» (now (frame .entry)) register) planned r ⌝ }
 {
     match planned {
         Planned::Refused(refusal) => {
@@ -26,7 +27,7 @@ pub fn check_inputs(
             if y_len != nsc {
                 return Planned::Refused(Refusal::Room);
             }
-            if frame::frame_refused(frame, p.size) {
+            if frame::frame_refused(frame, start, p.size) {
                 return Planned::Refused(Refusal::Frame);
             }
             if prbs::seed_refused(register) {

@@ -10,19 +10,20 @@ use g9932::MOST_TONES;
 use g9932::Mode;
 use plan::Planned;
 
-// Encodes a frame: refusals 1 to 8 and 10 to 12. Where nothing is refused, writes all of X and Y, and answers L and the register after
-// the draws; else writes nothing. A call takes some 44 KiB of stack, no heap and no global.
+// Encodes a frame that starts at a bit of its first byte: refusals 1 to 8 and 10 to 12. Where nothing is refused, writes all of X and Y,
+// and answers L and the register after the draws; else writes nothing. A call takes some 44 KiB of stack, no heap and no global.
 pub fn encode(
     mode: Mode,
     bits: &[u8],
     gains: &[u16],
     tones: &[u16],
     frame: &[u8],
+    start: u8,
     register: u32,
     xs: &mut [i16],
     ys: &mut [i16],
 ) -> Answer
-    ensures { λ r. ⌜ Encodes (tables mode (now (bits .entry)) (now (gains .entry)) (now (tones .entry))) (now (frame .entry)) register (now (xs .entry)) (now (ys .entry)) r (now (xs .exit)) (now (ys .exit)) ⌝ }
+    ensures { λ r. ⌜ Encodes (tables mode (now (bits .entry)) (now (gains .entry)) (now (tones .entry))) start (now (frame .entry)) register (now (xs .entry)) (now (ys .entry)) r (now (xs .exit)) (now (ys .exit)) ⌝ }
 {
     let mut layouts = [0u16; MOST_TONES];
     let mut entries = [0u8; MOST_TONES];
@@ -40,7 +41,7 @@ pub fn encode(
         &mut places,
         &mut drawing,
     );
-    let checked = encoding::check_inputs(planned, n, xs.len(), ys.len(), frame, register);
+    let checked = encoding::check_inputs(planned, n, xs.len(), ys.len(), frame, start, register);
     match checked {
         Planned::Refused(refusal) => Answer::Refused { refusal, register },
         Planned::Lists(p) => {
@@ -49,6 +50,7 @@ pub fn encode(
                 p,
                 n,
                 frame,
+                start,
                 register,
                 &layouts,
                 &entries,
@@ -66,9 +68,9 @@ pub fn encode(
     }
 }
 
-// Reads a symbol: refusals 1 to 8, 10 and 12, then 13 at every place, 14 at every place, and 15. Where nothing is refused, writes
-// all of the frame, and answers L and the register after the draws; else writes nothing. A call takes some 52 KiB of stack, no
-// heap and no global.
+// Reads a symbol into a frame that starts at a bit of its first byte: refusals 1 to 8 and 10 to 12, then 13 at every place, 14 at every
+// place, and 15. Where nothing is refused, writes all of the frame, zeros around its bits, and answers L and the register after the
+// draws; else writes nothing. A call takes some 52 KiB of stack, no heap and no global.
 pub fn read(
     mode: Mode,
     bits: &[u8],
@@ -78,8 +80,9 @@ pub fn read(
     ys: &[i16],
     register: u32,
     frame: &mut [u8],
+    start: u8,
 ) -> Answer
-    ensures { λ r. ⌜ Reads (tables mode (now (bits .entry)) (now (gains .entry)) (now (tones .entry))) (now (xs .entry)) (now (ys .entry)) register (now (frame .entry)) r (now (frame .exit)) ⌝ }
+    ensures { λ r. ⌜ Reads (tables mode (now (bits .entry)) (now (gains .entry)) (now (tones .entry))) (now (xs .entry)) (now (ys .entry)) register start (now (frame .entry)) r (now (frame .exit)) ⌝ }
 {
     let mut layouts = [0u16; MOST_TONES];
     let mut entries = [0u8; MOST_TONES];
@@ -98,7 +101,15 @@ pub fn read(
         &mut places,
         &mut drawing,
     );
-    let checked = reading::check_inputs(planned, n, xs.len(), ys.len(), frame.len(), register);
+    let checked = reading::check_inputs(
+        planned,
+        n,
+        xs.len(),
+        ys.len(),
+        frame.len(),
+        start,
+        register,
+    );
     match checked {
         Planned::Refused(refusal) => Answer::Refused { refusal, register },
         Planned::Lists(p) => {
@@ -116,6 +127,7 @@ pub fn read(
                 &mut labels,
                 &mut held,
                 frame,
+                start,
             )
         }
     }

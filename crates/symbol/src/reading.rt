@@ -4,16 +4,17 @@ ghost use Rattle.symbol.specs.Inputs.{ChecksInputs};
 use g9932::Refusal;
 use plan::Planned;
 
-// Refusals 10 and 12 of reading, after those of the tables.
+// Refusals 10 to 12 of reading, after those of the tables; of 11 the start alone.
 pub fn check_inputs(
     planned: Planned,
     nsc: usize,
     x_len: usize,
     y_len: usize,
     frame_len: usize,
+    start: u8,
     register: u32,
 ) -> Planned
-    ensures { λ r. ⌜ ChecksInputs (λ size. readInputs size nsc «x_len» «y_len» «frame_len» register) planned r ⌝ }
+    ensures { λ r. ⌜ ChecksInputs (λ size. readInputs start size nsc «x_len» «y_len» «frame_len» register) planned r ⌝ }
 {
     match planned {
         Planned::Refused(refusal) => {
@@ -26,8 +27,11 @@ pub fn check_inputs(
             if y_len != nsc {
                 return Planned::Refused(Refusal::Room);
             }
-            if frame_len != frame::bytes_for(p.size) {
+            if frame_len != frame::bytes_for(start, p.size) {
                 return Planned::Refused(Refusal::Room);
+            }
+            if frame::start_refused(start) {
+                return Planned::Refused(Refusal::Frame);
             }
             if prbs::seed_refused(register) {
                 return Planned::Refused(Refusal::Seed);

@@ -1,5 +1,5 @@
--- `clevisroot_encode` meets its contract: what encoding answers in the mode of `coded`, as C has it.
-use Rattle.clevisroot.proofs.Calls.{encode-small, encode-answered}
+-- `clevisroot_encode` meets its contract: what encoding answers from bit 0 on in the mode of `coded`, as C has it.
+use Rattle.clevisroot.proofs.Calls.{encode-small, encode-at, encode-answered}
 use borrow.Author.Needs.{needs}
 use Rattle.clevisroot.proofs.clevisroot_encode.Statement.{statement}
 use Rattle.clevisroot.proofs.clevisroot_encode.Tie as tie
@@ -8,7 +8,7 @@ answered-requires : tie.Need-answered-requires
 answered-requires c κs = encode-small _ _ _ (c .before .before .before .before .before .mode-of .ensures) (c .before .before .encode .ensures)
 
 returns : tie.Need-returns
-returns c = encode-answered _ _ _ (c .before .before .before .before .before .before .mode-of .ensures) (c .before .before .before .encode .ensures) (c .answered .ensures)
+returns c = encode-answered (encode-at _ _ _ (c .before .before .before .before .before .before .mode-of .ensures) (c .before .before .before .encode .ensures) (c .answered .ensures))
 
 pub clevisroot-encode-spec : {M : Type 1} → statement M
 clevisroot-encode-spec =

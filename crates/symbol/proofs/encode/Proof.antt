@@ -23,6 +23,7 @@ write-symbol-requires c κs =
     })
     (replicate 4096 0)
     refl
+    (start .args .start)
     (start .args .register)
     (passed
     (plan-tables .ensures)
@@ -53,6 +54,7 @@ returns-2 c =
     })
     (replicate 4096 0)
     refl
+    (start .args .start)
     (start .args .register)
     (passed
     (plan-tables .ensures)

@@ -24,6 +24,7 @@ read-symbol-requires c κs =
     (replicate 4096 0)
     refl
     (start .args .register)
+    (start .args .start)
     refl
     (passed
     (plan-tables .ensures)
@@ -55,6 +56,7 @@ returns-2 c =
     (replicate 4096 0)
     refl
     (start .args .register)
+    (start .args .start)
     refl
     (passed
     (plan-tables .ensures)

@@ -80,7 +80,7 @@ copy-requires c κs =
     let p = b .before .before .before .before .before .before .before .before .before .before in
     let f = b .read-frame in
     let s = p .before .before .before .before .before .before .before .before .before .before .before in
-    frame-fits (s .pre .planned) (p .read-places .ensures) (t .given .1) (lent-again p) (f .ensures) (f .kept .1 .1 .1 .1 .1 .0)
+    frame-fits (s .pre .planned) (p .read-places .ensures) (t .given .1) (lent-again p) (f .ensures) (f .kept .1 .1 .1 .1 .1 .1 .0)
 
 returns-3 : tie.Need-returns-3
 returns-3 c =
@@ -91,7 +91,7 @@ returns-3 c =
     let whole = c .before .before .before .before .before .enum-told .given .1 in
     let bytes = c .before .before .before .before .before .before .before .slice-known6 .given in
     let out = c .before .before .copy .ensures in
-    λ T g. frame-read g (p .read-places .ensures) (t .given .1) (lent-again p) (f .ensures) (f .kept .1 .1 .1 .1 .1 .0) whole (λ k i. omega (arith, bytes k)) out
+    λ T g. frame-read g (p .read-places .ensures) (t .given .1) (lent-again p) (f .ensures) (f .kept .1 .1 .1 .1 .1 .1 .0) whole (λ k i. omega (arith, bytes k)) out
 
 pub read-symbol-spec : {M : Type 1} → statement M
 read-symbol-spec =

@@ -63,7 +63,7 @@ returns c =
     let y = c .before .before .before .before .write-points in
     let l = c .before .before .before .before .before .before .before .before .before .before .before .before in
     let s = l .before .before .before .before .before .before .before .before .before .before in
-    λ T w. y .ensures (classesOf T) (sentIn T (s .args .frame .now)) _ _ (points-of w (l .label-frame .kept .1 .1 .1 .1 .1 .0) (lent-again l) (l .label-frame .ensures))
+    λ T w. y .ensures (classesOf T) (sentIn T (s .args .start) (s .args .frame .now)) _ _ (points-of w (l .label-frame .kept .1 .1 .1 .1 .1 .0) (lent-again l) (l .label-frame .ensures))
 
 pub write-symbol-spec : {M : Type 1} → statement M
 write-symbol-spec =
