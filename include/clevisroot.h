@@ -36,6 +36,13 @@
  * (L + 7) / 8 bytes (clevisroot_frame_bytes), at most CLEVISROOT_MAX_FRAME, and its unused high bits
  * are 0. L follows from the tables; clevisroot_check tells it.
  *
+ * A frame need not begin on a byte. clevisroot_encode_at and clevisroot_read_at are given its start, 0
+ * to 7, which is the bit of the first byte that holds the frame's bit 0: bit k is then in byte
+ * (start + k) / 8, at weight 1 << ((start + k) % 8). Such a frame has exactly (start + L + 7) / 8 bytes
+ * (clevisroot_frame_bytes_at), so one byte if L is 0 and the start is not, and its bits before the
+ * start and after the end are 0. The start changes where the bits are, and no point: the other calls
+ * are those with start 0.
+ *
  * The points of a symbol are two lists, x and y, of NSC entries each. They are in the order of the
  * re-ordered tone table t', which clevisroot_reorder writes: x[p] and y[p] belong to tone t'[p].
  * Uncoded, t' is t. Coded, the 1-bit tones go to the end; they and all others keep their order in t.
@@ -66,7 +73,8 @@
  *   8    coded: fewer than 4 non-zero entries in b'                      0
  *   9    unused: no call gives it
  *   10   a lent output or a point list has not its exact length          0
- *   11   the frame's length is wrong, or an unused bit of it is 1        0
+ *   11   the start is above 7; or, of a frame to be encoded, the length  0
+ *        is wrong, or a bit before the start or after the end is 1
  *   12   the register is 0 or above 8388607                              0
  *   13   a point is not one that its tone can have                       first place in t'
  *   14   a monitored tone's point is not the one its filler bits give    first place in t'
@@ -107,8 +115,8 @@ extern "C" {
 /* The largest G, and so the most tones and points of a symbol. */
 #define CLEVISROOT_MAX_TONES 4096
 
-/* The most bytes of a frame: 4096 tones of 15 bits, uncoded. */
-#define CLEVISROOT_MAX_FRAME 7680
+/* The most bytes of a frame: 4096 tones of 15 bits, uncoded, in a frame that starts at bit 7. */
+#define CLEVISROOT_MAX_FRAME 7681
 
 /* The most bytes of stack that a call takes, its own frame and those below. Measured, not proved. */
 #define CLEVISROOT_STACK 57344
@@ -166,10 +174,16 @@ static inline const char *clevisroot_version(void)
     return CLEVISROOT_VERSION_TEXT;
 }
 
-/* The bytes of a frame of L bits; L is an answer's size. */
+/* The bytes of a frame of L bits that starts at this bit of its first byte; L is an answer's size. */
+static inline size_t clevisroot_frame_bytes_at(uint32_t size, uint8_t start)
+{
+    return ((size_t)start + size + 7) / 8;
+}
+
+/* The bytes of a frame of L bits that starts at bit 0. */
 static inline size_t clevisroot_frame_bytes(uint32_t size)
 {
-    return ((size_t)size + 7) / 8;
+    return clevisroot_frame_bytes_at(size, 0);
 }
 
 /* Checks the tables and tells L. Refusals 1 to 8. */
@@ -190,7 +204,7 @@ clevisroot_answer clevisroot_reorder(
     uint16_t *tones_out, size_t tones_out_len, uint8_t *bits_out, size_t bits_out_len);
 
 /*
- * Writes the points of a frame to x and y, NSC entries each.
+ * Writes the points of a frame to x and y, NSC entries each: clevisroot_encode_at with start 0.
  * Refusals 1 to 8, then 10 if x or y has not NSC entries, 11 for the frame, 12 for the register.
  */
 clevisroot_answer clevisroot_encode(
@@ -200,8 +214,21 @@ clevisroot_answer clevisroot_encode(
     int16_t *x, size_t x_len, int16_t *y, size_t y_len);
 
 /*
- * Reads points that carry no noise and writes their frame, (L + 7) / 8 bytes. It reads exactly
- * the points that clevisroot_encode writes for some frame, and gives that frame.
+ * Writes the points of a frame that starts at this bit of its first byte, and else does as
+ * clevisroot_encode does. The same L bits give the same points with any start.
+ * Refusals 1 to 8, then 10 if x or y has not NSC entries, 11 for the start and the frame, 12 for the
+ * register.
+ */
+clevisroot_answer clevisroot_encode_at(
+    uint8_t coded, const uint8_t *bits, size_t bits_len,
+    const uint16_t *gains, size_t gains_len, const uint16_t *tones, size_t tones_len,
+    const uint8_t *frame, size_t frame_len, uint8_t start, uint32_t reg,
+    int16_t *x, size_t x_len, int16_t *y, size_t y_len);
+
+/*
+ * Reads points that carry no noise and writes their frame, (L + 7) / 8 bytes: clevisroot_read_at with
+ * start 0. It reads exactly the points that clevisroot_encode writes for some frame, and gives that
+ * frame.
  * Refusals 1 to 8, then 10 if x or y has not NSC entries or the frame not its bytes, 12 for the
  * register, then 13 at every place, 14 at every place, 15.
  */
@@ -210,6 +237,20 @@ clevisroot_answer clevisroot_read(
     const uint16_t *gains, size_t gains_len, const uint16_t *tones, size_t tones_len,
     const int16_t *x, size_t x_len, const int16_t *y, size_t y_len, uint32_t reg,
     uint8_t *frame, size_t frame_len);
+
+/*
+ * Reads points that carry no noise and writes their frame so that it starts at this bit of its first
+ * byte: (start + L + 7) / 8 bytes, zeros before the start and after the end. It reads exactly the
+ * points that clevisroot_encode_at writes for some frame with this start, and gives that frame.
+ * Refusals 1 to 8, then 10 if x or y has not NSC entries or the frame not its bytes, which are
+ * counted with the given start even if it is above 7, 11 if it is, 12 for the register, then 13 at
+ * every place, 14 at every place, 15.
+ */
+clevisroot_answer clevisroot_read_at(
+    uint8_t coded, const uint8_t *bits, size_t bits_len,
+    const uint16_t *gains, size_t gains_len, const uint16_t *tones, size_t tones_len,
+    const int16_t *x, size_t x_len, const int16_t *y, size_t y_len, uint32_t reg,
+    uint8_t *frame, size_t frame_len, uint8_t start);
 
 /* The point of one label. Refusal 16 if bits is not 1 to 15, or label not below 2^bits. */
 clevisroot_point clevisroot_map_label(uint8_t bits, uint32_t label);

@@ -8,9 +8,9 @@ pub mod refusals;
 /// The register at reset.
 pub const RESET: u32 = 8_388_607;
 
-/// The longest tables, in sub-carriers, and the longest frame, in bytes.
+/// The longest tables, in sub-carriers, and the longest frame, in bytes: it starts at bit 7.
 pub const MAX_TONES: usize = 4096;
-pub const MAX_FRAME: usize = 7680;
+pub const MAX_FRAME: usize = 7681;
 
 /// Number and place of the refusal (0 and 0 if done), frame size L, register.
 #[repr(C)]
@@ -107,6 +107,29 @@ pub fn encode(tables: Tables, frame: &[u8], reg: u32, x: &mut [i16], y: &mut [i1
     )
 }
 
+/// Writes the points of a frame that starts at this bit of its first byte.
+pub fn encode_at(
+    tables: Tables,
+    frame: &[u8],
+    start: u8,
+    reg: u32,
+    x: &mut [i16],
+    y: &mut [i16],
+) -> Answer {
+    call_with_tables!(
+        clevisroot_encode_at,
+        tables,
+        frame.as_ptr(),
+        frame.len(),
+        start,
+        reg,
+        x.as_mut_ptr(),
+        x.len(),
+        y.as_mut_ptr(),
+        y.len()
+    )
+}
+
 /// Writes the frame of the points.
 pub fn read(tables: Tables, x: &[i16], y: &[i16], reg: u32, frame: &mut [u8]) -> Answer {
     call_with_tables!(
@@ -119,6 +142,29 @@ pub fn read(tables: Tables, x: &[i16], y: &[i16], reg: u32, frame: &mut [u8]) ->
         reg,
         frame.as_mut_ptr(),
         frame.len()
+    )
+}
+
+/// Writes the frame of the points so that it starts at this bit of its first byte.
+pub fn read_at(
+    tables: Tables,
+    x: &[i16],
+    y: &[i16],
+    reg: u32,
+    frame: &mut [u8],
+    start: u8,
+) -> Answer {
+    call_with_tables!(
+        clevisroot_read_at,
+        tables,
+        x.as_ptr(),
+        x.len(),
+        y.as_ptr(),
+        y.len(),
+        reg,
+        frame.as_mut_ptr(),
+        frame.len(),
+        start
     )
 }
 

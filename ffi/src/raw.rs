@@ -1,4 +1,5 @@
-//! The declarations of include/clevisroot.h. Nothing checks them against the library.
+//! The declarations of include/clevisroot.h, to which `tests/header.rs` holds them. Nothing checks
+//! them against the library.
 
 use crate::{Answer, Drawn, Label, Point};
 
@@ -44,6 +45,24 @@ extern "C" {
         y_len: usize,
     ) -> Answer;
 
+    pub fn clevisroot_encode_at(
+        coded: u8,
+        bits: *const u8,
+        bits_len: usize,
+        gains: *const u16,
+        gains_len: usize,
+        tones: *const u16,
+        tones_len: usize,
+        frame: *const u8,
+        frame_len: usize,
+        start: u8,
+        reg: u32,
+        x: *mut i16,
+        x_len: usize,
+        y: *mut i16,
+        y_len: usize,
+    ) -> Answer;
+
     pub fn clevisroot_read(
         coded: u8,
         bits: *const u8,
@@ -59,6 +78,24 @@ extern "C" {
         reg: u32,
         frame: *mut u8,
         frame_len: usize,
+    ) -> Answer;
+
+    pub fn clevisroot_read_at(
+        coded: u8,
+        bits: *const u8,
+        bits_len: usize,
+        gains: *const u16,
+        gains_len: usize,
+        tones: *const u16,
+        tones_len: usize,
+        x: *const i16,
+        x_len: usize,
+        y: *const i16,
+        y_len: usize,
+        reg: u32,
+        frame: *mut u8,
+        frame_len: usize,
+        start: u8,
     ) -> Answer;
 
     pub fn clevisroot_map_label(bits: u8, label: u32) -> Point;

@@ -1,9 +1,12 @@
-//! The C headers say what the Rust side says: version, numbers, names and sizes.
+//! The C headers say what the Rust side says: version, numbers, names, sizes, and each function's
+//! arguments.
 
 use clevisroot_sys::{refusals, MAX_FRAME, MAX_TONES, RESET};
+use std::collections::BTreeMap;
 
 const HEADER: &str = include_str!("../../include/clevisroot.h");
 const NAMES: &str = include_str!("../../include/clevisroot_names.h");
+const RAW: &str = include_str!("../src/raw.rs");
 
 /// What follows `#define NAME ` in the header.
 fn defined(name: &str) -> &'static str {
@@ -26,6 +29,7 @@ fn the_version_is_cargo_s() {
 fn the_sizes_and_the_reset_are_the_same() {
     assert_eq!(defined("CLEVISROOT_MAX_TONES"), MAX_TONES.to_string());
     assert_eq!(defined("CLEVISROOT_MAX_FRAME"), MAX_FRAME.to_string());
+    assert_eq!(MAX_FRAME, (7 + 15 * MAX_TONES).div_ceil(8));
     let reset = format!("UINT32_C({RESET})");
     assert_eq!(defined("CLEVISROOT_RESET"), reset);
 }
@@ -60,4 +64,56 @@ fn a_number_that_is_none_is_unknown() {
     assert_eq!(refusals::name(9), "UNKNOWN");
     assert_eq!(refusals::name(99), "UNKNOWN");
     assert!(NAMES.contains("default: return \"UNKNOWN\";"));
+}
+
+/// The functions that are declared between two texts, by name: each argument as `written` has it.
+fn declared(
+    text: &str,
+    before: &str,
+    after: &str,
+    written: fn(&str) -> String,
+) -> BTreeMap<String, Vec<String>> {
+    let functions = text.split(before).skip(1).map(|rest| {
+        let (name, rest) = rest.split_once('(').expect("arguments");
+        let (arguments, _) = rest.split_once(after).expect("an end");
+        let arguments = arguments.split(',').map(str::trim);
+        let arguments = arguments.filter(|one| !one.is_empty()).map(written);
+        (name.to_string(), arguments.collect())
+    });
+    functions.collect()
+}
+
+/// An argument such as `const uint8_t *bits` as `raw.rs` writes it.
+fn in_rust(argument: &str) -> String {
+    let (kind, name) = argument.rsplit_once(' ').expect("a type and a name");
+    let (pointer, kind) = match kind.strip_prefix("const ") {
+        Some(kind) => ("*const", kind),
+        None => ("*mut", kind),
+    };
+    let kind = match kind {
+        "size_t" => "usize".to_string(),
+        fixed => fixed
+            .replace("int", "i")
+            .replace("ui", "u")
+            .replace("_t", ""),
+    };
+    match name.strip_prefix('*') {
+        Some(name) => format!("{name}: {pointer} {kind}"),
+        None => format!("{name}: {kind}"),
+    }
+}
+
+#[test]
+fn every_function_has_the_header_s_arguments() {
+    let of = |answer| {
+        let before = format!("\nclevisroot_{answer} clevisroot_");
+        declared(HEADER, &before, ");", in_rust)
+    };
+    let header: BTreeMap<_, _> = ["answer", "point", "label", "drawn"]
+        .into_iter()
+        .flat_map(of)
+        .collect();
+    let raw = declared(RAW, "pub fn clevisroot_", ") ->", str::to_string);
+    assert_eq!(header.len(), 9);
+    assert_eq!(header, raw);
 }

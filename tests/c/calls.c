@@ -122,7 +122,10 @@ static void header(void)
 {
     CHECK(clevisroot_frame_bytes(0) == 0 && clevisroot_frame_bytes(1) == 1);
     CHECK(clevisroot_frame_bytes(8) == 1 && clevisroot_frame_bytes(9) == 2);
-    CHECK(clevisroot_frame_bytes(CLEVISROOT_MAX_TONES * 15) == CLEVISROOT_MAX_FRAME);
+    CHECK(clevisroot_frame_bytes(CLEVISROOT_MAX_TONES * 15) == 7680);
+    CHECK(clevisroot_frame_bytes_at(CLEVISROOT_MAX_TONES * 15, 7) == CLEVISROOT_MAX_FRAME);
+    CHECK(clevisroot_frame_bytes_at(0, 1) == 1 && clevisroot_frame_bytes_at(0, 255) == 32);
+    CHECK(clevisroot_frame_bytes_at(1, 7) == 1 && clevisroot_frame_bytes_at(2, 7) == 2);
     CHECK(strcmp(clevisroot_refusal_name(CLEVISROOT_DONE), "DONE") == 0);
     CHECK(strcmp(clevisroot_refusal_name(CLEVISROOT_LABEL), "LABEL") == 0);
     CHECK(strcmp(clevisroot_refusal_name(9), "UNKNOWN") == 0);
