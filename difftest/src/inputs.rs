@@ -31,7 +31,7 @@ pub fn accepted_frame(random: &mut Random, l: usize) -> Vec<u8> {
         _ => random.one_in(2),
     };
     let bits: Vec<bool> = (0..l).map(|_| bit()).collect();
-    reference::forms::frame_of_bits(&bits)
+    reference::forms::frame_of_bits(&bits, 0)
 }
 
 /// A register, once in a while one that isn't valid.

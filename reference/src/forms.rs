@@ -69,9 +69,14 @@ impl Tables {
     }
 }
 
-/// The bytes of a frame of L bits: L/8 rounded up.
-pub fn frame_bytes(l: usize) -> usize {
-    l.div_ceil(8)
+/// A frame starts at bit 0 to 7 of its first byte.
+pub fn start_accepted(start: u8) -> bool {
+    start <= 7
+}
+
+/// The bytes of a frame of L bits: (start + L)/8 rounded up, whatever the start.
+pub fn frame_bytes(start: u8, l: usize) -> usize {
+    (usize::from(start) + l).div_ceil(8)
 }
 
 /// Bit k of packed bytes: in byte k div 8, at weight 2 to the (k mod 8).
@@ -79,22 +84,29 @@ pub fn packed_bit(bytes: &[u8], k: usize) -> bool {
     bytes[k / 8] >> (k % 8) & 1 == 1
 }
 
-/// A frame of L bits is accepted when its length is exact and its unused bits are 0.
-pub fn frame_accepted(frame: &[u8], l: usize) -> bool {
-    frame.len() == frame_bytes(l) && (l..8 * frame.len()).all(|k| !packed_bit(frame, k))
+/// A frame of L bits is accepted when its start is, its length is exact, and the bits before the
+/// start and after the end are 0.
+pub fn frame_accepted(frame: &[u8], start: u8, l: usize) -> bool {
+    let own = usize::from(start)..usize::from(start) + l;
+    let zero_around = |k| own.contains(&k) || !packed_bit(frame, k);
+    start_accepted(start)
+        && frame.len() == frame_bytes(start, l)
+        && (0..8 * frame.len()).all(zero_around)
 }
 
-/// The L bits of a frame, bit 0 first.
-pub fn bits_of_frame(frame: &[u8], l: usize) -> Vec<bool> {
-    (0..l).map(|k| packed_bit(frame, k)).collect()
+/// The L bits of a frame, bit 0 first: bit k is the packed bit k plus the start.
+pub fn bits_of_frame(frame: &[u8], start: u8, l: usize) -> Vec<bool> {
+    let start = usize::from(start);
+    (0..l).map(|k| packed_bit(frame, k + start)).collect()
 }
 
-/// The frame of a list of bits, unused high bits 0.
-pub fn frame_of_bits(bits: &[bool]) -> Vec<u8> {
-    let mut frame = vec![0; frame_bytes(bits.len())];
+/// The frame of a list of bits from this start, zeros around them.
+pub fn frame_of_bits(bits: &[bool], start: u8) -> Vec<u8> {
+    let mut frame = vec![0; frame_bytes(start, bits.len())];
     for (k, &bit) in bits.iter().enumerate() {
         if bit {
-            frame[k / 8] += 1 << (k % 8);
+            let packed = k + usize::from(start);
+            frame[packed / 8] += 1 << (packed % 8);
         }
     }
     frame

@@ -1,7 +1,7 @@
 //! A second implementation of document 01, as amended, written from its text alone: lists of bits
 //! and plain loops, with one module for each section and the section's letters.
 //!
-//! The seven calls are in [`operations`]. Each answers for all inputs.
+//! The nine calls are in [`operations`]. Each answers for all inputs.
 
 pub mod coding;
 pub mod figures;
@@ -15,4 +15,5 @@ pub mod symbol;
 pub mod words;
 
 pub use forms::{Mode, Tables};
-pub use operations::{check, draw, encode, map_label, read, read_point, reorder, Answer};
+pub use operations::{check, draw, encode, encode_at, map_label, read, read_at, read_point};
+pub use operations::{reorder, Answer};

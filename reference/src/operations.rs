@@ -1,7 +1,8 @@
-//! The seven calls: which refusals each uses, in the order of their numbers, and what each answers.
+//! The nine calls: which refusals each uses, in the order of their numbers, and what each answers.
 
 use crate::filler::{register_valid, Filler};
-use crate::forms::{bits_of_frame, frame_accepted, frame_bytes, frame_of_bits, Tables};
+use crate::forms::{bits_of_frame, frame_accepted, frame_bytes, frame_of_bits};
+use crate::forms::{start_accepted, Tables};
 use crate::points::{constellation, label_of, Point};
 use crate::refusals::{refuse_if, test_tables, Refusal};
 use crate::reordering::{frame_size, reordered_bits, reordered_tones};
@@ -69,10 +70,22 @@ pub fn reorder(
     answer(0, outcome())
 }
 
-/// The points of a frame for lent lists of these lengths: 1 to 8 and 10 to 12.
+/// Encoding a frame that starts at bit 0.
 pub fn encode(
     tables: &Tables,
     frame: &[u8],
+    register: u32,
+    x_room: usize,
+    y_room: usize,
+) -> Answer<Vec<Point>> {
+    encode_at(tables, frame, 0, register, x_room, y_room)
+}
+
+/// The points of a frame from this start, for lent lists of these lengths: 1 to 8 and 10 to 12.
+pub fn encode_at(
+    tables: &Tables,
+    frame: &[u8],
+    start: u8,
     register: u32,
     x_room: usize,
     y_room: usize,
@@ -81,15 +94,16 @@ pub fn encode(
         test_tables(tables)?;
         let (nsc, l) = (tables.nsc(), frame_size(tables));
         refuse_if(x_room != nsc || y_room != nsc, Refusal::Room)?;
-        refuse_if(!frame_accepted(frame, l), Refusal::Frame)?;
+        refuse_if(!frame_accepted(frame, start, l), Refusal::Frame)?;
         refuse_if(!register_valid(register), Refusal::Seed)?;
-        let (points, after) = write_points(tables, &bits_of_frame(frame, l), register);
+        let bits = bits_of_frame(frame, start, l);
+        let (points, after) = write_points(tables, &bits, register);
         Ok((l, after, points))
     };
     answer(register, outcome())
 }
 
-/// The frame of the points, for a lent frame of this length: 1 to 8, 10 and 12 to 15.
+/// Reading a frame that starts at bit 0.
 pub fn read(
     tables: &Tables,
     x: &[i16],
@@ -97,15 +111,29 @@ pub fn read(
     register: u32,
     frame_room: usize,
 ) -> Answer<Vec<u8>> {
+    read_at(tables, x, y, register, frame_room, 0)
+}
+
+/// The frame of the points from this start, for a lent frame of this length: 1 to 8 and 10 to 15, of
+/// which 11 is for the start alone.
+pub fn read_at(
+    tables: &Tables,
+    x: &[i16],
+    y: &[i16],
+    register: u32,
+    frame_room: usize,
+    start: u8,
+) -> Answer<Vec<u8>> {
     let outcome = || {
         test_tables(tables)?;
         let (nsc, l) = (tables.nsc(), frame_size(tables));
-        let exact = x.len() == nsc && y.len() == nsc && frame_room == frame_bytes(l);
+        let exact = x.len() == nsc && y.len() == nsc && frame_room == frame_bytes(start, l);
         refuse_if(!exact, Refusal::Room)?;
+        refuse_if(!start_accepted(start), Refusal::Frame)?;
         refuse_if(!register_valid(register), Refusal::Seed)?;
         let points: Vec<Point> = x.iter().copied().zip(y.iter().copied()).collect();
         let (bits, after) = read_points(tables, &points, register)?;
-        Ok((l, after, frame_of_bits(&bits)))
+        Ok((l, after, frame_of_bits(&bits, start)))
     };
     answer(register, outcome())
 }

@@ -1,12 +1,13 @@
-//! The words of demand 3 on small random tables, over every frame and every list of grid points.
+//! The words of demand 3 on small random tables, over every frame of one start and every list of
+//! grid points.
 
 use clevisroot_sys::refusals::{DONE, MONITOR, OFFGRID, TRELLIS};
 use reference::filler::RESET;
-use reference::forms::{frame_of_bits, Class};
+use reference::forms::{frame_bytes, frame_of_bits, Class};
 use reference::points::{bits_of_number, constellation, Point};
 use reference::reordering::{nonzero_entries, reordered_bits, reordered_tones};
 use reference::words::{half_turn, lists_of};
-use reference::{check, encode, read, Answer, Mode, Tables};
+use reference::{check, encode_at, read_at, Answer, Mode, Tables};
 use std::collections::HashMap;
 
 /// Splitmix.
@@ -51,17 +52,31 @@ fn small_tables(random: &mut Random) -> Tables {
     }
 }
 
-fn write(tables: &Tables, value: usize, register: u32) -> (Vec<u8>, Vec<Point>) {
-    let l = check(tables).size as usize;
-    let frame = frame_of_bits(&bits_of_number(value, l));
-    let answer = encode(tables, &frame, register, tables.nsc(), tables.nsc());
-    (frame, answer.contents.expect("the frame is accepted"))
+/// Accepted tables, a valid register and a start, the same in every call.
+struct Case {
+    tables: Tables,
+    register: u32,
+    start: u8,
 }
 
-fn read_all(tables: &Tables, points: &[Point], register: u32) -> Answer<Vec<u8>> {
-    let (x, y) = lists_of(points);
-    let room = (check(tables).size as usize).div_ceil(8);
-    read(tables, &x, &y, register, room)
+impl Case {
+    /// L.
+    fn size(&self) -> usize {
+        check(&self.tables).size as usize
+    }
+
+    fn write(&self, value: usize) -> (Vec<u8>, Vec<Point>) {
+        let frame = frame_of_bits(&bits_of_number(value, self.size()), self.start);
+        let nsc = self.tables.nsc();
+        let answer = encode_at(&self.tables, &frame, self.start, self.register, nsc, nsc);
+        (frame, answer.contents.expect("the frame is accepted"))
+    }
+
+    fn read(&self, points: &[Point]) -> Answer<Vec<u8>> {
+        let (x, y) = lists_of(points);
+        let room = frame_bytes(self.start, self.size());
+        read_at(&self.tables, &x, &y, self.register, room, self.start)
+    }
 }
 
 fn classes(tables: &Tables) -> Vec<Class> {
@@ -91,8 +106,8 @@ fn grid_lists(tables: &Tables) -> Vec<Vec<Point>> {
     lists
 }
 
-/// Accepted tables with at most this many lists of grid points.
-fn accepted_tables(count: usize, most: u32) -> Vec<(Tables, u32)> {
+/// Cases with at most this many lists of grid points, one start after the other.
+fn cases(count: usize, most: u32) -> Vec<Case> {
     let mut random = Random(3);
     let mut found = Vec::new();
     while found.len() < count {
@@ -106,7 +121,11 @@ fn accepted_tables(count: usize, most: u32) -> Vec<(Tables, u32)> {
             })
             .sum();
         if check(&tables).number == 0 && grid_bits <= most as usize {
-            found.push((tables, 1 + random.below(u64::from(RESET)) as u32));
+            found.push(Case {
+                tables,
+                register: 1 + random.below(u64::from(RESET)) as u32,
+                start: (found.len() % 8) as u8,
+            });
         }
     }
     found
@@ -114,15 +133,14 @@ fn accepted_tables(count: usize, most: u32) -> Vec<(Tables, u32)> {
 
 #[test]
 fn distinct_frames_give_distinct_points_and_are_read_exactly() {
-    for (tables, register) in accepted_tables(120, 12) {
-        let l = check(&tables).size;
-        let written: HashMap<_, _> = (0..1 << l)
-            .map(|value| write(&tables, value, register))
+    for case in cases(120, 12) {
+        let written: HashMap<_, _> = (0..1 << case.size())
+            .map(|value| case.write(value))
             .map(|(frame, points)| (points, frame))
             .collect();
-        assert_eq!(written.len(), 1 << l);
-        for points in grid_lists(&tables) {
-            let answer = read_all(&tables, &points, register);
+        assert_eq!(written.len(), 1 << case.size());
+        for points in grid_lists(&case.tables) {
+            let answer = case.read(&points);
             assert_eq!(answer.number == DONE, written.contains_key(&points));
             assert_eq!(answer.contents.as_ref(), written.get(&points));
         }
@@ -131,13 +149,13 @@ fn distinct_frames_give_distinct_points_and_are_read_exactly() {
 
 #[test]
 fn a_point_off_the_grid_is_never_read() {
-    for (tables, register) in accepted_tables(60, 14) {
-        let (_, points) = write(&tables, 0, register);
+    for case in cases(60, 14) {
+        let (_, points) = case.write(0);
         for p in 0..points.len() {
             for wrong in [(0, 1), (2, 2), (9, 9), (i16::MIN, i16::MAX)] {
                 let mut changed = points.clone();
                 changed[p] = wrong;
-                let answer = read_all(&tables, &changed, register);
+                let answer = case.read(&changed);
                 assert_eq!((answer.number, answer.place), (OFFGRID, p as u32));
             }
         }
@@ -146,13 +164,14 @@ fn a_point_off_the_grid_is_never_read() {
 
 #[test]
 fn half_a_turn_is_told_unless_none_is_monitored_and_n_is_even() {
-    let tables = accepted_tables(400, 20);
-    for (tables, register) in tables.iter().filter(|(t, _)| t.mode == Mode::Coded) {
-        let n = nonzero_entries(&reordered_bits(tables));
-        let monitored = classes(tables).contains(&Class::Monitored);
-        for value in 0..1 << check(tables).size {
-            let (frame, points) = write(tables, value, *register);
-            let answer = read_all(tables, &half_turn(&points), *register);
+    let cases = cases(400, 20);
+    let is_coded = |case: &&Case| case.tables.mode == Mode::Coded;
+    for case in cases.iter().filter(is_coded) {
+        let n = nonzero_entries(&reordered_bits(&case.tables));
+        let monitored = classes(&case.tables).contains(&Class::Monitored);
+        for value in 0..1 << case.size() {
+            let (frame, points) = case.write(value);
+            let answer = case.read(&half_turn(&points));
             let number = match (monitored, n % 2) {
                 (true, _) => MONITOR,
                 (false, 1) => TRELLIS,

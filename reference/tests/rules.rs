@@ -143,7 +143,9 @@ fn every_0_bit_tone_draws_two_bits() {
 
 #[test]
 fn frames_are_packed_lowest_first() {
-    let bits = bits_of_frame(&[0b1000_0110, 0b1], 9);
+    let bits = bits_of_frame(&[0b1000_0110, 0b1], 0, 9);
     assert_eq!(number_of(&bits), 0b1_1000_0110);
-    assert_eq!(frame_of_bits(&bits), [0b1000_0110, 0b1]);
+    assert_eq!(frame_of_bits(&bits, 0), [0b1000_0110, 0b1]);
+    assert_eq!(frame_of_bits(&bits, 5), [0b1100_0000, 0b11_0000]);
+    assert_eq!(bits_of_frame(&[0b1100_0000, 0b11_0000], 5, 9), bits);
 }
