@@ -2,7 +2,7 @@
 
 use crate::call::{Asked, Call, Command, Operand};
 use crate::fault::Fault;
-use crate::files::register_number;
+use crate::files::{register_number, saturating};
 use crate::help;
 use crate::options::{Kind, Opt, OPTIONS, OUT, SVG};
 use crate::output::{is_standard_output, same_file};
@@ -102,6 +102,7 @@ impl Words {
             commands,
             operands: self.operands,
             register: Asked::Reset,
+            start: None,
             options: Vec::new(),
         };
         for (count, given) in self.options.iter().enumerate() {
@@ -160,6 +161,7 @@ fn set(call: &mut Call, option: &'static Opt, given: &Given) -> Result<(), Strin
     }
     match option.kind {
         Kind::Register | Kind::RegisterOrFind => call.register = register(option.kind, &word)?,
+        Kind::Start => call.start = Some(start(&word)?),
         Kind::Output if word == "-" || word.is_empty() => {
             return Err("takes the name of a file".to_string())
         }
@@ -175,6 +177,12 @@ fn register(kind: Kind, word: &str) -> Result<Asked, String> {
         (Kind::RegisterOrFind, None) => Err("takes a whole number from 1 or `find`".to_string()),
         _ => Err("takes a whole number from 1".to_string()),
     }
+}
+
+/// Any byte, because the library has an answer for each.
+fn start(word: &str) -> Result<u8, String> {
+    let number = saturating(word, u32::MAX).and_then(|number| u8::try_from(number).ok());
+    number.ok_or_else(|| "takes a whole number from 0 to 7".to_string())
 }
 
 fn check_operands(call: &Call) -> Result<(), Fault> {

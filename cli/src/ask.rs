@@ -2,6 +2,7 @@
 
 use crate::files::{Class, TableSet};
 use crate::index::{Place, Subcarrier};
+use crate::span::Span;
 use clevisroot_sys::{self as library, Answer};
 
 /// The re-ordered tables.
@@ -27,19 +28,26 @@ pub fn order(set: &TableSet) -> (Answer, Order) {
     (answer, order)
 }
 
-pub fn encode(set: &TableSet, frame: &[u8], register: u32) -> (Answer, Points) {
+/// The points of a frame that starts at this bit of its first byte.
+pub fn encode(set: &TableSet, frame: &[u8], start: u8, register: u32) -> (Answer, Points) {
     let mut points = Points {
         x: vec![0; set.tone_count()],
         y: vec![0; set.tone_count()],
     };
     let Points { x, y } = &mut points;
-    let answer = library::encode(set.lent(), frame, register, x, y);
+    let answer = library::encode_at(set.lent(), frame, start, register, x, y);
     (answer, points)
 }
 
-pub fn read(set: &TableSet, x: &[i16], y: &[i16], register: u32) -> (Answer, Vec<u8>) {
-    let mut frame = vec![0; frame_bytes(set)];
-    let answer = library::read(set.lent(), x, y, register, &mut frame);
+/// The frame of the points, with its start at this bit of its first byte.
+pub fn read(
+    set: &TableSet,
+    (x, y): (&[i16], &[i16]),
+    register: u32,
+    start: u8,
+) -> (Answer, Vec<u8>) {
+    let mut frame = vec![0; frame_bytes(set, start)];
+    let answer = library::read_at(set.lent(), x, y, register, &mut frame, start);
     (answer, frame)
 }
 
@@ -49,9 +57,15 @@ pub fn trellis_tells(set: &TableSet, order: &Order) -> bool {
     set.coded && order.loaded() % 2 == 1
 }
 
-/// The bytes of a frame of these tables, 0 if they are refused.
-pub fn frame_bytes(set: &TableSet) -> usize {
-    library::check(set.lent()).size.div_ceil(8) as usize
+/// The bits of a frame of these tables; L is 0 if they are refused.
+pub fn span(set: &TableSet, start: u8) -> Span {
+    let size = library::check(set.lent()).size;
+    Span { start, size }
+}
+
+/// The bytes of a frame of these tables.
+pub fn frame_bytes(set: &TableSet, start: u8) -> usize {
+    span(set, start).bytes()
 }
 
 impl Order {

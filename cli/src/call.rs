@@ -80,6 +80,8 @@ pub struct Call {
     pub commands: &'static [Command],
     pub operands: Vec<OsString>,
     pub register: Asked,
+    /// The bit of its first byte at which a frame starts, if one is named.
+    pub start: Option<u8>,
     /// The other options by name, with their values.
     pub options: Vec<(&'static str, OsString)>,
 }

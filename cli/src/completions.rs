@@ -3,6 +3,9 @@
 use crate::call::{Command, Operand};
 use crate::options::{Kind, Opt};
 
+/// The starts that a frame can have.
+const STARTS: &str = "0 1 2 3 4 5 6 7";
+
 fn names(commands: &[Command]) -> String {
     let names: Vec<&str> = commands.iter().map(|command| command.name).collect();
     names.join(" ")
@@ -53,6 +56,7 @@ pub fn bash(commands: &[Command]) -> String {
          \x20 case \"$before\" in\n\
          \x20   --out|--svg) COMPREPLY=($(compgen -f -- \"$word\")); return ;;\n\
          \x20   --register) COMPREPLY=($(compgen -W \"find 8388607\" -- \"$word\")); return ;;\n\
+         \x20   --start) COMPREPLY=($(compgen -W \"{STARTS}\" -- \"$word\")); return ;;\n\
          \x20 esac\n\
          \x20 case \"$command\" in\n\
          {cases}\
@@ -92,12 +96,13 @@ fn fish_command(command: &Command) -> String {
     lines
 }
 
-fn fish_value(option: &Opt) -> &'static str {
+fn fish_value(option: &Opt) -> String {
     match option.kind {
-        Kind::Flag => "",
-        Kind::Register => " -x",
-        Kind::RegisterOrFind => " -x -a 'find 8388607'",
-        Kind::Output => " -r -F",
+        Kind::Flag => String::new(),
+        Kind::Register => " -x".to_string(),
+        Kind::RegisterOrFind => " -x -a 'find 8388607'".to_string(),
+        Kind::Start => format!(" -x -a '{STARTS}'"),
+        Kind::Output => " -r -F".to_string(),
     }
 }
 
@@ -135,6 +140,7 @@ fn zsh_option(option: &Opt) -> String {
         Kind::Flag => format!("'--{name}[{about}]'"),
         Kind::Register => format!("'--{name}[{about}]:N: '"),
         Kind::RegisterOrFind => format!("'--{name}[{about}]:N:(find 8388607)'"),
+        Kind::Start => format!("'--{name}[{about}]:N:({STARTS})'"),
         Kind::Output => format!("'--{name}[{about}]:FILE:_files'"),
     }
 }

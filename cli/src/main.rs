@@ -16,6 +16,7 @@ mod output;
 mod refusal;
 mod register;
 mod report;
+mod span;
 mod stream;
 mod svg;
 mod words;

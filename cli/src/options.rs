@@ -9,6 +9,8 @@ pub enum Kind {
     Register,
     /// A register, or the word `find`.
     RegisterOrFind,
+    /// The number of a bit.
+    Start,
     /// The name of a file that is written.
     Output,
 }
@@ -30,6 +32,12 @@ pub const REGISTER_OR_FIND: Opt = Opt {
     name: "register",
     kind: Kind::RegisterOrFind,
     about: "the filler register before the first symbol, or find it from the points",
+};
+
+pub const START: Opt = Opt {
+    name: "start",
+    kind: Kind::Start,
+    about: "the bit of its first byte at which a frame starts, 0 to 7, else 0",
 };
 
 pub const OUT: Opt = Opt {
@@ -57,7 +65,15 @@ pub const JSON: Opt = Opt {
 };
 
 /// All of them, in the order of the help.
-pub const OPTIONS: [&Opt; 6] = [&REGISTER, &REGISTER_OR_FIND, &OUT, &SVG, &STOP, &JSON];
+pub const OPTIONS: [&Opt; 7] = [
+    &REGISTER,
+    &REGISTER_OR_FIND,
+    &START,
+    &OUT,
+    &SVG,
+    &STOP,
+    &JSON,
+];
 
 impl Opt {
     /// The option as a form of a call shows it.
@@ -72,7 +88,7 @@ impl Opt {
     pub fn value(&self) -> Option<&'static str> {
         match self.kind {
             Kind::Flag => None,
-            Kind::Register => Some("N"),
+            Kind::Register | Kind::Start => Some("N"),
             Kind::RegisterOrFind => Some("N|find"),
             Kind::Output => Some("FILE"),
         }

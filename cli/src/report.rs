@@ -2,7 +2,7 @@
 
 use crate::json::{Fields, Json};
 use crate::refusal::Refusal;
-use crate::words::size_words;
+use crate::span::Span;
 use clevisroot_sys::refusals::name;
 use clevisroot_sys::Answer;
 
@@ -78,9 +78,8 @@ pub fn refusal_fields(refusal: &Refusal) -> Fields {
 }
 
 /// "0 DONE: L = 5 bits in 1 byte, register after 2097151"
-pub fn done_words(answer: &Answer) -> String {
-    let (size, register) = (size_words(answer.size), answer.reg);
-    format!("0 DONE: {size}, register after {register}")
+pub fn done_words(frame: Span, register: u32) -> String {
+    format!("0 DONE: {}, register after {register}", frame.words())
 }
 
 /// The exit status of a refusal is its number.
@@ -117,9 +116,9 @@ pub fn table_fields(command: &'static str, answer: &Answer) -> Fields {
     fields(command, [Some(number), Some(place), Some(size), None])
 }
 
-/// The fields of a call for a symbol. A register too large for the library's type stands for the
-/// largest there is, which nobody typed.
-pub fn symbol_fields(command: &'static str, answer: &Answer) -> Fields {
+/// The fields of a call for a symbol, with the start of its frame if the call names one. A register
+/// too large for the library's type stands for the largest there is, which nobody typed.
+pub fn symbol_fields(command: &'static str, answer: &Answer, start: Option<u8>) -> Fields {
     let Answer {
         number,
         place,
@@ -127,5 +126,12 @@ pub fn symbol_fields(command: &'static str, answer: &Answer) -> Fields {
         reg,
     } = *answer;
     let register = Some(reg).filter(|&reg| reg != u32::MAX);
-    fields(command, [Some(number), Some(place), Some(size), register])
+    let mut fields = fields(command, [Some(number), Some(place), Some(size), register]);
+    fields.extend(start_field(start));
+    fields
+}
+
+/// Without it the bytes of a frame that starts elsewhere than at bit 0 cannot be understood.
+pub fn start_field(start: Option<u8>) -> Option<(&'static str, Json)> {
+    start.map(|start| ("start", Json::Number(start.into())))
 }

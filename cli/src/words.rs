@@ -7,12 +7,6 @@ pub fn count(number: impl TryInto<u64>, thing: &str) -> String {
     format!("{number} {thing}{plural}")
 }
 
-/// "L = 5 bits in 1 byte"
-pub fn size_words(size: u32) -> String {
-    let bytes = size.div_ceil(8);
-    format!("L = {} in {}", count(size, "bit"), count(bytes, "byte"))
-}
-
 pub fn mode_word(coded: bool) -> &'static str {
     if coded {
         "coded"

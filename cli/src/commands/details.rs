@@ -22,6 +22,10 @@ Writes the points of a frame, x,y, a line a place in t' order, and tells the reg
 next symbol. What it prints is a POINTS file. The frame has L bits: bit k is in byte k / 8, at
 weight 2 to the (k mod 8); unused high bits are 0. Refusals are 1 to 8 and 10 to 12.
 
+With --start N, 0 to 7, the frame starts at bit N of its first byte: bit k is where bit N + k is
+otherwise, in (N + L) / 8 bytes, rounded up. Refusal 11 is another number of bytes than start and L
+need, a bit before the start or after the end that is 1, or a start above 7.
+
 The file may hold many frames, with an empty line between them. The register goes from one to
 the next; a refused frame hands it back as it was. Totals come last. The exit status is that of
 the first frame that is refused.
@@ -29,6 +33,7 @@ the first frame that is refused.
 examples
   clevisroot encode examples/bench-a.txt examples/bench-a.hex --svg symbol.svg
   echo 15 | clevisroot encode examples/bench-a.txt - --register 0x1fffff
+  echo 4005 | clevisroot encode examples/bench-a.txt - --start 6
 ";
 
 pub const READ: &str = "\
@@ -36,16 +41,20 @@ Reads exact points back to the frame, hex, 32 bytes a line. What it prints is a 
 register must be the one the points were written with; --register find works it out from the
 monitored tones, 12 of one symbol or 32 of several that follow each other, or a few more where
 silent tones stand between them; where it cannot, there is no frame and the status is 33. Refusals
-are 1 to 8, 10 and 12 to 15; with 13, 14 and 15 the picture of --svg is drawn too and shows what
-was refused.
+are 1 to 8 and 10 to 15; with 13, 14 and 15 the picture of --svg is drawn too and shows what was
+refused.
+
+With --start N, 0 to 7, the frame starts at bit N of its first byte, as encode takes it, with zeros
+before it and after it. The points do not tell the start. Refusal 11 is a start above 7.
 
 The file may hold many symbols, with an empty line or a header x,y between them. The register
 goes from one to the next; a refused symbol hands it back as it was, so that the symbols after it
 may be refused too: --register find then finds it anew. Totals come last. The exit status is that
 of the first symbol that is not read.
 
-example
+examples
   clevisroot read examples/bench-a.txt examples/bench-a.csv --out frame.hex
+  clevisroot read examples/bench-a.txt examples/bench-a.csv --start 6
 ";
 
 pub const TURN: &str = "\
@@ -58,15 +67,17 @@ writer's register. With --register find the register is worked out from the moni
 the verdict holds whatever the register was: 12 tones of one symbol are enough, or 32 of several
 that follow each other. It may take a few more where silent tones stand between them. Coded, and
 with an odd count of non-zero re-ordered entries, the trellis code tells without any register.
-docs/FIND-THE-REGISTER.md has the reasons.
+docs/FIND-THE-REGISTER.md has the reasons. --start N is the start of the frames that are shown, as
+for read; no verdict depends on it.
 
 Exit status: 0 straight, 32 turned, 36 perhaps (straight or turned), 33 cannot tell, 34 neither
-way is read; 1 to 8, 10 and 12 if the tables, the count of points or the register are refused. A
-file may hold many symbols, as for read; the status is then that of all of them together.
+way is read; 1 to 8 and 10 to 12 if the tables, the count of points, the start or the register are
+refused. A file may hold many symbols, as for read; the status is then that of all of them together.
 
 examples
   clevisroot turn examples/bench-a.txt examples/bench-a-turned.csv --register 8388607
   clevisroot turn examples/vdsl2-4096.txt points.csv --register find
+  clevisroot turn examples/five-twos.txt examples/five-twos-turned.csv --start 6
 ";
 
 pub const MAP: &str = "\

@@ -1,13 +1,13 @@
 //! `encode`: frames to points.
 
-use super::picture::{caption, Picture};
+use super::picture::Picture;
 use super::reading::Tables;
 use super::totals::Totals;
 use crate::ask::{self, Order, Points};
 use crate::call::Call;
 use crate::fault::Fault;
 use crate::files::{Frame, TableSet};
-use crate::json::Json;
+use crate::json::{Fields, Json};
 use crate::output::Output;
 use crate::refusal::Question;
 use crate::report::{done_words, symbol_fields, Report, Written};
@@ -39,7 +39,9 @@ impl Task for Encode {
     type Input = Frame;
 
     fn take(&mut self, number: usize, frame: Frame, output: &Output) -> Reports {
-        let (answer, points) = ask::encode(&self.tables.set, &frame.bytes, self.register);
+        let Tables { set, .. } = &self.tables;
+        let start = self.tables.start();
+        let (answer, points) = ask::encode(set, &frame.bytes, start, self.register);
         let mut report = match answer.number {
             DONE => self.done(&answer, &points),
             _ => {
@@ -48,7 +50,7 @@ impl Task for Encode {
                     ..self.tables.question(self.register)
                 };
                 let refusal = question.refusal(&answer);
-                Report::refused_result(&refusal, symbol_fields("encode", &answer))
+                Report::refused_result(&refusal, self.fields(&answer))
             }
         };
         if answer.number == DONE && output.wants_picture(false) {
@@ -75,12 +77,17 @@ impl Task for Encode {
 }
 
 impl Encode {
+    fn fields(&self, answer: &Answer) -> Fields {
+        symbol_fields("encode", answer, self.tables.named_start)
+    }
+
     fn done(&self, answer: &Answer, points: &Points) -> Report {
-        let mut json = symbol_fields("encode", answer);
+        let mut json = self.fields(answer);
         json.push(("tones", Json::numbers(&self.tables.order.tones)));
         json.push(("x", Json::numbers(&points.x)));
         json.push(("y", Json::numbers(&points.y)));
-        let mut report = Report::new(0, vec![done_words(answer)], json);
+        let summary = done_words(self.tables.span(answer), answer.reg);
+        let mut report = Report::new(0, vec![summary], json);
         report.result = Some(Written {
             screen: csv(points, &self.remarks),
             file: csv(points, &[]),
@@ -96,7 +103,7 @@ impl Encode {
             typed: None,
             answer,
         };
-        picture.draw(caption(("encode", number), self.register, answer, None))
+        picture.draw(picture.caption(("encode", number), self.register, None))
     }
 }
 

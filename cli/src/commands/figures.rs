@@ -197,21 +197,21 @@ fn size(set: &TableSet) -> String {
 }
 
 fn points(set: &TableSet, byte: u8) -> String {
-    let (answer, points) = ask::encode(set, &[byte], RESET);
+    let (answer, points) = ask::encode(set, &[byte], 0, RESET);
     let pairs = points.x.iter().zip(&points.y);
     let words: Vec<String> = pairs.map(|(x, y)| format!("{x},{y}")).collect();
     answer_or(answer.number, words.join(" "))
 }
 
 fn register(set: &TableSet, byte: u8) -> String {
-    let (answer, _) = ask::encode(set, &[byte], RESET);
+    let (answer, _) = ask::encode(set, &[byte], 0, RESET);
     answer_or(answer.number, answer.reg.to_string())
 }
 
 /// All loaded points (-1, -1), tone 4, which is silent, (0, 0).
 fn turned(set: &TableSet) -> String {
     let list = [-1, -1, -1, 0, -1, -1];
-    let (answer, frame) = ask::read(set, &list, &list, RESET);
+    let (answer, frame) = ask::read(set, (&list, &list), RESET, 0);
     answer_or(answer.number, format!("frame byte {}", words(&frame)))
 }
 

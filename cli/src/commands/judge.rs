@@ -7,8 +7,7 @@ use crate::ask::trellis_tells;
 use crate::files::{hex_lines, PointList};
 use crate::json::{Fields, Json};
 use crate::register::{Reach, Search};
-use crate::report::{fields, refusal_fields, Report};
-use crate::words::size_words;
+use crate::report::{fields, refusal_fields, start_field, Report};
 use clevisroot_sys::refusals::{MONITOR, OFFGRID};
 use clevisroot_sys::RESET;
 
@@ -68,7 +67,7 @@ impl Judged {
     pub fn report(&self, tables: &Tables) -> Report {
         let sentence = sentence(self.verdict, tables, &self.ground);
         let [straight, turned] = &self.readings;
-        let mut json = self.fields(straight);
+        let mut json = self.fields(tables, straight);
         json.retain(|(key, _)| *key != "sentence");
         json.push(("verdict", Json::text(self.verdict.word())));
         json.push(("sure", Json::Flag(self.verdict.is_sure())));
@@ -77,11 +76,11 @@ impl Judged {
             Json::Object(ground_fields(self.verdict, &self.ground)),
         ));
         json.push(("sentence", Json::text(sentence.clone())));
-        json.push(("turned", Json::Object(self.fields(turned))));
+        json.push(("turned", Json::Object(self.fields(tables, turned))));
         let summary = vec![
             sentence,
-            format!("as they came: {}", self.words(straight)),
-            format!("turned:       {}", self.words(turned)),
+            format!("as they came: {}", self.words(tables, straight)),
+            format!("turned:       {}", self.words(tables, turned)),
         ];
         let mut report = Report::new(self.verdict.status(), summary, json);
         report.refused = self.verdict == Verdict::Neither;
@@ -89,11 +88,12 @@ impl Judged {
     }
 
     /// One of the readings in fields.
-    fn fields(&self, reading: &Reading) -> Fields {
+    fn fields(&self, tables: &Tables, reading: &Reading) -> Fields {
         let answer = &reading.answer;
         let register = self.known.map(|_| answer.reg);
         let numbers = [answer.number, answer.place, answer.size].map(Some);
         let mut json = fields("turn", [numbers[0], numbers[1], numbers[2], register]);
+        json.extend(start_field(tables.named_start));
         if let Some(refusal) = &reading.refusal {
             json.extend(refusal_fields(refusal));
         }
@@ -106,7 +106,7 @@ impl Judged {
     }
 
     /// One of the readings in words.
-    fn words(&self, reading: &Reading) -> String {
+    fn words(&self, tables: &Tables, reading: &Reading) -> String {
         if let Some(refusal) = &reading.refusal {
             return format!("refused, {} {}", refusal.title(), refusal.place);
         }
@@ -115,7 +115,7 @@ impl Judged {
             1..=16 => format!("frame {} (hex), ", hex_lines(&reading.frame).trim_end()),
             _ => String::new(),
         };
-        let size = size_words(reading.answer.size);
+        let size = tables.span(&reading.answer).words();
         match self.known {
             Some(_) => format!("read, {frame}{size}, register after {}", reading.answer.reg),
             None => format!("read, {frame}{size}, register not known"),

@@ -19,7 +19,7 @@ mod verdict_totals;
 mod verdict_words;
 
 use crate::call::{Command, Operand};
-use crate::options::{JSON, OUT, REGISTER, REGISTER_OR_FIND, STOP, SVG};
+use crate::options::{JSON, OUT, REGISTER, REGISTER_OR_FIND, START, STOP, SVG};
 
 const TABLES: Operand = Operand::Input("TABLES");
 const FRAME: Operand = Operand::Input("FRAME");
@@ -45,7 +45,7 @@ pub const COMMANDS: [Command; 10] = [
     Command {
         name: "encode",
         operands: &[TABLES, FRAME],
-        options: &[&REGISTER, &OUT, &SVG, &STOP, &JSON],
+        options: &[&REGISTER, &START, &OUT, &SVG, &STOP, &JSON],
         about: "write the points of a frame, or of many",
         details: details::ENCODE,
         run: encode::encode,
@@ -53,7 +53,7 @@ pub const COMMANDS: [Command; 10] = [
     Command {
         name: "read",
         operands: &[TABLES, POINTS],
-        options: &[&REGISTER_OR_FIND, &OUT, &SVG, &STOP, &JSON],
+        options: &[&REGISTER_OR_FIND, &START, &OUT, &SVG, &STOP, &JSON],
         about: "read points back to the frame, one symbol or many",
         details: details::READ,
         run: read::read,
@@ -61,7 +61,7 @@ pub const COMMANDS: [Command; 10] = [
     Command {
         name: "turn",
         operands: &[TABLES, POINTS],
-        options: &[&REGISTER_OR_FIND, &SVG, &STOP, &JSON],
+        options: &[&REGISTER_OR_FIND, &START, &SVG, &STOP, &JSON],
         about: "tell whether the clips are the wrong way round",
         details: details::TURN,
         run: turn::turn,

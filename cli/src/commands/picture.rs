@@ -4,7 +4,6 @@ use super::reading::Tables;
 use crate::files::PointList;
 use crate::refusal::{refused_places, Refusal};
 use crate::svg::{self, Symbol};
-use crate::words::size_words;
 use clevisroot_sys::Answer;
 
 /// What a picture is made of.
@@ -31,27 +30,21 @@ impl Picture<'_> {
             caption,
         })
     }
-}
 
-/// The line under a picture's title.
-pub fn caption(
-    (command, number): (&str, usize),
-    register: u32,
-    answer: &Answer,
-    refusal: Option<&Refusal>,
-) -> String {
-    let start = titled(command, number);
-    match refusal {
-        Some(refusal) => format!(
-            "{start}: refused {} {}, register {register}",
-            refusal.title(),
-            refusal.spot
-        ),
-        None => format!(
-            "{start}: {}, register {register} before, {} after",
-            size_words(answer.size),
-            answer.reg
-        ),
+    /// The line under a picture's title.
+    pub fn caption(
+        &self,
+        (command, number): (&str, usize),
+        register: u32,
+        refusal: Option<&Refusal>,
+    ) -> String {
+        let title = titled(command, number);
+        if let Some(refusal) = refusal {
+            let (refused, spot) = (refusal.title(), &refusal.spot);
+            return format!("{title}: refused {refused} {spot}, register {register}");
+        }
+        let (frame, after) = (self.tables.span(self.answer).words(), self.answer.reg);
+        format!("{title}: {frame}, register {register} before, {after} after")
     }
 }
 

@@ -1,6 +1,6 @@
 //! `read`: points to frames.
 
-use super::picture::{caption, Picture};
+use super::picture::Picture;
 use super::reading::{Reading, Tables};
 use super::totals::Totals;
 use super::verdict::CANNOT_TELL;
@@ -11,7 +11,7 @@ use crate::files::{hex_lines, PointList};
 use crate::json::Json;
 use crate::output::Output;
 use crate::register::{Finder, FoundRegister, Settled};
-use crate::report::{done_words, fields, symbol_fields, Report, Written};
+use crate::report::{done_words, fields, start_field, symbol_fields, Report, Written};
 use crate::stream::{self, Reports, Task};
 use clevisroot_sys::refusals::MONITOR;
 use clevisroot_sys::RESET;
@@ -122,7 +122,7 @@ impl Read {
     }
 
     fn report(&self, register: u32, reading: &Reading) -> Report {
-        let mut json = symbol_fields("read", &reading.answer);
+        let mut json = symbol_fields("read", &reading.answer, self.tables.named_start);
         if self.find {
             json.push(("register_before", Json::Number(register.into())));
         }
@@ -131,7 +131,9 @@ impl Read {
         }
         let hex = hex_lines(&reading.frame);
         json.push(("frame", Json::text(hex.replace('\n', ""))));
-        let mut report = Report::new(0, vec![done_words(&reading.answer)], json);
+        let span = self.tables.span(&reading.answer);
+        let summary = done_words(span, reading.answer.reg);
+        let mut report = Report::new(0, vec![summary], json);
         report.result = Some(Written {
             screen: hex.clone(),
             file: hex,
@@ -153,13 +155,14 @@ impl Read {
             typed: Some(points),
             answer: &reading.answer,
         };
-        let (answer, refusal) = (&reading.answer, reading.refusal.as_ref());
-        picture.draw(caption(("read", number), register, answer, refusal))
+        let refusal = reading.refusal.as_ref();
+        picture.draw(picture.caption(("read", number), register, refusal))
     }
 
     /// No register can be told, so that nothing can be read.
     fn not_found(&mut self, number: usize, sentence: String) -> (usize, Report) {
         let mut json = fields("read", [None; 4]);
+        json.extend(start_field(self.tables.named_start));
         json.push(("sentence", Json::text(sentence.clone())));
         let mut report = Report::new(CANNOT_TELL, vec![sentence.clone()], json);
         report.reason = Some(sentence);

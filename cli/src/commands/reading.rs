@@ -6,6 +6,7 @@ use crate::fault::Fault;
 use crate::files::{read_tables, PointList, TableSet};
 use crate::refusal::{is_of_points, Question, Refusal};
 use crate::register::Reaches;
+use crate::span::Span;
 use clevisroot_sys::refusals::DONE;
 use clevisroot_sys::{self as library, Answer};
 
@@ -16,6 +17,8 @@ pub struct Tables {
     pub reaches: Reaches,
     /// The register as it was typed.
     typed: Option<String>,
+    /// The bit of its first byte at which a frame starts, if the call names one.
+    pub named_start: Option<u8>,
 }
 
 /// What the library answers for points and a register.
@@ -36,7 +39,21 @@ impl Tables {
             order,
             reaches,
             typed: call.typed_register().map(str::to_string),
+            named_start: call.start,
         })
+    }
+
+    /// The bit of its first byte at which a frame starts.
+    pub fn start(&self) -> u8 {
+        self.named_start.unwrap_or(0)
+    }
+
+    /// The bits of the frame that an answer is about.
+    pub fn span(&self, answer: &Answer) -> Span {
+        Span {
+            start: self.start(),
+            size: answer.size,
+        }
     }
 
     /// Whether the tables themselves are refused.
@@ -47,6 +64,7 @@ impl Tables {
     /// A question about these tables and a register.
     pub fn question(&self, register: u32) -> Question<'_> {
         Question {
+            start: self.start(),
             register,
             typed: self.typed.as_deref(),
             ..Question::of_tables(&self.set)
@@ -54,7 +72,8 @@ impl Tables {
     }
 
     pub fn read(&self, points: &PointList, register: u32) -> Reading {
-        let (answer, frame) = ask::read(&self.set, &points.x, &points.y, register);
+        let lists = (points.x.as_slice(), points.y.as_slice());
+        let (answer, frame) = ask::read(&self.set, lists, register, self.start());
         let question = Question {
             points: Some(points),
             ..self.question(register)

@@ -9,7 +9,8 @@ use crate::output::Output;
 use crate::refusal::Question;
 use crate::register::{Reach, Reaches, ENOUGH_TONES, UNSEEN};
 use crate::report::{table_fields, Report, Written};
-use crate::words::{mode_word, size_words};
+use crate::span::Span;
+use crate::words::mode_word;
 use clevisroot_sys::refusals::DONE;
 use clevisroot_sys::{self as library, Answer};
 use std::fmt::Display;
@@ -33,7 +34,7 @@ fn accepted(set: &TableSet, answer: &Answer, mut json: Fields) -> Report {
     let data = set.tone_count() - monitored - silent;
     let summary = vec![
         "0 DONE: the table set is accepted".to_string(),
-        size_words(answer.size),
+        size_words(answer),
         format!(
             "{}, G = {}, NSC = {}: {data} with data, {monitored} monitored, {silent} silent",
             mode_word(set.coded),
@@ -72,13 +73,19 @@ pub fn order(call: &Call) -> Result<u8, Fault> {
     json.push(("tones", Json::numbers(&order.tones)));
     json.push(("bits", Json::numbers(&order.bits)));
     let lists = format!("t'\n{}b'\n{}", rows(&order.tones), rows(&order.bits));
-    let summary = vec![format!("0 DONE: {}", size_words(answer.size))];
+    let summary = vec![format!("0 DONE: {}", size_words(&answer))];
     let mut report = Report::new(0, summary, json);
     report.result = Some(Written {
         screen: lists.clone(),
         file: lists,
     });
     Output::open(call)?.single(report)
+}
+
+/// L, and the bytes of a frame that starts at bit 0.
+fn size_words(answer: &Answer) -> String {
+    let size = answer.size;
+    Span { start: 0, size }.words()
 }
 
 fn refused(set: &TableSet, answer: &Answer, json: Fields) -> Report {

@@ -51,7 +51,7 @@ impl Task for Turn {
         // Whatever is refused before the points are looked at is no word on the clips.
         if let Some(refusal) = reading.refusal.as_ref().filter(|_| !reading.is_of_points()) {
             let mut reports = self.finish(output);
-            let json = symbol_fields("turn", &reading.answer);
+            let json = symbol_fields("turn", &reading.answer, self.tables.named_start);
             reports.push((number, self.refused(refusal, json)));
             return reports;
         }

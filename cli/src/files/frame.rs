@@ -2,9 +2,10 @@
 
 use super::source::quoted;
 use super::symbols::SymbolText;
+use clevisroot_sys::MAX_FRAME;
 
-/// More bytes than any frame has: beyond, they are only counted.
-const KEPT: usize = 7_681;
+/// More bytes than any frame has, wherever it starts: beyond, they are only counted.
+const KEPT: usize = MAX_FRAME + 1;
 
 pub struct Frame {
     pub bytes: Vec<u8>,

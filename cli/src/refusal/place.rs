@@ -6,6 +6,7 @@ use crate::ask::{self, Order};
 use crate::files::TableSet;
 use crate::index::{Place, Subcarrier};
 use crate::json::{Fields, Json};
+use crate::span::LAST_START;
 use clevisroot_sys::refusals::{
     BITS, FRAME, GAIN, MONITOR, OFFGRID, ROOM, SEED, STRAY, TONE, TRELLIS, TWICE,
 };
@@ -30,6 +31,7 @@ pub fn of(question: &Question, answer: &Answer) -> Found {
         OFFGRID | MONITOR => at_point(question, place),
         TRELLIS => at_pair(question, answer),
         ROOM => whole("the list of points as a whole"),
+        FRAME if question.start > LAST_START => whole("the start of the frame"),
         FRAME => whole("the frame as a whole"),
         SEED => whole("the register"),
         _ => whole("the table set as a whole"),

@@ -6,6 +6,8 @@ pub struct Question<'a> {
     pub set: &'a TableSet,
     pub frame: Option<&'a Frame>,
     pub points: Option<&'a PointList>,
+    /// The bit of its first byte at which the frame starts.
+    pub start: u8,
     pub register: u32,
     /// The register as it was typed.
     pub typed: Option<&'a str>,
@@ -18,6 +20,7 @@ impl<'a> Question<'a> {
             set,
             frame: None,
             points: None,
+            start: 0,
             register: 0,
             typed: None,
         }

@@ -3,14 +3,15 @@
 use super::place::{place_of, subcarrier_of};
 use super::question::Question;
 use crate::ask;
-use crate::files::{Class, TableSet};
+use crate::files::{Class, Frame, TableSet};
 use crate::index::Place;
 use crate::register::{or_a_few_more, ENOUGH_TONES};
-use crate::words::{count, shown, size_words};
+use crate::span::{Span, LAST_START};
+use crate::words::{count, shown};
 use clevisroot_sys::refusals::{
     BITS, FEW, FRAME, GAIN, MONITOR, ODD, OFFGRID, ROOM, SEED, SIZE, STRAY, TONE, TRELLIS, TWICE,
 };
-use clevisroot_sys::{self as library, Answer};
+use clevisroot_sys::Answer;
 
 pub fn sentence(question: &Question, answer: &Answer) -> String {
     let set = question.set;
@@ -112,24 +113,52 @@ fn is_several(given: usize, one: usize) -> bool {
 }
 
 fn frame(question: &Question) -> String {
-    let size = library::check(question.set.lent()).size;
-    let given = question.frame.map_or(0, |frame| frame.count);
-    let bytes = ask::frame_bytes(question.set);
-    if given == bytes {
-        let unused = match (8 - size % 8) % 8 {
-            1 => "upper bit of the last byte is not used and".to_string(),
-            unused => format!("upper {unused} bits of the last byte are not used and"),
-        };
-        format!("{}: the {unused} must be 0.", size_words(size))
-    } else {
-        let between = if is_several(given, bytes) {
-            ": put an empty line between frames"
-        } else {
-            ""
-        };
-        let given = count(given, "byte");
-        format!("{}, and this frame has {given}{between}.", size_words(size))
+    let start = question.start;
+    let span = ask::span(question.set, start);
+    match question.frame {
+        _ if start > LAST_START => format!(
+            "A frame starts at bit 0 to {LAST_START} of its first byte, so not at bit {start}: set \
+             it with --start."
+        ),
+        Some(frame) if frame.count == span.bytes() => {
+            format!("{}: {}.", span.words(), outside(span, frame))
+        }
+        frame => {
+            let given = frame.map_or(0, |frame| frame.count);
+            let between = if is_several(given, span.bytes()) {
+                ": put an empty line between frames"
+            } else {
+                ""
+            };
+            let given = count(given, "byte");
+            format!("{}, and this frame has {given}{between}.", span.words())
+        }
     }
+}
+
+/// The bits before a frame's start, those after its end, or both: where one is 1.
+fn outside(span: Span, frame: &Frame) -> String {
+    let first = frame.bytes.first().copied().unwrap_or(0);
+    let last = frame.bytes.last().copied().unwrap_or(0);
+    let (before, after) = (u32::from(span.start), span.unused());
+    let mut wrong = Vec::new();
+    if first.trailing_zeros() < before {
+        wrong.push(match before {
+            1 => {
+                "the lowest bit of the first byte comes before the start and must be 0".to_string()
+            }
+            _ => format!(
+                "the lower {before} bits of the first byte come before the start and must be 0"
+            ),
+        });
+    }
+    if last.leading_zeros() < after {
+        wrong.push(match after {
+            1 => "the upper bit of the last byte is not used and must be 0".to_string(),
+            _ => format!("the upper {after} bits of the last byte are not used and must be 0"),
+        });
+    }
+    wrong.join(", and ")
 }
 
 fn seed(question: &Question) -> String {
@@ -159,8 +188,14 @@ fn offgrid(question: &Question, place: Place) -> String {
 
 /// The symbol of any frame has the right point at a monitored place.
 fn monitor(question: &Question, place: Place) -> String {
-    let zeros = vec![0; ask::frame_bytes(question.set)];
-    let (_, right) = ask::encode(question.set, &zeros, question.register);
+    let Question {
+        set,
+        start,
+        register,
+        ..
+    } = *question;
+    let zeros = vec![0; ask::frame_bytes(set, start)];
+    let (_, right) = ask::encode(set, &zeros, start, register);
     let (x, y) = (
         right.x.get(place.0).copied().unwrap_or(0),
         right.y.get(place.0).copied().unwrap_or(0),
@@ -174,10 +209,9 @@ fn monitor(question: &Question, place: Place) -> String {
         format!(
             "see whether the register is the writer's (`--register find` finds it from \
              {ENOUGH_TONES} monitored tones{})",
-            or_a_few_more(question.set)
+            or_a_few_more(set)
         )
     };
-    let register = question.register;
     format!(
         "{point} is not ({x}, {y}), which the filler bits of register {register} give: {advice}."
     )

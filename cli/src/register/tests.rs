@@ -80,8 +80,8 @@ fn count(classes: &[Class]) -> usize {
 
 /// A symbol as the library writes it, and the register after.
 fn written(set: &TableSet, register: u32) -> (PointList, u32) {
-    let frame = vec![0; ask::frame_bytes(set)];
-    let (answer, points) = ask::encode(set, &frame, register);
+    let frame = vec![0; ask::frame_bytes(set, 0)];
+    let (answer, points) = ask::encode(set, &frame, 0, register);
     assert_eq!(answer.number, 0);
     let mut list = PointList::new("");
     (list.x, list.y) = (points.x, points.y);

@@ -16,8 +16,10 @@ fn faulty(ran: &Ran, status: i32, message: &str) {
     );
 }
 
+const STARTS: &str = "--start takes a whole number from 0 to 7\nusage: ";
+
 /// Words, and what the message says.
-const CALLS: [(&[&str], &str); 33] = [
+const CALLS: [(&[&str], &str); 42] = [
     (&[], "usage: "),
     (&["chek", A], "no command \"chek\""),
     (&["check"], "not the operands it takes"),
@@ -53,6 +55,18 @@ const CALLS: [(&[&str], &str); 33] = [
         &["encode", A, "-", "--register=find"],
         "takes a whole number from 1\n",
     ),
+    (&["read", A, "-", "--start"], "--start takes a value"),
+    (&["encode", A, "-", "--start", "256"], STARTS),
+    (&["read", A, "-", "--start", "-1"], STARTS),
+    (&["turn", A, "-", "--start", ""], STARTS),
+    (&["turn", A, "-", "--start=99999999999999999999"], STARTS),
+    (&["read", A, "-", "--start", "1.5"], STARTS),
+    (&["read", A, "-", "--start", "0x3"], STARTS),
+    (
+        &["read", A, "-", "--start", "0", "--start", "0"],
+        "--start is given twice",
+    ),
+    (&["check", A, "--start", "1"], "no option --start here"),
     (&["--register"], "no command, and only --register\nusage: "),
     (&["--json"], "no command, and only --json\nusage: "),
     (&["--out", "x", "check", A], "no option --out here"),

@@ -13,6 +13,7 @@ mod refusals;
 mod robust;
 mod run;
 mod silent;
+mod start;
 mod stream;
 mod stream_gaps;
 mod stream_turn;

@@ -17,7 +17,7 @@ const COMMANDS: [&str; 10] = [
     "man",
     "completions",
 ];
-const OPTIONS: [&str; 5] = ["register", "out", "svg", "stop", "json"];
+const OPTIONS: [&str; 6] = ["register", "start", "out", "svg", "stop", "json"];
 
 /// What a program answers to a text, if it is installed: its status, and all it prints.
 fn fed(program: &str, words: &[&str], text: &str) -> Option<(bool, String)> {
@@ -94,12 +94,14 @@ fn completed(words: &[&str]) -> Option<Vec<String>> {
 
 #[test]
 fn bash_completes() {
-    let cases: [(&[&str], &[&str]); 6] = [
+    let cases: [(&[&str], &[&str]); 8] = [
         (&["clevisroot", "en"], &["encode"]),
         (&["clevisroot", "--json", "tu"], &["turn"]),
         (&["clevisroot", "encode", "--re"], &["--register"]),
         (&["clevisroot", "turn", "--o"], &[]),
         (&["clevisroot", "read", "--register", "f"], &["find"]),
+        (&["clevisroot", "turn", "--sta"], &["--start"]),
+        (&["clevisroot", "read", "--start", "6"], &["6"]),
         (&["clevisroot", "completions", "z"], &["zsh"]),
     ];
     for (words, expected) in cases {
