@@ -14,6 +14,7 @@ mod robust;
 mod run;
 mod silent;
 mod start;
+mod start_refusals;
 mod stream;
 mod stream_gaps;
 mod stream_turn;

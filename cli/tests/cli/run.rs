@@ -113,6 +113,20 @@ pub fn find(command: &str, set: &str, points: &str) -> Ran {
     run_with(points.as_bytes(), &words)
 }
 
+/// A command on a table set with this start and standard input.
+pub fn at(start: &str, command: &str, set: &str, input: &str) -> Ran {
+    let words = [command, set, "-", "--start", start];
+    run_with(input.as_bytes(), &words)
+}
+
+/// The lines of a result, without remarks.
+pub fn result(ran: &Ran) -> Vec<&str> {
+    let lines = ran.out.lines();
+    lines
+        .filter(|line| !line.starts_with('#') && !line.is_empty())
+        .collect()
+}
+
 /// Numbers that look random and are the same in each run.
 pub fn numbers(mut state: u64) -> impl FnMut(u64) -> u64 {
     move |bound| {
