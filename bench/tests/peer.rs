@@ -30,8 +30,32 @@ impl Core for Peer {
         peer::encode(tables, frame, reg, x, y)
     }
 
+    fn encode_at(
+        &self,
+        tables: Tables,
+        frame: &[u8],
+        start: u8,
+        reg: u32,
+        x: &mut [i16],
+        y: &mut [i16],
+    ) -> Answer {
+        peer::encode_at(tables, frame, start, reg, x, y)
+    }
+
     fn read(&self, tables: Tables, x: &[i16], y: &[i16], reg: u32, frame: &mut [u8]) -> Answer {
         peer::read(tables, x, y, reg, frame)
+    }
+
+    fn read_at(
+        &self,
+        tables: Tables,
+        x: &[i16],
+        y: &[i16],
+        reg: u32,
+        frame: &mut [u8],
+        start: u8,
+    ) -> Answer {
+        peer::read_at(tables, x, y, reg, frame, start)
     }
 
     fn map_label(&self, bits: u8, label: u32) -> Point {

@@ -6,7 +6,7 @@ use crate::points::classes;
 use crate::random::Random;
 use crate::tables::GivenTables;
 use crate::under_test::Core;
-use clevisroot_sys::refusals::{DONE, MONITOR};
+use clevisroot_sys::refusals::{DONE, FRAME, MONITOR};
 use clevisroot_sys::{Answer, Drawn, Label, Point};
 use reference::forms::Class;
 use std::fmt::Debug;
@@ -49,48 +49,69 @@ impl Comparison<'_> {
         self.hold(Operation::Reorder, told.number, &expected, &actual, inputs)
     }
 
+    /// Encodes a frame from its start. Where that is 0, the call without a start must do the same.
     pub fn encode(
         &mut self,
         random: &mut Random,
         given: &GivenTables,
-        frame: &[u8],
+        (frame, start): (&[u8], u8),
         register: u32,
         rooms: (usize, usize),
     ) -> Result<(), Mismatch> {
         let mut x = Lent::<i16>::new(random, rooms.0);
         let mut y = Lent::<i16>::new(random, rooms.1);
-        let told = reference::encode(&given.tables, frame, register, rooms.0, rooms.1);
+        let told = reference::encode_at(&given.tables, frame, start, register, rooms.0, rooms.1);
         let lists = told.contents.as_deref().map(reference::words::lists_of);
         let (x_after, y_after) = match &lists {
             Some((xs, ys)) => (x.after(Some(xs)), y.after(Some(ys))),
             None => (x.after(None), y.after(None)),
         };
-        let actual = self
-            .core
-            .encode(given.lent(), frame, register, x.buffer(), y.buffer());
         let expected = (answer(&told), x_after, y_after);
+        let inputs = (given, frame, start, register, rooms);
+        let (core, tables) = (self.core, given.lent());
+        if start == 0 {
+            let (mut x, mut y) = (x.clone(), y.clone());
+            let actual = core.encode(tables, frame, register, x.buffer(), y.buffer());
+            let actual = (actual, x.whole().to_vec(), y.whole().to_vec());
+            self.hold(Operation::Encode, told.number, &expected, &actual, inputs)?;
+        }
+        let actual = core.encode_at(tables, frame, start, register, x.buffer(), y.buffer());
         let actual = (actual, x.whole().to_vec(), y.whole().to_vec());
-        let inputs = (given, frame, register, rooms);
-        self.record_filler(Operation::Encode, &answer(&told), given);
-        self.hold(Operation::Encode, told.number, &expected, &actual, inputs)
+        self.record_filler(Operation::EncodeAt, &answer(&told), given);
+        self.coverage.encoded.record(start, &answer(&told));
+        if told.number == FRAME {
+            let l = reference::check(&given.tables).size as usize;
+            self.coverage.refused.record(frame, start, l);
+        }
+        self.hold(Operation::EncodeAt, told.number, &expected, &actual, inputs)
     }
 
+    /// Reads points to a frame from its start. Where that is 0, the call without a start must do the
+    /// same.
     pub fn read(
         &mut self,
         random: &mut Random,
         given: &GivenTables,
         (x, y): (&[i16], &[i16]),
         register: u32,
-        room: usize,
+        (room, start): (usize, u8),
     ) -> Result<(), Mismatch> {
         let mut frame = Lent::<u8>::new(random, room);
-        let told = reference::read(&given.tables, x, y, register, room);
+        let told = reference::read_at(&given.tables, x, y, register, room, start);
         let expected = (answer(&told), frame.after(told.contents.as_deref()));
-        let actual = self.core.read(given.lent(), x, y, register, frame.buffer());
+        let inputs = (given, x, y, register, room, start);
+        let (core, tables) = (self.core, given.lent());
+        if start == 0 {
+            let mut frame = frame.clone();
+            let actual = core.read(tables, x, y, register, frame.buffer());
+            let actual = (actual, frame.whole().to_vec());
+            self.hold(Operation::Read, told.number, &expected, &actual, inputs)?;
+        }
+        let actual = core.read_at(tables, x, y, register, frame.buffer(), start);
         let actual = (actual, frame.whole().to_vec());
-        let inputs = (given, x, y, register, room);
-        self.record_filler(Operation::Read, &answer(&told), given);
-        self.hold(Operation::Read, told.number, &expected, &actual, inputs)
+        self.record_filler(Operation::ReadAt, &answer(&told), given);
+        self.coverage.read.record(start, &answer(&told));
+        self.hold(Operation::ReadAt, told.number, &expected, &actual, inputs)
     }
 
     pub fn map_label(&mut self, bits: u8, label: u32) -> Result<(), Mismatch> {

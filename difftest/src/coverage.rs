@@ -1,5 +1,6 @@
 //! Which numbers came from which operation, and whether all that must come did.
 
+use crate::starts::{Causes, Starts};
 use clevisroot_sys::refusals::*;
 use std::fmt;
 
@@ -8,7 +9,9 @@ pub enum Operation {
     Check,
     Reorder,
     Encode,
+    EncodeAt,
     Read,
+    ReadAt,
     MapLabel,
     ReadPoint,
     Draw,
@@ -16,7 +19,9 @@ pub enum Operation {
 
 use Operation::*;
 
-const OPERATIONS: [Operation; 7] = [Check, Reorder, Encode, Read, MapLabel, ReadPoint, Draw];
+const OPERATIONS: [Operation; 9] = [
+    Check, Reorder, Encode, EncodeAt, Read, ReadAt, MapLabel, ReadPoint, Draw,
+];
 
 /// How many numbers there are from DONE to the largest, unused ones included.
 const NUMBERS: usize = LABEL as usize + 1;
@@ -28,7 +33,9 @@ impl Operation {
             Check => "check",
             Reorder => "reorder",
             Encode => "encode",
+            EncodeAt => "encode_at",
             Read => "read",
+            ReadAt => "read_at",
             MapLabel => "map_label",
             ReadPoint => "read_point",
             Draw => "draw",
@@ -40,8 +47,9 @@ impl Operation {
         match self {
             Check => (DONE..=FEW).collect(),
             Reorder => (DONE..=FEW).chain([ROOM]).collect(),
-            Encode => (DONE..=FEW).chain(ROOM..=SEED).collect(),
+            Encode | EncodeAt => (DONE..=FEW).chain(ROOM..=SEED).collect(),
             Read => (DONE..=FEW).chain([ROOM]).chain(SEED..=TRELLIS).collect(),
+            ReadAt => (DONE..=FEW).chain(ROOM..=TRELLIS).collect(),
             MapLabel => vec![DONE, LABEL],
             ReadPoint => vec![DONE, OFFGRID, LABEL],
             Draw => vec![DONE, SEED],
@@ -54,12 +62,17 @@ pub struct Coverage {
     counts: Counts,
     /// Of symbols with a monitored tone behind a silent one.
     behind_silent: Counts,
+    /// Of symbols that were done.
+    pub encoded: Starts,
+    pub read: Starts,
+    /// Of frames that encoding refused.
+    pub refused: Causes,
 }
 
 type Counts = [[u64; NUMBERS]; OPERATIONS.len()];
 
 /// What must turn up where a monitored tone stands behind a silent one, which has drawn before it.
-const BEHIND_SILENT: [(Operation, u32); 3] = [(Encode, DONE), (Read, DONE), (Read, MONITOR)];
+const BEHIND_SILENT: [(Operation, u32); 3] = [(EncodeAt, DONE), (ReadAt, DONE), (ReadAt, MONITOR)];
 
 impl Coverage {
     pub fn record(&mut self, operation: Operation, number: u32) {
@@ -80,7 +93,7 @@ impl Coverage {
     }
 
     /// Every number an operation can give turned up, and no other, and so did every outcome for a
-    /// monitored tone behind a silent one.
+    /// monitored tone behind a silent one, every start, and every cause to refuse a frame.
     pub fn verdict(&self) -> Result<(), String> {
         for operation in OPERATIONS {
             for (number, &count) in (DONE..).zip(&self.counts[operation as usize]) {
@@ -103,7 +116,9 @@ impl Coverage {
                 ));
             }
         }
-        Ok(())
+        self.encoded.verdict("encoded")?;
+        self.read.verdict("read")?;
+        self.refused.verdict()
     }
 }
 
@@ -128,6 +143,13 @@ impl fmt::Display for Coverage {
         write!(
             f,
             "\na monitored tone behind a silent one: encoded {encoded}, read {read}, 14 MONITOR {monitor}"
-        )
+        )?;
+        write!(
+            f,
+            "\neach start with each remainder of L by 8, and with L = 0: \
+             encoded {} times at least, read {}",
+            self.encoded, self.read
+        )?;
+        write!(f, "\nframes refused for their {}", self.refused)
     }
 }

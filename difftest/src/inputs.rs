@@ -3,27 +3,53 @@
 use crate::random::Random;
 use crate::tables::change;
 use reference::filler::RESET;
+use reference::forms::frame_of_bits;
 use reference::points::constellation;
+use std::ops::Range;
 
-/// A frame of L bits, once in a while one that isn't.
-pub fn random_frame(random: &mut Random, l: usize) -> Vec<u8> {
-    let mut frame = accepted_frame(random, l);
-    if random.one_in(12) {
-        match random.below(4) {
+/// The bit of its first byte that a frame starts at: 0 to 7, once in a while above.
+pub fn random_start(random: &mut Random) -> u8 {
+    match random.below(12) {
+        0 => {
+            let other = random.word() as u8;
+            random.pick(&[8, 255, other])
+        }
+        1..=4 => 0,
+        _ => random.within(1, 7) as u8,
+    }
+}
+
+/// A frame of L bits from this start, once in a while one that isn't.
+pub fn random_frame(random: &mut Random, l: usize, start: u8) -> Vec<u8> {
+    let mut frame = packed_frame(random, l, start);
+    if random.one_in(8) {
+        let own = usize::from(start)..usize::from(start) + l;
+        let end = 8 * frame.len();
+        match random.below(6) {
             0 => drop(frame.pop()),
             1 => frame.push(0),
             2 => frame = vec![0; random.below(40)],
-            _ => {
-                if let Some(last) = frame.last_mut() {
-                    *last |= 0x80;
-                }
+            3 => {
+                let other = random_start(random);
+                frame = packed_frame(random, l, other);
             }
+            4 => set_bit(random, &mut frame, 0..own.start),
+            _ => set_bit(random, &mut frame, own.end..end),
         }
     }
     frame
 }
 
-pub fn accepted_frame(random: &mut Random, l: usize) -> Vec<u8> {
+/// Sets one of these bits, if there are any.
+fn set_bit(random: &mut Random, frame: &mut [u8], among: Range<usize>) {
+    if !among.is_empty() {
+        let k = random.within(among.start, among.end - 1);
+        frame[k / 8] |= 1 << (k % 8);
+    }
+}
+
+/// L bits from this start, zeros around them: accepted, if the start is.
+pub fn packed_frame(random: &mut Random, l: usize, start: u8) -> Vec<u8> {
     let style = random.below(6);
     let mut bit = || match style {
         0 => false,
@@ -31,7 +57,7 @@ pub fn accepted_frame(random: &mut Random, l: usize) -> Vec<u8> {
         _ => random.one_in(2),
     };
     let bits: Vec<bool> = (0..l).map(|_| bit()).collect();
-    reference::forms::frame_of_bits(&bits, 0)
+    frame_of_bits(&bits, start)
 }
 
 /// A register, once in a while one that isn't valid.

@@ -4,6 +4,7 @@ use crate::random::Random;
 
 const GUARD: usize = 4;
 
+#[derive(Clone)]
 pub struct Lent<T> {
     whole: Vec<T>,
     len: usize,

@@ -1,5 +1,5 @@
 //! `difftest [CASES] [SEED]`: the static library against the reference. Exit 1 on a mismatch, or
-//! if a number that an operation can give never came.
+//! if a number that an operation can give never came, or a start, or a fault of a frame.
 
 use difftest::compare::Comparison;
 use difftest::coverage::Coverage;

@@ -1,6 +1,6 @@
 //! Point lists for reading: written by the reference, turned, damaged, random.
 
-use crate::inputs::{accepted_frame, valid_register, EXTREMES};
+use crate::inputs::{packed_frame, valid_register, EXTREMES};
 use crate::random::Random;
 use reference::forms::Class;
 use reference::points::{constellation, Point};
@@ -23,7 +23,7 @@ pub fn points_to_read(random: &mut Random, tables: &Tables, l: usize, register: 
     } else {
         register
     };
-    let frame = accepted_frame(random, l);
+    let frame = packed_frame(random, l, 0);
     let nsc = tables.nsc();
     let written = reference::encode(tables, &frame, written_from, nsc, nsc);
     let Some(mut points) = written.contents else {

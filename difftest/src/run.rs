@@ -2,10 +2,11 @@
 
 use crate::compare::{Comparison, Mismatch};
 use crate::inputs::{random_bits, random_frame, random_label, random_point};
-use crate::inputs::{random_register, random_room};
+use crate::inputs::{random_register, random_room, random_start};
 use crate::points::{any_points, points_to_read};
 use crate::random::Random;
 use crate::tables::{random_tables, GivenTables};
+use reference::forms::frame_bytes;
 use reference::words::lists_of;
 
 /// Runs this many cases; the case's number comes with a mismatch.
@@ -41,10 +42,11 @@ fn encode_case(
 ) -> Result<(), Mismatch> {
     let nsc = given.tables.nsc();
     let l = reference::check(&given.tables).size as usize;
-    let frame = random_frame(random, l);
+    let start = random_start(random);
+    let frame = random_frame(random, l, start);
     let register = random_register(random);
     let rooms = (random_room(random, nsc), random_room(random, nsc));
-    comparison.encode(random, given, &frame, register, rooms)
+    comparison.encode(random, given, (&frame, start), register, rooms)
 }
 
 fn read_case(
@@ -63,8 +65,14 @@ fn read_case(
     let (mut x, mut y) = lists_of(&points);
     x.resize(random_room(random, nsc), 1);
     y.resize(random_room(random, nsc), 1);
-    let room = random_room(random, l.div_ceil(8));
-    comparison.read(random, given, (&x, &y), register, room)
+    let start = random_start(random);
+    let room_from = if random.one_in(12) {
+        random_start(random)
+    } else {
+        start
+    };
+    let room = random_room(random, frame_bytes(room_from, l));
+    comparison.read(random, given, (&x, &y), register, (room, start))
 }
 
 fn one_tone_case(comparison: &mut Comparison, random: &mut Random) -> Result<(), Mismatch> {

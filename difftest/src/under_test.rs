@@ -2,7 +2,7 @@
 
 use clevisroot_sys::{Answer, Drawn, Label, Point, Tables};
 
-/// The seven calls of include/clevisroot.h.
+/// The nine calls of include/clevisroot.h.
 pub trait Core {
     fn check(&self, tables: Tables) -> Answer;
     fn reorder(&self, tables: Tables, tones_out: &mut [u16], bits_out: &mut [u8]) -> Answer;
@@ -14,7 +14,25 @@ pub trait Core {
         x: &mut [i16],
         y: &mut [i16],
     ) -> Answer;
+    fn encode_at(
+        &self,
+        tables: Tables,
+        frame: &[u8],
+        start: u8,
+        reg: u32,
+        x: &mut [i16],
+        y: &mut [i16],
+    ) -> Answer;
     fn read(&self, tables: Tables, x: &[i16], y: &[i16], reg: u32, frame: &mut [u8]) -> Answer;
+    fn read_at(
+        &self,
+        tables: Tables,
+        x: &[i16],
+        y: &[i16],
+        reg: u32,
+        frame: &mut [u8],
+        start: u8,
+    ) -> Answer;
     fn map_label(&self, bits: u8, label: u32) -> Point;
     fn read_point(&self, bits: u8, x: i16, y: i16) -> Label;
     fn draw(&self, reg: u32) -> Drawn;
@@ -43,8 +61,32 @@ impl Core for Library {
         clevisroot_sys::encode(tables, frame, reg, x, y)
     }
 
+    fn encode_at(
+        &self,
+        tables: Tables,
+        frame: &[u8],
+        start: u8,
+        reg: u32,
+        x: &mut [i16],
+        y: &mut [i16],
+    ) -> Answer {
+        clevisroot_sys::encode_at(tables, frame, start, reg, x, y)
+    }
+
     fn read(&self, tables: Tables, x: &[i16], y: &[i16], reg: u32, frame: &mut [u8]) -> Answer {
         clevisroot_sys::read(tables, x, y, reg, frame)
+    }
+
+    fn read_at(
+        &self,
+        tables: Tables,
+        x: &[i16],
+        y: &[i16],
+        reg: u32,
+        frame: &mut [u8],
+        start: u8,
+    ) -> Answer {
+        clevisroot_sys::read_at(tables, x, y, reg, frame, start)
     }
 
     fn map_label(&self, bits: u8, label: u32) -> Point {

@@ -6,13 +6,22 @@ use super::FRAME_ROOM;
 /// own few numbers stay in registers.
 pub type Buffer = [u8; FRAME_ROOM];
 
-/// The frame's length is exact and the bits past L are 0.
-pub fn frame_accepted(frame: &[u8], l: usize) -> bool {
-    let unused_are_0 = match frame.last() {
-        Some(&last) if !l.is_multiple_of(8) => last >> (l % 8) == 0,
+/// The start is 0 to 7, the frame's length is exact, and the bits before the start and after the end
+/// are 0.
+pub fn frame_accepted(frame: &[u8], start: u8, l: usize) -> bool {
+    let end = usize::from(start) + l;
+    if start > 7 || frame.len() != end.div_ceil(8) {
+        return false;
+    }
+    let zero_before = match frame.first() {
+        Some(&first) => first & ((1 << start) - 1) == 0,
+        None => true,
+    };
+    let zero_after = match frame.last() {
+        Some(&last) if !end.is_multiple_of(8) => last >> (end % 8) == 0,
         _ => true,
     };
-    frame.len() == l.div_ceil(8) && unused_are_0
+    zero_before && zero_after
 }
 
 /// Takes bits from the front.
@@ -22,8 +31,12 @@ pub struct Source<'a> {
 }
 
 impl<'a> Source<'a> {
-    pub fn new(bytes: &'a Buffer) -> Source<'a> {
-        Source { bytes, at: 0 }
+    /// The first bit that is taken is the one at the start.
+    pub fn new(bytes: &'a Buffer, start: u8) -> Source<'a> {
+        Source {
+            bytes,
+            at: usize::from(start),
+        }
     }
 
     /// The next `count` bits, at most 32.
@@ -46,12 +59,13 @@ pub struct Sink<'a> {
 }
 
 impl<'a> Sink<'a> {
-    pub fn new(bytes: &'a mut Buffer) -> Sink<'a> {
+    /// The bits before the start, at most 7, are 0.
+    pub fn new(bytes: &'a mut Buffer, start: u8) -> Sink<'a> {
         Sink {
             bytes,
             full: 0,
             pending: 0,
-            waiting: 0,
+            waiting: u32::from(start),
         }
     }
 

@@ -18,7 +18,7 @@ use plan::Plan;
 /// The largest G.
 const MOST_TONES: usize = 4096;
 /// The bytes of the largest frame, and room for a word past its end.
-const FRAME_ROOM: usize = 4096 * 15 / 8 + 8;
+const FRAME_ROOM: usize = clevisroot_sys::MAX_FRAME + 8;
 
 const SIZE: u32 = 1;
 const TONE: u32 = 2;
@@ -77,11 +77,33 @@ pub fn reorder(tables: Tables, tones_out: &mut [u16], bits_out: &mut [u8]) -> An
 }
 
 pub fn encode(tables: Tables, frame: &[u8], reg: u32, x: &mut [i16], y: &mut [i16]) -> Answer {
-    answer(reg, try_encode(&tables, frame, reg, x, y))
+    encode_at(tables, frame, 0, reg, x, y)
+}
+
+pub fn encode_at(
+    tables: Tables,
+    frame: &[u8],
+    start: u8,
+    reg: u32,
+    x: &mut [i16],
+    y: &mut [i16],
+) -> Answer {
+    answer(reg, try_encode(&tables, frame, start, reg, x, y))
 }
 
 pub fn read(tables: Tables, x: &[i16], y: &[i16], reg: u32, frame: &mut [u8]) -> Answer {
-    answer(reg, try_read(&tables, x, y, reg, frame))
+    read_at(tables, x, y, reg, frame, 0)
+}
+
+pub fn read_at(
+    tables: Tables,
+    x: &[i16],
+    y: &[i16],
+    reg: u32,
+    frame: &mut [u8],
+    start: u8,
+) -> Answer {
+    answer(reg, try_read(&tables, x, y, reg, frame, start))
 }
 
 fn try_reorder(tables: &Tables, tones_out: &mut [u16], bits_out: &mut [u8]) -> Outcome {
@@ -92,25 +114,41 @@ fn try_reorder(tables: &Tables, tones_out: &mut [u16], bits_out: &mut [u8]) -> O
     Ok((counts.l, 0))
 }
 
-fn try_encode(tables: &Tables, frame: &[u8], reg: u32, x: &mut [i16], y: &mut [i16]) -> Outcome {
+fn try_encode(
+    tables: &Tables,
+    frame: &[u8],
+    start: u8,
+    reg: u32,
+    x: &mut [i16],
+    y: &mut [i16],
+) -> Outcome {
     let counts = tables::check(tables)?;
     let nsc = tables.tones.len();
     refuse_if(x.len() != nsc || y.len() != nsc, ROOM)?;
-    refuse_if(!bits::frame_accepted(frame, counts.l), FRAME)?;
+    refuse_if(!bits::frame_accepted(frame, start, counts.l), FRAME)?;
     refuse_if(!register_valid(reg), SEED)?;
     let plan = Plan::new(tables, &counts);
-    let after = write::symbol(&plan, frame, Filler(reg), x, y);
+    let after = write::symbol(&plan, (frame, start), Filler(reg), x, y);
     Ok((counts.l, after.0))
 }
 
-fn try_read(tables: &Tables, x: &[i16], y: &[i16], reg: u32, frame: &mut [u8]) -> Outcome {
+fn try_read(
+    tables: &Tables,
+    x: &[i16],
+    y: &[i16],
+    reg: u32,
+    frame: &mut [u8],
+    start: u8,
+) -> Outcome {
     let counts = tables::check(tables)?;
     let nsc = tables.tones.len();
-    let exact = x.len() == nsc && y.len() == nsc && frame.len() == counts.l.div_ceil(8);
+    let bytes = (usize::from(start) + counts.l).div_ceil(8);
+    let exact = x.len() == nsc && y.len() == nsc && frame.len() == bytes;
     refuse_if(!exact, ROOM)?;
+    refuse_if(start > 7, FRAME)?;
     refuse_if(!register_valid(reg), SEED)?;
     let plan = Plan::new(tables, &counts);
-    let after = read::symbol(&plan, x, y, Filler(reg), frame)?;
+    let after = read::symbol(&plan, x, y, Filler(reg), (frame, start))?;
     Ok((counts.l, after.0))
 }
 

@@ -12,7 +12,7 @@ pub fn symbol(
     x: &[i16],
     y: &[i16],
     filler: Filler,
-    frame: &mut [u8],
+    (frame, start): (&mut [u8], u8),
 ) -> Result<Filler, Refusal> {
     let mut labels = [0; MOST_TONES];
     let labels = &mut labels[..plan.entries];
@@ -20,7 +20,7 @@ pub fn symbol(
     let filler = test_monitored(plan, x, y, filler)?;
     let bits = &plan.bits[..plan.entries];
     let mut padded = [0; FRAME_ROOM];
-    let mut sink = Sink::new(&mut padded);
+    let mut sink = Sink::new(&mut padded, start);
     if plan.coded {
         trellis::read(bits, labels, &mut sink).map_err(|pair| Refusal(TRELLIS, pair))?;
     } else {

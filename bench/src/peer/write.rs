@@ -7,10 +7,16 @@ use super::plan::Plan;
 use super::{trellis, FRAME_ROOM, MOST_TONES};
 
 /// Writes every point and hands back the register after the draws.
-pub fn symbol(plan: &Plan, frame: &[u8], filler: Filler, x: &mut [i16], y: &mut [i16]) -> Filler {
+pub fn symbol(
+    plan: &Plan,
+    (frame, start): (&[u8], u8),
+    filler: Filler,
+    x: &mut [i16],
+    y: &mut [i16],
+) -> Filler {
     let mut padded = [0; FRAME_ROOM];
     padded[..frame.len()].copy_from_slice(frame);
-    let mut source = Source::new(&padded);
+    let mut source = Source::new(&padded, start);
     let mut labels = [0; MOST_TONES];
     let labels = &mut labels[..plan.entries];
     let bits = &plan.bits[..plan.entries];
