@@ -118,6 +118,7 @@ fn start_0_is_no_start() {
         let plain = run(&[&words[..], &["--json"]].concat());
         let zero = run(&[&words[..], &["--json", "--start=0"]].concat());
         assert!(!plain.out.contains("\"start\""), "{}", plain.out);
+        assert!(zero.out.contains("\"start\": 0"), "{}", zero.out);
         let lines = zero.out.replace("  \"start\": 0,\n", "");
         assert_eq!(lines.replace("\"start\": 0, ", ""), plain.out);
     }
