@@ -1,5 +1,7 @@
-/* Every function where it is done: the bench figures, and what the header writes out in C. */
-#include "clevisroot_names.h"
+/*
+ * Every function where it is done: the bench figures, frames from every start, and what the header
+ * writes out in C.
+ */
 #include "test.h"
 
 static void check_and_reorder(void)
@@ -55,6 +57,69 @@ static void every_frame(void)
         CHECK(written.reg == read.reg && written.reg != reg && back == frame);
         reg = written.reg;
     }
+}
+
+/*
+ * All 32 frames of bench table A from every start: the points are those of start 0, and they are read
+ * back with zeros around the frame.
+ */
+static void every_start(void)
+{
+    table_set a = table_a();
+    int16_t x[A_TONES], y[A_TONES], x_at[A_TONES], y_at[A_TONES];
+    for (unsigned k = 0; k < 8 * 32; k++) {
+        uint8_t start = (uint8_t)(k / 32), frame = (uint8_t)(k % 32);
+        uint8_t moved[2] = {(uint8_t)(frame << start), (uint8_t)(frame << start >> 8)};
+        uint8_t back[2] = {255, 255};
+        size_t bytes = clevisroot_frame_bytes_at(5, start);
+        CHECK(bytes == (start <= 3 ? 1 : 2));
+        clevisroot_answer at_0 =
+            clevisroot_encode(TABLES(&a), &frame, 1, CLEVISROOT_RESET, x, A_TONES, y, A_TONES);
+        clevisroot_answer written = clevisroot_encode_at(
+            TABLES(&a), moved, bytes, start, CLEVISROOT_RESET, x_at, A_TONES, y_at, A_TONES);
+        CHECK(memcmp(&written, &at_0, sizeof at_0) == 0 && written.number == CLEVISROOT_DONE);
+        CHECK(memcmp(x_at, x, sizeof x) == 0 && memcmp(y_at, y, sizeof y) == 0);
+        clevisroot_answer read = clevisroot_read_at(TABLES(&a), x, A_TONES, y, A_TONES,
+                                                    CLEVISROOT_RESET, back, bytes, start);
+        CHECK(memcmp(&read, &written, sizeof read) == 0);
+        CHECK(memcmp(back, moved, bytes) == 0 && (bytes == 2 || back[1] == 255));
+    }
+}
+
+/* Of bench table A's frame each of the 5 bits may be 1, and none before the start or after the end. */
+static void bits_from(uint8_t start)
+{
+    table_set a = table_a();
+    size_t bytes = clevisroot_frame_bytes_at(5, start);
+    for (size_t k = 0; k < 8 * bytes; k++) {
+        uint8_t frame[2] = {0, 0};
+        frame[k / 8] = (uint8_t)(1u << (k % 8));
+        uint32_t number = start <= k && k < start + 5u ? CLEVISROOT_DONE : CLEVISROOT_FRAME;
+        hold_encode_at(&a, frame, bytes, start, 1, A_TONES, A_TONES, number, 0);
+    }
+}
+
+/* One silent tone: L is 0. From start 1 to 7 the frame is a byte of zeros; from start 0 it has none. */
+static void no_bits(uint8_t start)
+{
+    static const uint8_t bits = 0;
+    static const uint16_t gain = 0, tone = 0;
+    table_set set = {0, &bits, 1, &gain, 1, &tone, 1};
+    int16_t x = 1, y = 1;
+    size_t bytes = start ? 1 : 0;
+    CHECK(clevisroot_frame_bytes_at(0, start) == bytes);
+    for (unsigned byte = 0; byte < 256; byte++) {
+        uint8_t frame = (uint8_t)byte;
+        hold_encode_at(&set, &frame, 1, start, 1, 1, 1,
+                       bytes == 1 && byte == 0 ? CLEVISROOT_DONE : CLEVISROOT_FRAME, 0);
+    }
+    uint8_t frame = 0, back = 255;
+    clevisroot_answer a = clevisroot_encode_at(TABLES(&set), &frame, bytes, start, 1, &x, 1, &y, 1);
+    CHECK(a.number == CLEVISROOT_DONE && a.size == 0 && x == 0 && y == 0);
+    clevisroot_answer b = clevisroot_read_at(TABLES(&set), &x, 1, &y, 1, 1, &back, bytes, start);
+    CHECK(b.number == CLEVISROOT_DONE && b.size == 0 && b.reg == a.reg);
+    CHECK(back == (start ? 0 : 255));
+    hold_read_at(&set, &x, 1, &y, 1, 1, 1 - bytes, start, CLEVISROOT_ROOM, 0);
 }
 
 /* A silent tone draws two filler bits as a monitored one does, and its point is (0, 0). */
@@ -138,6 +203,11 @@ int main(void)
     check_and_reorder();
     encode_and_read();
     every_frame();
+    every_start();
+    for (uint8_t start = 0; start < 8; start++) {
+        bits_from(start);
+        no_bits(start);
+    }
     silent_tone();
     modes();
     one_tone();

@@ -75,6 +75,38 @@ static table_set random_set(uint32_t *random, uint8_t coded, size_t n)
     return set;
 }
 
+/* A frame of L bits there and back, without a start. */
+static void frame_of(uint32_t *random, const table_set *set, uint32_t size)
+{
+    size_t n = set->tones_len, bytes = clevisroot_frame_bytes(size);
+    uint8_t *frame = (uint8_t *)lend(p_frame, bytes), *back = (uint8_t *)lend(p_back, bytes);
+    int16_t *x = (int16_t *)lend(p_x, 2 * n), *y = (int16_t *)lend(p_y, 2 * n);
+    uint32_t reg = 1 + next_random(random) % CLEVISROOT_RESET;
+    random_frame(random, frame, size, 0);
+    memset(back, 0xff, bytes);
+    clevisroot_answer written = clevisroot_encode(TABLES(set), frame, bytes, reg, x, n, y, n);
+    clevisroot_answer read = clevisroot_read(TABLES(set), x, n, y, n, reg, back, bytes);
+    CHECK(written.number == CLEVISROOT_DONE && read.number == CLEVISROOT_DONE);
+    CHECK(written.reg == read.reg && memcmp(frame, back, bytes) == 0);
+}
+
+/* And from a start. */
+static void frame_at(uint32_t *random, const table_set *set, uint32_t size, uint8_t start)
+{
+    size_t n = set->tones_len, bytes = clevisroot_frame_bytes_at(size, start);
+    uint8_t *frame = (uint8_t *)lend(p_frame, bytes), *back = (uint8_t *)lend(p_back, bytes);
+    int16_t *x = (int16_t *)lend(p_x, 2 * n), *y = (int16_t *)lend(p_y, 2 * n);
+    uint32_t reg = 1 + next_random(random) % CLEVISROOT_RESET;
+    random_frame(random, frame, size, start);
+    memset(back, 0xff, bytes);
+    clevisroot_answer written =
+        clevisroot_encode_at(TABLES(set), frame, bytes, start, reg, x, n, y, n);
+    clevisroot_answer read =
+        clevisroot_read_at(TABLES(set), x, n, y, n, reg, back, bytes, start);
+    CHECK(written.number == CLEVISROOT_DONE && read.number == CLEVISROOT_DONE);
+    CHECK(written.reg == read.reg && memcmp(frame, back, bytes) == 0);
+}
+
 /* One symbol there and back; false if the tables are refused, as too few. */
 static int symbol(uint32_t *random, uint8_t coded, size_t n)
 {
@@ -83,16 +115,8 @@ static int symbol(uint32_t *random, uint8_t coded, size_t n)
     CHECK(checked.number == CLEVISROOT_DONE || checked.number == CLEVISROOT_FEW);
     if (checked.number != CLEVISROOT_DONE)
         return 0;
-    size_t bytes = clevisroot_frame_bytes(checked.size);
-    uint8_t *frame = (uint8_t *)lend(p_frame, bytes), *back = (uint8_t *)lend(p_back, bytes);
-    int16_t *x = (int16_t *)lend(p_x, 2 * n), *y = (int16_t *)lend(p_y, 2 * n);
-    uint32_t reg = 1 + next_random(random) % CLEVISROOT_RESET;
-    random_frame(random, frame, checked.size);
-    memset(back, 0xff, bytes);
-    clevisroot_answer written = clevisroot_encode(TABLES(&set), frame, bytes, reg, x, n, y, n);
-    clevisroot_answer read = clevisroot_read(TABLES(&set), x, n, y, n, reg, back, bytes);
-    CHECK(written.number == CLEVISROOT_DONE && read.number == CLEVISROOT_DONE);
-    CHECK(written.reg == read.reg && memcmp(frame, back, bytes) == 0);
+    frame_of(random, &set, checked.size);
+    frame_at(random, &set, checked.size, (uint8_t)(next_random(random) % 8));
     clevisroot_answer ordered =
         clevisroot_reorder(TABLES(&set), (uint16_t *)lend(p_tones_out, 2 * n), n,
                            (uint8_t *)lend(p_bits_out, n), n);
@@ -117,11 +141,27 @@ static size_t symbols_within(uint32_t *random, size_t first, size_t last, int ro
     return seen;
 }
 
+/* The longest frame from every start: 4096 tones of 15 bits, uncoded. */
+static void largest(uint32_t *random)
+{
+    size_t n = CLEVISROOT_MAX_TONES;
+    table_set set = random_set(random, 0, n);
+    uint8_t *bits = (uint8_t *)lend(p_bits, n);
+    uint16_t *gains = (uint16_t *)lend(p_gains, 2 * n);
+    for (size_t k = 0; k < n; k++) {
+        bits[k] = 15;
+        gains[k] = 512;
+    }
+    for (uint8_t start = 0; start < 8; start++)
+        frame_at(random, &set, 15 * CLEVISROOT_MAX_TONES, start);
+}
+
 int main(void)
 {
     uint32_t random = 2463534242u;
     make_pages();
     for (behind = 0; behind < 2; behind++) {
+        largest(&random);
         CHECK(symbols_within(&random, 1, 64, 40) > 2000);
         CHECK(symbols_within(&random, CLEVISROOT_MAX_TONES - 8, CLEVISROOT_MAX_TONES, 4) == 36);
     }

@@ -4,6 +4,9 @@
 /* Which pointers of a call are null: a bit for each table, and for the first and second of two buffers. */
 enum { BITS = 1, GAINS = 2, TONES = 4, TABLES_NULL = 7, FIRST = 8, SECOND = 16, WAYS = 32 };
 
+/* With this start the frames of bench table A have as many bytes as with start 0: L is 5 or 11. */
+#define START 3
+
 static table_set tables_with(uint8_t coded, unsigned nulls)
 {
     table_set set = table_a();
@@ -53,10 +56,17 @@ static void encode(const table_set *set, unsigned nulls)
     int16_t x[A_TONES], y[A_TONES];
     unsigned first = nulls & FIRST, second = nulls & SECOND;
     int16_t *lent_x = first ? NULL : x, *lent_y = second ? NULL : y;
-    clevisroot_answer a = clevisroot_encode(TABLES(set), frame, set->coded ? 1 : 2, 1, lent_x,
-                                            room(first), lent_y, room(second));
+    size_t bytes = set->coded ? 1 : 2;
+    clevisroot_answer a = clevisroot_encode(TABLES(set), frame, bytes, 1, lent_x, room(first),
+                                            lent_y, room(second));
     CHECK(a.number == expected(nulls, CLEVISROOT_DONE));
     a = clevisroot_encode(TABLES(set), NULL, 0, 1, lent_x, room(first), lent_y, room(second));
+    CHECK(a.number == expected(nulls, CLEVISROOT_FRAME));
+    a = clevisroot_encode_at(TABLES(set), frame, bytes, START, 1, lent_x, room(first), lent_y,
+                             room(second));
+    CHECK(a.number == expected(nulls, CLEVISROOT_DONE));
+    a = clevisroot_encode_at(TABLES(set), NULL, 0, START, 1, lent_x, room(first), lent_y,
+                             room(second));
     CHECK(a.number == expected(nulls, CLEVISROOT_FRAME));
 }
 
@@ -66,10 +76,15 @@ static void read_points(const table_set *set, unsigned nulls)
     uint8_t frame[2];
     unsigned first = nulls & FIRST, second = nulls & SECOND;
     const int16_t *x = first ? NULL : zeros, *y = second ? NULL : zeros;
-    clevisroot_answer a = clevisroot_read(TABLES(set), x, room(first), y, room(second), 1, frame,
-                                          set->coded ? 1 : 2);
+    size_t bytes = set->coded ? 1 : 2;
+    clevisroot_answer a =
+        clevisroot_read(TABLES(set), x, room(first), y, room(second), 1, frame, bytes);
     CHECK(a.number == expected(nulls, CLEVISROOT_OFFGRID));
     a = clevisroot_read(TABLES(set), x, room(first), y, room(second), 1, NULL, 0);
+    CHECK(a.number == expected(nulls, CLEVISROOT_ROOM));
+    a = clevisroot_read_at(TABLES(set), x, room(first), y, room(second), 1, frame, bytes, START);
+    CHECK(a.number == expected(nulls, CLEVISROOT_OFFGRID));
+    a = clevisroot_read_at(TABLES(set), x, room(first), y, room(second), 1, NULL, 0, START);
     CHECK(a.number == expected(nulls, CLEVISROOT_ROOM));
 }
 
@@ -97,6 +112,10 @@ static void empty_frame(void)
     CHECK(a.number == CLEVISROOT_DONE && a.size == 0);
     CHECK(x[0] == 0 && y[0] == 0 && x[1] == 1 && y[1] == -1);
     clevisroot_answer b = clevisroot_read(TABLES(&set), x, 2, y, 2, 4, NULL, 0);
+    CHECK(b.number == CLEVISROOT_DONE && b.size == 0 && b.reg == a.reg);
+    a = clevisroot_encode_at(TABLES(&set), NULL, 0, 0, 4, x, 2, y, 2);
+    CHECK(a.number == CLEVISROOT_DONE && a.size == 0 && b.reg == a.reg);
+    b = clevisroot_read_at(TABLES(&set), x, 2, y, 2, 4, NULL, 0, 0);
     CHECK(b.number == CLEVISROOT_DONE && b.size == 0 && b.reg == a.reg);
 }
 

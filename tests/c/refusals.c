@@ -2,10 +2,7 @@
  * Every refusal number of every function: number and place, L 0, the register as it came, and no
  * byte written. At the end each function has given exactly the numbers that the header lists.
  */
-#include "clevisroot_names.h"
 #include "test.h"
-
-enum { CHECKING, REORDERING, ENCODING, READING, MAPPING, LABELLING, DRAWING, FUNCTIONS };
 
 /* The numbers that each function can give: a bit for each. */
 #define UP_TO_8 0x1ffu
@@ -13,34 +10,13 @@ static const uint32_t can_give[FUNCTIONS] = {
     UP_TO_8,
     UP_TO_8 | 1u << 10,
     UP_TO_8 | 1u << 10 | 1u << 11 | 1u << 12,
+    UP_TO_8 | 1u << 10 | 1u << 11 | 1u << 12,
     UP_TO_8 | 1u << 10 | 1u << 12 | 1u << 13 | 1u << 14 | 1u << 15,
+    UP_TO_8 | 1u << 10 | 1u << 11 | 1u << 12 | 1u << 13 | 1u << 14 | 1u << 15,
     1u | 1u << 16,
     1u | 1u << 13 | 1u << 16,
     1u | 1u << 12,
 };
-
-static uint32_t given[FUNCTIONS];
-
-/* The answer has this number and place, and of a refusal the register that was given and size 0. */
-static void hold(int function, clevisroot_answer a, uint32_t number, uint32_t place, uint32_t reg)
-{
-    given[function] |= 1u << a.number;
-    if (a.number != number || a.place != place)
-        printf("function %d: %u %s at %u\n", function, (unsigned)a.number,
-               clevisroot_refusal_name(a.number), (unsigned)a.place);
-    CHECK(a.number == number && a.place == place);
-    if (number != CLEVISROOT_DONE)
-        CHECK(a.size == 0 && a.reg == reg);
-}
-
-static int untouched(const void *buffer, size_t bytes)
-{
-    const uint8_t *byte = (const uint8_t *)buffer;
-    for (size_t k = 0; k < bytes; k++)
-        if (byte[k] != 0x5a)
-            return 0;
-    return 1;
-}
 
 static void reorder(const table_set *set, size_t tones_len, size_t bits_len, uint32_t number,
                     uint32_t place)
@@ -55,6 +31,7 @@ static void reorder(const table_set *set, size_t tones_len, size_t bits_len, uin
         CHECK(untouched(tones, sizeof tones) && untouched(bits, sizeof bits));
 }
 
+/* Without a start, and with start 0. */
 static void encode(const table_set *set, const uint8_t *frame, size_t frame_len, uint32_t reg,
                    size_t x_len, size_t y_len, uint32_t number, uint32_t place)
 {
@@ -65,8 +42,10 @@ static void encode(const table_set *set, const uint8_t *frame, size_t frame_len,
          number, place, reg);
     if (number != CLEVISROOT_DONE)
         CHECK(untouched(x, sizeof x) && untouched(y, sizeof y));
+    hold_encode_at(set, frame, frame_len, 0, reg, x_len, y_len, number, place);
 }
 
+/* Without a start, and with start 0. */
 static void read_points(const table_set *set, const int16_t *x, size_t x_len, const int16_t *y,
                         size_t y_len, uint32_t reg, size_t frame_len, uint32_t number,
                         uint32_t place)
@@ -77,18 +56,21 @@ static void read_points(const table_set *set, const int16_t *x, size_t x_len, co
          place, reg);
     if (number != CLEVISROOT_DONE)
         CHECK(untouched(frame, sizeof frame));
+    hold_read_at(set, x, x_len, y, y_len, reg, frame_len, 0, number, place);
 }
 
 static const int16_t zeros[A_TONES + 1];
-static const uint8_t frame_0[2];
+static const uint8_t frame_0[MOST_LENT];
 
-/* All four calls with tables refuse these alike, whatever else is wrong. */
+/* All six calls with tables refuse these alike, whatever else is wrong. */
 static void tables(const table_set *set, uint32_t number, uint32_t place)
 {
     hold(CHECKING, clevisroot_check(TABLES(set)), number, place, 0);
     reorder(set, 1, 1, number, place);
     encode(set, frame_0, 2, 0, 1, 1, number, place);
+    hold_encode_at(set, frame_0, 2, 8, 0, 1, 1, number, place);
     read_points(set, zeros, 1, zeros, 1, 0, 2, number, place);
+    hold_read_at(set, zeros, 1, zeros, 1, 0, 2, 8, number, place);
 }
 
 static void sizes(void)
@@ -207,7 +189,27 @@ static void frames_and_registers(void)
     given[DRAWING] |= 1u << clevisroot_draw(1).number;
 }
 
-/* Bench table A's frame 0, with the point at one place changed. */
+/* L = 5 bits from a start: ROOM before FRAME before SEED, with every count of bytes. */
+static void lengths_from(uint8_t start)
+{
+    table_set a = table_a();
+    uint32_t otherwise = start <= 7 ? CLEVISROOT_SEED : CLEVISROOT_FRAME;
+    for (size_t len = 0; len <= MOST_LENT; len++) {
+        int exact = len == clevisroot_frame_bytes_at(5, start);
+        hold_encode_at(&a, frame_0, len, start, 0, 6, 5, CLEVISROOT_ROOM, 0);
+        hold_encode_at(&a, frame_0, len, start, 0, 6, 6, exact ? otherwise : CLEVISROOT_FRAME, 0);
+        hold_read_at(&a, zeros, 6, zeros, 7, 0, len, start, CLEVISROOT_ROOM, 0);
+        hold_read_at(&a, zeros, 6, zeros, 6, 0, len, start, exact ? otherwise : CLEVISROOT_ROOM, 0);
+    }
+}
+
+static void starts(void)
+{
+    for (unsigned start = 0; start < 256; start++)
+        lengths_from((uint8_t)start);
+}
+
+/* Bench table A's frame 0, with the point at one place changed, read without a start and from each. */
 static void changed_point(size_t at, int16_t to_x, int16_t to_y, uint32_t number, uint32_t place)
 {
     table_set a = table_a();
@@ -216,6 +218,9 @@ static void changed_point(size_t at, int16_t to_x, int16_t to_y, uint32_t number
     x[at] = to_x;
     y[at] = to_y;
     read_points(&a, x, A_TONES, y, A_TONES, CLEVISROOT_RESET, 1, number, place);
+    for (uint8_t start = 0; start < 8; start++)
+        hold_read_at(&a, x, A_TONES, y, A_TONES, CLEVISROOT_RESET,
+                     clevisroot_frame_bytes_at(5, start), start, number, place);
 }
 
 static void points(void)
@@ -276,6 +281,7 @@ int main(void)
     few();
     rooms();
     frames_and_registers();
+    starts();
     points();
     one_tone();
     done();

@@ -10,12 +10,13 @@
 #define ROOM (256 * 1024)
 #define PAINT 0xa5
 #define TONES CLEVISROOT_MAX_TONES
+#define START 7
 
 static uint8_t bits[TONES], frame[CLEVISROOT_MAX_FRAME], bits_out[TONES];
 static uint16_t gains[TONES], tones[TONES], tones_out[TONES];
 static int16_t x[TONES], y[TONES];
 static table_set set = {1, bits, TONES, gains, TONES, tones, TONES};
-static size_t bytes;
+static size_t bytes, bytes_at;
 static uint32_t number;
 
 static void nothing(void) {}
@@ -33,6 +34,18 @@ static void reorder(void)
 static void encode(void)
 {
     number = clevisroot_encode(TABLES(&set), frame, bytes, 1, x, TONES, y, TONES).number;
+}
+
+static void encode_at(void)
+{
+    number = clevisroot_encode_at(TABLES(&set), frame, bytes_at, START, 1, x, TONES, y, TONES)
+                 .number;
+}
+
+static void read_at(void)
+{
+    number =
+        clevisroot_read_at(TABLES(&set), x, TONES, y, TONES, 1, frame, bytes_at, START).number;
 }
 
 static void read_points(void)
@@ -80,7 +93,7 @@ static void measure(const char *name, call *made)
     size_t taken = touched(made) - touched(nothing);
     CHECK(number == CLEVISROOT_DONE);
     CHECK(taken <= CLEVISROOT_STACK);
-    printf("stack of %-8s %s %6zu bytes\n", name, set.coded ? "coded  " : "uncoded", taken);
+    printf("stack of %-9s %s %6zu bytes\n", name, set.coded ? "coded  " : "uncoded", taken);
 }
 
 static void load(void)
@@ -95,11 +108,15 @@ static void load(void)
 static void measure_all(uint8_t coded)
 {
     set.coded = coded;
-    bytes = clevisroot_frame_bytes(clevisroot_check(TABLES(&set)).size);
+    uint32_t size = clevisroot_check(TABLES(&set)).size;
+    bytes = clevisroot_frame_bytes(size);
+    bytes_at = clevisroot_frame_bytes_at(size, START);
     measure("check", check);
     measure("reorder", reorder);
     measure("encode", encode);
+    measure("encode_at", encode_at);
     measure("read", read_points);
+    measure("read_at", read_at);
     measure("one tone", one_tone);
 }
 

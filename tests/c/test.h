@@ -1,8 +1,11 @@
-/* What the tests in C share: a check that tells its line, bench table A, and a small random source. */
+/*
+ * What the tests in C share: a check that tells its line, bench table A, a small random source, and
+ * answers held to what they must be.
+ */
 #ifndef CLEVISROOT_TEST_H
 #define CLEVISROOT_TEST_H
 
-#include "clevisroot.h"
+#include "clevisroot_names.h"
 #include <stdio.h>
 #include <string.h>
 
@@ -61,14 +64,87 @@ static inline uint32_t next_random(uint32_t *state)
     return *state;
 }
 
-/* A frame of L bits; the unused ones are 0. */
-static inline void random_frame(uint32_t *state, uint8_t *frame, uint32_t size)
+/* A frame of L bits from this start, 0 to 7; the bits around it are 0. */
+static inline void random_frame(uint32_t *state, uint8_t *frame, uint32_t size, uint8_t start)
 {
-    size_t bytes = clevisroot_frame_bytes(size);
+    size_t bytes = clevisroot_frame_bytes_at(size, start), end = start + size;
     for (size_t k = 0; k < bytes; k++)
         frame[k] = (uint8_t)next_random(state);
-    if (size % 8 != 0)
-        frame[bytes - 1] &= (uint8_t)((1u << (size % 8)) - 1);
+    if (bytes > 0)
+        frame[0] &= (uint8_t)(0xffu << start);
+    if (end % 8 != 0)
+        frame[bytes - 1] &= (uint8_t)((1u << (end % 8)) - 1);
+}
+
+/* The functions of the library. */
+enum {
+    CHECKING,
+    REORDERING,
+    ENCODING,
+    ENCODING_AT,
+    READING,
+    READING_AT,
+    MAPPING,
+    LABELLING,
+    DRAWING,
+    FUNCTIONS
+};
+
+/* A bit for each number that a function has given. */
+static uint32_t given[FUNCTIONS];
+
+/* The answer has this number and place, and of a refusal the register that was given and size 0. */
+static inline void hold(int function, clevisroot_answer a, uint32_t number, uint32_t place,
+                        uint32_t reg)
+{
+    given[function] |= 1u << a.number;
+    if (a.number != number || a.place != place)
+        printf("function %d: %u %s at %u\n", function, (unsigned)a.number,
+               clevisroot_refusal_name(a.number), (unsigned)a.place);
+    CHECK(a.number == number && a.place == place);
+    if (number != CLEVISROOT_DONE)
+        CHECK(a.size == 0 && a.reg == reg);
+}
+
+static inline int untouched(const void *buffer, size_t bytes)
+{
+    const uint8_t *byte = (const uint8_t *)buffer;
+    for (size_t k = 0; k < bytes; k++)
+        if (byte[k] != 0x5a)
+            return 0;
+    return 1;
+}
+
+/* Encoding from a start; it writes nothing where it refuses. */
+static inline void hold_encode_at(const table_set *set, const uint8_t *frame, size_t frame_len,
+                                  uint8_t start, uint32_t reg, size_t x_len, size_t y_len,
+                                  uint32_t number, uint32_t place)
+{
+    int16_t x[A_TONES + 1], y[A_TONES + 1];
+    memset(x, 0x5a, sizeof x);
+    memset(y, 0x5a, sizeof y);
+    hold(ENCODING_AT,
+         clevisroot_encode_at(TABLES(set), frame, frame_len, start, reg, x, x_len, y, y_len),
+         number, place, reg);
+    if (number != CLEVISROOT_DONE)
+        CHECK(untouched(x, sizeof x) && untouched(y, sizeof y));
+}
+
+/* The most bytes that a frame of bench table A is lent; from start 255 it would have 33. */
+#define MOST_LENT 34
+
+/* Reading to a frame from a start; it writes nothing where it refuses. */
+static inline void hold_read_at(const table_set *set, const int16_t *x, size_t x_len,
+                                const int16_t *y, size_t y_len, uint32_t reg, size_t frame_len,
+                                uint8_t start, uint32_t number, uint32_t place)
+{
+    uint8_t frame[MOST_LENT];
+    memset(frame, 0x5a, sizeof frame);
+    hold(READING_AT,
+         clevisroot_read_at(TABLES(set), x, x_len, y, y_len, reg, frame, frame_len, start), number,
+         place, reg);
+    if (number != CLEVISROOT_DONE)
+        CHECK(untouched(frame, sizeof frame));
 }
 
 #endif

@@ -9,15 +9,15 @@
 #define SYMBOLS 400
 #define TONES 512
 
-/* A stream of symbols there and back, and one number made of all its points and answers. */
+/* A stream of symbols there and back, and one number made of all its points, frames and answers. */
 typedef struct {
     uint8_t coded;
     uint32_t seed;
     uint32_t digest;
     int wrong;
-    uint8_t bits[TONES], frame[TONES * 2], back[TONES * 2];
+    uint8_t bits[TONES], frame[TONES * 2], back[TONES * 2], moved[TONES * 2];
     uint16_t gains[TONES], tones[TONES];
-    int16_t x[TONES], y[TONES];
+    int16_t x[TONES], y[TONES], x_at[TONES], y_at[TONES];
 } stream;
 
 static void load(stream *s)
@@ -34,10 +34,25 @@ static void digest(stream *s, uint32_t number)
     s->digest = (s->digest ^ number) * 16777619u;
 }
 
+/* The points read to a frame from a start, and that frame encoded: the same points. */
+static void one_start(stream *s, const table_set *set, uint32_t size, uint32_t reg, uint8_t start)
+{
+    size_t bytes = clevisroot_frame_bytes_at(size, start);
+    clevisroot_answer read =
+        clevisroot_read_at(TABLES(set), s->x, TONES, s->y, TONES, reg, s->moved, bytes, start);
+    clevisroot_answer written = clevisroot_encode_at(TABLES(set), s->moved, bytes, start, reg,
+                                                     s->x_at, TONES, s->y_at, TONES);
+    if (written.number != CLEVISROOT_DONE || read.number != CLEVISROOT_DONE ||
+        memcmp(s->x, s->x_at, sizeof s->x) != 0 || memcmp(s->y, s->y_at, sizeof s->y) != 0)
+        s->wrong++;
+    for (size_t k = 0; k < bytes; k++)
+        digest(s, s->moved[k]);
+}
+
 static uint32_t one_symbol(stream *s, const table_set *set, uint32_t size, uint32_t reg)
 {
     size_t bytes = clevisroot_frame_bytes(size);
-    random_frame(&s->seed, s->frame, size);
+    random_frame(&s->seed, s->frame, size, 0);
     clevisroot_answer written =
         clevisroot_encode(TABLES(set), s->frame, bytes, reg, s->x, TONES, s->y, TONES);
     clevisroot_answer read =
@@ -58,8 +73,11 @@ static void *run(void *argument)
     table_set set = {s->coded, s->bits, TONES, s->gains, TONES, s->tones, TONES};
     clevisroot_answer checked = clevisroot_check(TABLES(&set));
     uint32_t reg = CLEVISROOT_RESET;
-    for (int k = 0; k < SYMBOLS; k++)
-        reg = one_symbol(s, &set, checked.size, reg);
+    for (int k = 0; k < SYMBOLS; k++) {
+        uint32_t after = one_symbol(s, &set, checked.size, reg);
+        one_start(s, &set, checked.size, reg, (uint8_t)(k % 8));
+        reg = after;
+    }
     return NULL;
 }
 
