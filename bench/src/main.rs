@@ -1,6 +1,6 @@
 //! `bench [--quick]`: time per symbol, the static library beside the peer in the same run.
 
-use bench::report::{print_scaling, print_symbols};
+use bench::report::{print_scaling, print_starts, print_symbols};
 use bench::timing::Effort;
 use std::process::ExitCode;
 use std::time::Duration;
@@ -29,6 +29,8 @@ fn main() -> ExitCode {
         effort.rounds
     );
     print_symbols(effort);
+    println!();
+    print_starts(effort);
     println!();
     print_scaling(effort);
     ExitCode::SUCCESS

@@ -1,4 +1,4 @@
-//! Interleaved rounds of both sides, and their medians.
+//! Interleaved rounds of all sides, and their medians.
 
 use std::hint::black_box;
 use std::time::{Duration, Instant};
@@ -11,58 +11,65 @@ pub struct Effort {
     pub turn: Duration,
 }
 
-/// Median seconds of a symbol for both sides, and how the ratio of a round is spread.
-pub struct Measured {
-    pub library: f64,
-    pub peer: f64,
-    pub ratio: f64,
-    /// The ratios that a quarter of the rounds are below, and above.
-    pub spread: (f64, f64),
+/// Seconds of a symbol, by side and round.
+pub struct Measured<const SIDES: usize> {
+    times: [Vec<f64>; SIDES],
 }
 
-/// Times both sides at the same symbols, of which there are `cycle`; the side that goes first changes
+/// How the ratio of two sides in a round is spread.
+pub struct Ratio {
+    pub median: f64,
+    /// What a quarter of the rounds are below, and above.
+    pub middle_half: (f64, f64),
+}
+
+impl<const SIDES: usize> Measured<SIDES> {
+    pub fn median(&self, side: usize) -> f64 {
+        at_share(&mut self.times[side].clone(), 0.5)
+    }
+
+    /// How long a side takes where another takes 1.
+    pub fn ratio(&self, side: usize, other: usize) -> Ratio {
+        let rounds = self.times[side].iter().zip(&self.times[other]);
+        let mut ratios: Vec<f64> = rounds.map(|(time, other)| time / other).collect();
+        Ratio {
+            median: at_share(&mut ratios, 0.5),
+            middle_half: (at_share(&mut ratios, 0.25), at_share(&mut ratios, 0.75)),
+        }
+    }
+}
+
+/// Times all sides at the same symbols, of which there are `cycle`; the side that goes first changes
 /// each round.
-pub fn measure<Side: Copy, A>(
+pub fn measure<Side: Copy, A, const SIDES: usize>(
     effort: Effort,
     cycle: usize,
-    [library, peer]: [Side; 2],
+    sides: [Side; SIDES],
     mut symbol: impl FnMut(Side) -> A,
-) -> Measured {
-    let count = symbols_per_turn(effort.turn, cycle as u32, [library, peer], &mut symbol);
-    let (mut library_times, mut peer_times, mut ratios) = (vec![], vec![], vec![]);
+) -> Measured<SIDES> {
+    let count = symbols_per_turn(effort.turn, cycle as u32, sides, &mut symbol);
+    let mut times = [const { Vec::new() }; SIDES];
     for round in 0..effort.rounds {
-        let order = if round % 2 == 0 {
-            [library, peer]
-        } else {
-            [peer, library]
-        };
-        let mut times = order.map(|side| turn(count, side, &mut symbol));
-        if round % 2 == 1 {
-            times.reverse();
+        for k in 0..SIDES {
+            let side = (round + k) % SIDES;
+            times[side].push(turn(count, sides[side], &mut symbol));
         }
-        library_times.push(times[0]);
-        peer_times.push(times[1]);
-        ratios.push(times[0] / times[1]);
     }
-    Measured {
-        library: at_share(&mut library_times, 0.5),
-        peer: at_share(&mut peer_times, 0.5),
-        ratio: at_share(&mut ratios, 0.5),
-        spread: (at_share(&mut ratios, 0.25), at_share(&mut ratios, 0.75)),
-    }
+    Measured { times }
 }
 
-/// Symbols that the slower side gets through in a turn, in whole cycles; also warms both up.
-fn symbols_per_turn<Side: Copy, A>(
+/// Symbols that the slowest side gets through in a turn, in whole cycles; also warms all up.
+fn symbols_per_turn<Side: Copy, A, const SIDES: usize>(
     wanted: Duration,
     cycle: u32,
-    sides: [Side; 2],
+    sides: [Side; SIDES],
     symbol: &mut impl FnMut(Side) -> A,
 ) -> u32 {
     let mut count = cycle;
     loop {
-        let [one, other] = sides.map(|side| turn(count, side, symbol));
-        if 2.0 * one.max(other) * f64::from(count) > wanted.as_secs_f64() {
+        let times = sides.map(|side| turn(count, side, symbol));
+        let slowest = times.into_iter().fold(0.0, f64::max);
+        if 2.0 * slowest * f64::from(count) > wanted.as_secs_f64() {
             return count;
         }
         count *= 2;

@@ -23,13 +23,14 @@ pub struct Load {
 
 pub const LOADS: [Load; 6] = [
     load("15 bits coded", 1, (15, 15)),
-    load("15 bits uncoded", 0, (15, 15)),
+    UNCODED,
     MIXED,
     load("8 bits coded", 1, (8, 8)),
     ROTATING,
     HALF_SILENT,
 ];
 pub const MIXED: Load = load("0 to 15 bits coded", 1, (0, 15));
+pub const UNCODED: Load = load("15 bits uncoded", 0, (15, 15));
 
 /// So many table sets that the processor does not learn by heart which way a branch goes.
 pub const ROTATING: Load = Load {
@@ -55,7 +56,12 @@ const fn load(name: &'static str, coded: u8, bits: (u8, u8)) -> Load {
 }
 
 pub type Encode = fn(Tables, &[u8], u32, &mut [i16], &mut [i16]) -> Answer;
+pub type EncodeAt = fn(Tables, &[u8], u8, u32, &mut [i16], &mut [i16]) -> Answer;
 pub type Read = fn(Tables, &[i16], &[i16], u32, &mut [u8]) -> Answer;
+pub type ReadAt = fn(Tables, &[i16], &[i16], u32, &mut [u8], u8) -> Answer;
+
+/// The bits of its first byte that a frame may start at.
+pub const STARTS: [u8; 8] = [0, 1, 2, 3, 4, 5, 6, 7];
 
 struct OwnTables {
     coded: u8,
@@ -65,6 +71,14 @@ struct OwnTables {
 }
 
 struct Symbol {
+    /// The same bits from each start.
+    frames: [Vec<u8>; STARTS.len()],
+    x: Vec<i16>,
+    y: Vec<i16>,
+}
+
+/// What encoding and reading write to, with room for the longest frame.
+struct Output {
     frame: Vec<u8>,
     x: Vec<i16>,
     y: Vec<i16>,
@@ -80,8 +94,7 @@ pub struct Workload {
     sets: Vec<Set>,
     /// Counts the symbols.
     next: usize,
-    /// What encoding and reading write to, with room for the longest frame.
-    out: Symbol,
+    out: Output,
 }
 
 impl OwnTables {
@@ -144,7 +157,11 @@ impl Workload {
         Workload {
             sets,
             next: 0,
-            out: Symbol::blank(nsc, nsc * usize::from(load.bits.1)),
+            out: Output {
+                frame: packed(&vec![false; nsc * usize::from(load.bits.1)], 7),
+                x: vec![0; nsc],
+                y: vec![0; nsc],
+            },
         }
     }
 
@@ -153,33 +170,71 @@ impl Workload {
         self.sets.len() * self.sets[0].symbols.len()
     }
 
-    /// Encodes the next frame.
-    pub fn encode(&mut self, encode: Encode) -> Answer {
+    /// The next symbol with its tables, and what to write to.
+    fn step(&mut self) -> (Tables<'_>, &Symbol, &mut Output) {
         self.next = (self.next + 1) % self.cycle();
         let (tables, symbol) = symbol_at(&self.sets, self.next);
-        let Symbol { x, y, .. } = &mut self.out;
-        encode(tables.lent(), &symbol.frame, REGISTER, x, y)
+        (tables.lent(), symbol, &mut self.out)
+    }
+
+    /// Encodes the next frame.
+    pub fn encode(&mut self, encode: Encode) -> Answer {
+        let (tables, symbol, Output { x, y, .. }) = self.step();
+        encode(tables, &symbol.frames[0], REGISTER, x, y)
+    }
+
+    /// Encodes the next frame from a start.
+    pub fn encode_at(&mut self, encode: EncodeAt, start: u8) -> Answer {
+        let (tables, symbol, Output { x, y, .. }) = self.step();
+        let frame = &symbol.frames[usize::from(start)];
+        encode(tables, frame, start, REGISTER, x, y)
     }
 
     /// Reads the next points.
     pub fn read(&mut self, read: Read) -> Answer {
-        self.next = (self.next + 1) % self.cycle();
-        let (tables, symbol) = symbol_at(&self.sets, self.next);
-        let frame = &mut self.out.frame[..symbol.frame.len()];
-        read(tables.lent(), &symbol.x, &symbol.y, REGISTER, frame)
+        let (tables, symbol, out) = self.step();
+        let frame = &mut out.frame[..symbol.frames[0].len()];
+        read(tables, &symbol.x, &symbol.y, REGISTER, frame)
+    }
+
+    /// Reads the next points to a frame from a start.
+    pub fn read_at(&mut self, read: ReadAt, start: u8) -> Answer {
+        let (tables, symbol, out) = self.step();
+        let frame = &mut out.frame[..symbol.frames[usize::from(start)].len()];
+        read(tables, &symbol.x, &symbol.y, REGISTER, frame, start)
     }
 
     /// An implementation writes the peer's points, and reads the frames from them.
     pub fn agrees(&mut self, encode: Encode, read: Read) -> bool {
+        self.alike(
+            0,
+            |workload| workload.encode(encode),
+            |workload| workload.read(read),
+        )
+    }
+
+    /// And so from a start.
+    pub fn agrees_at(&mut self, encode: EncodeAt, read: ReadAt, start: u8) -> bool {
+        let encode = |workload: &mut Workload| workload.encode_at(encode, start);
+        self.alike(start, encode, |workload| workload.read_at(read, start))
+    }
+
+    fn alike(
+        &mut self,
+        start: u8,
+        encode: impl Fn(&mut Workload) -> Answer,
+        read: impl Fn(&mut Workload) -> Answer,
+    ) -> bool {
         let written = (0..self.cycle()).all(|_| {
-            let answer = self.encode(encode);
+            let answer = encode(self);
             let (_, symbol) = symbol_at(&self.sets, self.next);
             answer.number == 0 && (&symbol.x, &symbol.y) == (&self.out.x, &self.out.y)
         });
         let understood = (0..self.cycle()).all(|_| {
-            let answer = self.read(read);
+            let answer = read(self);
             let (_, symbol) = symbol_at(&self.sets, self.next);
-            answer.number == 0 && self.out.frame.starts_with(&symbol.frame)
+            let frame = &symbol.frames[usize::from(start)];
+            answer.number == 0 && self.out.frame.starts_with(frame)
         });
         written && understood
     }
@@ -197,22 +252,23 @@ fn symbol_at(sets: &[Set], number: usize) -> (&OwnTables, &Symbol) {
 }
 
 impl Symbol {
-    fn blank(nsc: usize, l: usize) -> Symbol {
-        Symbol {
-            frame: vec![0; l.div_ceil(8)],
-            x: vec![0; nsc],
-            y: vec![0; nsc],
-        }
-    }
-
     fn random(random: &mut Random, tables: &OwnTables, l: usize) -> Symbol {
-        let mut symbol = Symbol::blank(tables.tones.len(), l);
-        for bit in 0..l {
-            symbol.frame[bit / 8] |= u8::from(random.one_in(2)) << (bit % 8);
-        }
-        let Symbol { frame, x, y } = &mut symbol;
-        let answer = peer::encode(tables.lent(), frame, REGISTER, x, y);
+        let bits: Vec<bool> = (0..l).map(|_| random.one_in(2)).collect();
+        let frames = STARTS.map(|start| packed(&bits, start));
+        let nsc = tables.tones.len();
+        let (mut x, mut y) = (vec![0; nsc], vec![0; nsc]);
+        let answer = peer::encode(tables.lent(), &frames[0], REGISTER, &mut x, &mut y);
         assert_eq!(answer.number, 0);
-        symbol
+        Symbol { frames, x, y }
     }
+}
+
+/// These bits from a start, zeros around them.
+fn packed(bits: &[bool], start: u8) -> Vec<u8> {
+    let start = usize::from(start);
+    let mut frame = vec![0; (start + bits.len()).div_ceil(8)];
+    for (k, &bit) in (start..).zip(bits) {
+        frame[k / 8] |= u8::from(bit) << (k % 8);
+    }
+    frame
 }

@@ -1,7 +1,8 @@
 //! The load of many table sets: no two are alike, and library and peer agree on each. They agree too
-//! where one tone in two is silent.
+//! where one tone in two is silent, and from every start.
 
-use bench::workload::{Workload, HALF_SILENT, ROTATING};
+use bench::peer;
+use bench::workload::{Workload, HALF_SILENT, MIXED, ROTATING, STARTS, UNCODED};
 use std::collections::BTreeSet;
 
 #[test]
@@ -16,4 +17,15 @@ fn every_symbol_of_the_rotating_load_has_another_table_set() {
 fn library_and_peer_agree_among_silent_tones() {
     let mut workload = Workload::new(HALF_SILENT, 1024);
     assert!(workload.agrees(clevisroot_sys::encode, clevisroot_sys::read));
+}
+
+#[test]
+fn library_and_peer_agree_from_every_start() {
+    for load in [MIXED, UNCODED] {
+        let mut workload = Workload::new(load, 1024);
+        for start in STARTS {
+            assert!(workload.agrees_at(clevisroot_sys::encode_at, clevisroot_sys::read_at, start));
+            assert!(workload.agrees_at(peer::encode_at, peer::read_at, start));
+        }
+    }
 }
