@@ -33,15 +33,15 @@
  * FRAMES AND POINTS
  *
  * A frame has L bits, packed: bit k is in byte k / 8, at weight 1 << (k % 8). It has exactly
- * (L + 7) / 8 bytes (clevisroot_frame_bytes), at most CLEVISROOT_MAX_FRAME, and its unused high bits
- * are 0. L follows from the tables; clevisroot_check tells it.
+ * (L + 7) / 8 bytes (clevisroot_frame_bytes), and its unused high bits are 0. L follows from the
+ * tables; clevisroot_check tells it.
  *
- * A frame need not begin on a byte. clevisroot_encode_at and clevisroot_read_at are given its start, 0
- * to 7, which is the bit of the first byte that holds the frame's bit 0: bit k is then in byte
- * (start + k) / 8, at weight 1 << ((start + k) % 8). Such a frame has exactly (start + L + 7) / 8 bytes
- * (clevisroot_frame_bytes_at), so one byte if L is 0 and the start is not, and its bits before the
- * start and after the end are 0. The start changes where the bits are, and no point: the other calls
- * are those with start 0.
+ * A frame need not begin on a byte. clevisroot_encode_at and clevisroot_read_at are given its start,
+ * 0 to 7, which is the bit of the first byte that holds the frame's bit 0: bit k is then in byte
+ * (start + k) / 8, at weight 1 << ((start + k) % 8). Such a frame has exactly (start + L + 7) / 8
+ * bytes (clevisroot_frame_bytes_at), at most CLEVISROOT_MAX_FRAME, so one byte if L is 0 and the start
+ * is not. Its bits before the start and after the end are 0. The same L bits give the same points with
+ * any start; clevisroot_encode and clevisroot_read are the calls with start 0.
  *
  * The points of a symbol are two lists, x and y, of NSC entries each. They are in the order of the
  * re-ordered tone table t', which clevisroot_reorder writes: x[p] and y[p] belong to tone t'[p].
@@ -214,8 +214,8 @@ clevisroot_answer clevisroot_encode(
     int16_t *x, size_t x_len, int16_t *y, size_t y_len);
 
 /*
- * Writes the points of a frame that starts at this bit of its first byte, and else does as
- * clevisroot_encode does. The same L bits give the same points with any start.
+ * Writes the points of a frame that starts at this bit of its first byte to x and y, NSC entries
+ * each.
  * Refusals 1 to 8, then 10 if x or y has not NSC entries, 11 for the start and the frame, 12 for the
  * register.
  */

@@ -86,7 +86,7 @@ static void every_start(void)
     }
 }
 
-/* Of bench table A's frame each of the 5 bits may be 1, and none before the start or after the end. */
+/* Of table A's frame each of the 5 bits may be 1, and none before the start or after the end. */
 static void bits_from(uint8_t start)
 {
     table_set a = table_a();
@@ -99,7 +99,7 @@ static void bits_from(uint8_t start)
     }
 }
 
-/* One silent tone: L is 0. From start 1 to 7 the frame is a byte of zeros; from start 0 it has none. */
+/* One silent tone, so L is 0: a byte of zeros from start 1 to 7, and none from start 0. */
 static void no_bits(uint8_t start)
 {
     static const uint8_t bits = 0;

@@ -209,7 +209,7 @@ static void starts(void)
         lengths_from((uint8_t)start);
 }
 
-/* Bench table A's frame 0, with the point at one place changed, read without a start and from each. */
+/* Bench table A's frame 0, with the point at one place changed, read from every start. */
 static void changed_point(size_t at, int16_t to_x, int16_t to_y, uint32_t number, uint32_t place)
 {
     table_set a = table_a();
