@@ -54,15 +54,14 @@ fn read_frame(
     ensures { λ r. ⌜ ReadsAnyFrame mode start («shared_from» .0) (now (entries .entry)) (now (places .entry)) (now (labels .entry)) (now (held .entry)) r (now (held .exit)) ⌝ }
 {
     mapper::read::join_shared(labels, shared_from);
+    let first = BitWriter::starting_at(start);
     match mode {
         Mode::Uncoded => {
-            let first = BitWriter::starting_at(start);
             let w = mapper::read::collect_labels(first, entries, places, labels, held);
             w.finish(held);
             Found::Nothing
         }
         Mode::Coded => {
-            let first = BitWriter::starting_at(start);
             let p = decoder::read_labels(first, labels, entries, places, held);
             let broken = p.broken;
             let w = p.writer;
