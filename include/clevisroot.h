@@ -32,9 +32,9 @@
  *
  * FRAMES AND POINTS
  *
- * A frame has L bits, packed: bit k is in byte k / 8, at weight 1 << (k % 8). It has exactly
- * (L + 7) / 8 bytes (clevisroot_frame_bytes), and its unused high bits are 0. L follows from the
- * tables; clevisroot_check tells it.
+ * A frame has L bits, packed. L follows from the tables; clevisroot_check tells it. Where a call is
+ * given no start, bit k is in byte k / 8, at weight 1 << (k % 8); the frame has exactly (L + 7) / 8
+ * bytes (clevisroot_frame_bytes), and its unused high bits are 0.
  *
  * A frame need not begin on a byte. clevisroot_encode_at and clevisroot_read_at are given its start,
  * 0 to 7, which is the bit of the first byte that holds the frame's bit 0: bit k is then in byte
@@ -115,7 +115,7 @@ extern "C" {
 /* The largest G, and so the most tones and points of a symbol. */
 #define CLEVISROOT_MAX_TONES 4096
 
-/* The most bytes of a frame: 4096 tones of 15 bits, uncoded, in a frame that starts at bit 7. */
+/* The most bytes of a frame: 4096 tones of 15 bits, uncoded, from a start of 1 to 7. */
 #define CLEVISROOT_MAX_FRAME 7681
 
 /* The most bytes of stack that a call takes, its own frame and those below. Measured, not proved. */
@@ -242,9 +242,9 @@ clevisroot_answer clevisroot_read(
  * Reads points that carry no noise and writes their frame so that it starts at this bit of its first
  * byte: (start + L + 7) / 8 bytes, zeros before the start and after the end. It reads exactly the
  * points that clevisroot_encode_at writes for some frame with this start, and gives that frame.
- * Refusals 1 to 8, then 10 if x or y has not NSC entries or the frame not its bytes, which are
- * counted with the given start even if it is above 7, 11 if it is, 12 for the register, then 13 at
- * every place, 14 at every place, 15.
+ * Refusals 1 to 8; then 10 if x or y has not NSC entries, or the frame not (start + L + 7) / 8 bytes,
+ * whatever the start; 11 if the start is above 7; 12 for the register; then 13 at every place, 14 at
+ * every place, 15.
  */
 clevisroot_answer clevisroot_read_at(
     uint8_t coded, const uint8_t *bits, size_t bits_len,

@@ -37,7 +37,7 @@ pub const REGISTER_OR_FIND: Opt = Opt {
 pub const START: Opt = Opt {
     name: "start",
     kind: Kind::Start,
-    about: "the bit of its first byte at which a frame starts, 0 to 7, else 0",
+    about: "the bit of its first byte at which a frame starts, 0 to 7 (0 if not given)",
 };
 
 pub const OUT: Opt = Opt {

@@ -8,7 +8,7 @@ pub mod refusals;
 /// The register at reset.
 pub const RESET: u32 = 8_388_607;
 
-/// The longest tables, in sub-carriers, and the longest frame, in bytes: it starts at bit 7.
+/// The longest tables, in sub-carriers, and the longest frame, in bytes, from any start.
 pub const MAX_TONES: usize = 4096;
 pub const MAX_FRAME: usize = 7681;
 

@@ -22,9 +22,10 @@ Writes the points of a frame, x,y, a line a place in t' order, and tells the reg
 next symbol. What it prints is a POINTS file. The frame has L bits: bit k is in byte k / 8, at
 weight 2 to the (k mod 8); unused high bits are 0. Refusals are 1 to 8 and 10 to 12.
 
-With --start N, 0 to 7, the frame starts at bit N of its first byte: bit k is where bit N + k is
-otherwise, in (N + L) / 8 bytes, rounded up. Refusal 11 is another number of bytes than start and L
-need, a bit before the start or after the end that is 1, or a start above 7.
+With --start N, 0 to 7, the frame starts at bit N of its first byte: bit k is then in byte
+(N + k) / 8, at weight 2 to the ((N + k) mod 8), and there are (N + L) / 8 bytes, rounded up.
+Refusal 11 is another number of bytes than start and L need, a bit before the start or after the
+end that is 1, or a start above 7.
 
 The file may hold many frames, with an empty line between them. The register goes from one to
 the next; a refused frame hands it back as it was. Totals come last. The exit status is that of

@@ -117,8 +117,8 @@ fn frame(question: &Question) -> String {
     let span = ask::span(question.set, start);
     match question.frame {
         _ if start > LAST_START => format!(
-            "A frame starts at bit 0 to {LAST_START} of its first byte, so not at bit {start}: set \
-             it with --start."
+            "A frame starts at bit 0 to {LAST_START} of its first byte, not at bit {start}: give \
+             --start a number from 0 to {LAST_START}."
         ),
         Some(frame) if frame.count == span.bytes() => {
             format!("{}: {}.", span.words(), outside(span, frame))

@@ -63,8 +63,8 @@ fn another_number_of_bytes_than_start_and_size_need() {
 fn a_start_that_no_byte_has() {
     for start in ["8", "9", "255"] {
         let sentence = format!(
-            "A frame starts at bit 0 to 7 of its first byte, so not at bit {start}: set it with \
-             --start."
+            "A frame starts at bit 0 to 7 of its first byte, not at bit {start}: give --start a \
+             number from 0 to 7."
         );
         for (command, input) in [
             ("encode", "examples/bench-a.hex"),

@@ -40,7 +40,7 @@ pub record ReorderAnswered (T : Tables) (tones bits : List ℕ) (a : SymbolAnswe
   pub tonesHold : tonesAfter ≡ reorderOf T tones bits .tones
   pub bitsHold : bitsAfter ≡ reorderOf T tones bits .bits
 
--- without a start: document 01's own
+-- without a start: of a frame that starts on a byte (`Aligned`)
 pub record EncodeAnswered (T : Tables) (f : List ℕ) (r : ℕ) (xs ys : List ℤ) (a : SymbolAnswer) (xsAfter ysAfter : List ℤ) : Type 0 where
   pub answer : a ≡ reported (encodeOf T f r xs ys .report)
   pub xsHold : xsAfter ≡ encodeOf T f r xs ys .xs

@@ -57,7 +57,7 @@ pub record ReadsPair (c : Reader) (forced : Bool) (p : Pair) (v w : ℕ) (frame 
   pub state : r .reader .state ≡ nextOf (c .state) (decodedIn p v w)
   pub puts : Put (c .writer) frame (takenBits forced (p .x) (decodedIn p v w)) (r .reader .writer) after
 
--- the reader at the start, behind what a writer has put
+-- the reader before the first pair, behind what a writer has put
 abbrev pub firstReader : BitWriter → Reader
 firstReader w = record { state = zeroState; writer = w }
 

@@ -43,27 +43,27 @@ past-end f e b hl hb =
     rw (s, num-drop, last)
 
 module _ (start l : ℕ) (f : List ℕ) where
-  pub late-refused : startTest start ≡ true → true ≡ frameTest start l f
+  pub above-refused : startTest start ≡ true → true ≡ frameTest start l f
   unfolding frameTest
-  late-refused h = rw h
+  above-refused h = rw h
 
-  module _ (early : startTest start ≡ false) where
+  module _ (within : startTest start ≡ false) where
     pub length-refused : (length f ≡ bytesFor start l → ⊥) → true ≡ frameTest start l f
     unfolding frameTest
-    length-refused h = rw (early, ne-eqb (length f) (bytesFor start l) h)
+    length-refused h = rw (within, ne-eqb (length f) (bytesFor start l) h)
 
     module _ (fits : length f ≡ bytesFor start l) {a : ℕ} (before : a ≡ num (take start (unpack f))) where
       pub before-refused : (a ≡ 0 → ⊥) → true ≡ frameTest start l f
       unfolding frameTest
       before-refused h =
-          rw (early, eq-eqb (length f) (bytesFor start l) fits, someOne-append, someOne-num (take start (unpack f)), ← before, ne-eqb a 0 h)
+          rw (within, eq-eqb (length f) (bytesFor start l) fits, someOne-append, someOne-num (take start (unpack f)), ← before, ne-eqb a 0 h)
 
       pub after-refused : a ≡ 0 → (i j b : ℕ) → i ≡ (start + l) / 8 → j ≡ (start + l) % 8 → ByteAt f i b → not (eqb (b / 2 ^ j) 0) ≡ frameTest start l f
       unfolding frameTest
       after-refused z i j b hi hj hb =
           let after = past-end f (start + l) b fits (rw hi at hb) in
           rw (
-            early,
+            within,
             eq-eqb (length f) (bytesFor start l) fits,
             someOne-append,
             someOne-num (take start (unpack f)),

@@ -1,16 +1,15 @@
 -- Bits that are put: eight bytes of a word written, and the bits that a writer has put.
 use mathlib.Core.Path.{_≡_, refl, sym, ap, _∙_}
-use mathlib.Core.Bool.{Bool, true, false}
-use mathlib.Core.List.{List, [], _∷_, _++_, append-assoc, append-nil}
-use Prim.Native.Nat.{ℕ, zero, suc, _+_, _-_, _*_, _/_, _%_, _^_, _≤_, _<_}
+use mathlib.Core.Bool.{Bool}
+use mathlib.Core.List.{List, _++_, append-assoc, append-nil}
+use Prim.Native.Nat.{ℕ, _+_, _-_, _*_, _/_, _%_, _^_, _≤_, _<_}
 use native.Mathlib.Nat.{lt-trans, div-one, zero-mod, div-eq-of-lt}
 use native.Mathlib.Numerals.{add-one}
 use native.Mathlib.Omega.{arith}
-use borrow.Author.Tests.{eq-eqb}
 use lib.Arith.{digits-lt}
 use lib.Pow.{pow-add, pow-lt, pow-pos, shl-exact, shr-lt, high, low}
-use lib.ListN.{length, take, drop, set, length-set, length-append}
-use lib.Seq.{take-append-add, take-take, take-suc-set, take-at, drop-at, length-take-le}
+use lib.ListN.{length, take, set, length-set, length-append}
+use lib.Seq.{take-append-add, take-take, take-suc-set, length-take-le}
 use Rattle.g9932.specs.Bits.{bits, num, zeros}
 use Rattle.g9932.specs.Sizes.{unpack, bytesFor, pack}
 use Rattle.g9932.proofs.Words.{length-bits, num-append, num-inj, num-take, bits-add, take-bits, bits-mod}

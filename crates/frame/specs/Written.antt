@@ -8,7 +8,7 @@ use Rattle.g9932.specs.Bits.{bits}
 use Rattle.g9932.specs.Sizes.{unpack, bytesFor, pack}
 use Rattle.frame.specs.declared.BitWriter.{BitWriter}
 
--- nothing put yet: before the start there are zeros, which wait
+-- only the zeros before the start are put yet, and they wait
 abbrev pub emptyWriter : ℕ → BitWriter
 emptyWriter start = record { acc = 0; fill = start; next = 0 }
 

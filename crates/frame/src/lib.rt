@@ -170,7 +170,7 @@ pub struct BitWriter {
 }
 
 impl BitWriter {
-    // Nothing put yet: the first bit comes at bit `start` of the first byte, behind zeros.
+    // Only the zeros before bit `start` of the first byte are put yet.
     pub fn starting_at(start: u8) -> Self
         ensures { λ r. ⌜ r ≡ emptyWriter start ⌝ }
     {

@@ -36,8 +36,12 @@ frameTest l f = not (eqb (length f) (bytesFor l)) || someOne (unusedBits l f)
 
 -- ---- encoding uses 1 to 8 and 10 to 12
 
+-- the bits sent for a frame, and the points that it gives
+abbrev pub sentIn : Tables → List ℕ → List Bool
+sentIn T f = sentOf (T .mode) (pairsIn T) (frameBits (sizeOf T) f)
+
 unfoldable pub writtenPoints : Tables → ℕ → List ℕ → List Point
-writtenPoints T r f = writePoints r (classesOf T) (sentOf (T .mode) (pairsIn T) (frameBits (sizeOf T) f))
+writtenPoints T r f = writePoints r (classesOf T) (sentIn T f)
 
 unfoldable pub encodeInputs : ℕ → ℕ → ℕ → ℕ → List ℕ → ℕ → Verdict
 encodeInputs l nsc xLength yLength f r =

@@ -95,11 +95,11 @@ module _ (T : Tables) (r start : ℕ) (xs ys : List ℤ) (f₀ : List ℕ) (read
 
 -- ---- where a frame starts
 
--- Bit k of a frame is bit k plus the start of its bytes: in byte (k + start) div 8, at weight 2 to the ((k + start) mod 8).
+-- Bit k of a frame is bit (k + start) of its bytes: in byte (k + start) div 8, at weight 2 to the ((k + start) mod 8).
 pub frame-bit : (start l : ℕ) (f : List ℕ) (k : ℕ) → k < l → bit (frameBits start l f) k ≡ odd (getD f ((k + start) / 8) 0 / 2 ^ ((k + start) % 8))
 frame-bit = Packed.bit-frame
 
--- From every start of 0 to 7 any L bits have an accepted frame, with the same points whatever the start.
+-- From every start of 0 to 7 any L bits are those of an accepted frame, with the same points whatever the start.
 pub at-every-start : (T : Tables) (start : ℕ) → start ≤ 7 → (x : List Bool) → length x ≡ sizeOf T
     → AcceptedFrame T start (pack start x) × (frameBits start (sizeOf T) (pack start x) ≡ x)
     × ((r : ℕ) → writtenPoints T r start (pack start x) ≡ writtenPoints T r 0 (pack 0 x))
@@ -116,17 +116,27 @@ zeros-around T X Y r start f₀ h =
     let ok = RoundTrip.read-accepted T X Y r start f₀ h in
     (ok, Packed.frame-unused start (sizeOf T) _ (ok .passes))
 
--- A start above 7 is FRAME, after ROOM and whatever the register: in encoding,
-pub late-encoding : (T : Tables) → AcceptedTables T → (xs ys : List ℤ) → RightLength T xs ys → (start : ℕ) → 7 < start → (r : ℕ) (f : List ℕ)
-    → encodeAt T start f r xs ys .report .verdict ≡ refused 11 0
-late-encoding T ok xs ys right = Operations.late-encoding T ok right
+-- In accepted tables, from any start and with any register:
+module _ (T : Tables) (ok : AcceptedTables T) (xs ys : List ℤ) (start r : ℕ) where
+  -- A wrong length is ROOM: in encoding that of X or Y,
+  pub room-encoding : (f : List ℕ) → (RightLength T xs ys → ⊥) → encodeAt T start f r xs ys .report .verdict ≡ refused 10 0
+  room-encoding = Operations.room-encoding T ok xs ys start r
 
--- and in reading, where ROOM was judged with the bytes that this start and L would take.
-pub late-reading : (T : Tables) → AcceptedTables T → (X Y : List ℤ) → RightLength T X Y → (start : ℕ) → 7 < start → (r : ℕ) (f₀ : List ℕ)
-    → length f₀ ≡ bytesFor start (sizeOf T) → readAt T X Y r start f₀ .report .verdict ≡ refused 11 0
-late-reading T ok X Y right = Operations.late-reading T ok right
+  -- in reading also that of the frame, which has the bytes that this start and L take, even above 7.
+  pub room-reading : (f₀ : List ℕ) → (RightLength T xs ys × (length f₀ ≡ bytesFor start (sizeOf T)) → ⊥)
+      → readAt T xs ys r start f₀ .report .verdict ≡ refused 10 0
+  room-reading = Operations.room-reading T ok xs ys start r
 
--- Start 0 gives every answer of a call without a start, for all inputs.
+  -- Where ROOM does not apply, a start above 7 is FRAME, whatever the frame and the register: in encoding,
+  pub start-above-7-encoding : RightLength T xs ys → 7 < start → (f : List ℕ) → encodeAt T start f r xs ys .report .verdict ≡ refused 11 0
+  start-above-7-encoding = Operations.start-above-7-encoding T ok xs ys start r
+
+  -- and in reading.
+  pub start-above-7-reading : RightLength T xs ys → 7 < start → (f₀ : List ℕ) → length f₀ ≡ bytesFor start (sizeOf T)
+      → readAt T xs ys r start f₀ .report .verdict ≡ refused 11 0
+  start-above-7-reading = Operations.start-above-7-reading T ok xs ys start r
+
+-- Start 0 gives every answer of a call without a start (`Aligned`), for all inputs; so all of this page holds of those calls.
 pub start-zero-encoding : (T : Tables) (f : List ℕ) (r : ℕ) (xs ys : List ℤ) → encodeAt T 0 f r xs ys ≡ encodeOf T f r xs ys
 start-zero-encoding = Aligned.start-zero-encoding
 

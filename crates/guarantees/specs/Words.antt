@@ -32,7 +32,7 @@ pub record RightLength (T : Tables) (xs ys : List ℤ) : Type 0 where
   pub xsLength : length xs ≡ length (T .tones)
   pub ysLength : length ys ≡ length (T .tones)
 
--- what demand 3 supposes: accepted tables, a valid register, and lent buffers of exact lengths; of the start nothing
+-- what demand 3 supposes: accepted tables, a valid register, lent buffers of exact lengths, and nothing of the start
 pub record Ready (T : Tables) (r start : ℕ) (xs ys : List ℤ) (f : List ℕ) : Type 0 where
   pub tables : AcceptedTables T
   pub register : ValidRegister r

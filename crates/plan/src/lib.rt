@@ -82,8 +82,8 @@ fn file_plan(
     }
 }
 
-// Refusals 1 to 8. Where nothing is refused, the plan stands in four lent arrays of 4,096, as far as the answer says. Only proved code
-// calls it, and shows their lengths.
+// Refusals 1 to 8. Where nothing is refused, the plan stands in four lent arrays of 4,096, as far as the answer says. Called by proved
+// code only, which shows their lengths.
 pub fn plan_tables(
     mode: Mode,
     bits: &[u8],

@@ -2,7 +2,7 @@
 use Prim.Native.Nat.{ℕ, _≤_}
 use mathlib.Core.Bool.{Bool, true, false, not, _||_, true≢false}
 use mathlib.Core.List.{List, map}
-use mathlib.Core.Path.{_≡_, refl, sym, ap, _∙_}
+use mathlib.Core.Path.{_≡_, refl, ap, _∙_}
 use borrow.Author.Tests.{eq-eqb, ne-eqb, eqb-true, ltb-false}
 use lib.Dec.{eqb}
 use lib.IntN.{ℤ}
@@ -18,7 +18,7 @@ use Rattle.g9932.specs.declared.Answer.{Answer}
 use Rattle.g9932.specs.declared.Answer.the-variants.{Done, Refused as NotDone}
 use Rattle.g9932.proofs.Accepted.{accepted-tables}
 use Rattle.passes.specs.ReadSymbol.{ReadsPoints}
-use Rattle.g9932.proofs.Verdicts.{test-past, test-none, number-none, and-refused, and-accepted, done-refused, done-accepted, report-refused, report-done}
+use Rattle.g9932.proofs.Verdicts.{test-none, number-none, and-refused, and-accepted, done-refused, done-accepted, report-refused, report-done}
 
 -- ---- ROOM of two lists
 

@@ -112,7 +112,8 @@ module _ (T : Tables) (start : ℕ) (f : List ℕ) (r : ℕ) (xs ys : List ℤ) 
   frame-back : (f₀ : List ℕ) → length f₀ ≡ bytesFor start (sizeOf T) → readAt T X Y r start f₀ .frame ≡ f
   frame-back f₀ n = ap (λ (x : Read). x .frame) (as-answered T r start xs ys f₀ (sized f₀ n) X Y f ok (sym (e .xsHold)) (sym (e .ysHold)))
 
-  -- Some operation reads with the same register and start and a buffer f₀ of as many bytes as L bits take; it answers a and leaves g there.
+  -- Some operation reads with the same register and start and a buffer f₀ of as many bytes as L bits from that start take; it answers a and
+  -- leaves g there.
   module _ (f₀ : List ℕ) (fits : length f₀ ≡ bytesFor start l) (a : Answer) (g : List ℕ) where
     ready : Ready T r start xs ys f₀
     ready = sized f₀ (fits ∙ ap (λ (x : Answer). bytesFor start (reportOf x .verdict .size)) answer-is)

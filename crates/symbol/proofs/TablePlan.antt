@@ -116,8 +116,8 @@ module _ (T : Tables) (ok : tableVerdict T .number ≡ 0) where
       bytes : length f ≡ bytesFor start (sizeOf T)
       bytes = frame-length start (sizeOf T) f accepted
 
-      early : start ≤ 7
-      early = start-most start (sizeOf T) f accepted
+      small : start ≤ 7
+      small = start-most start (sizeOf T) f accepted
 
       pub label-needs : (labels : List ℕ) → length labels ≡ length (classesOf T) → LabelFrameNeeds (T .mode) f start es ps labels
       label-needs labels n = go (T .mode) refl
@@ -129,13 +129,13 @@ module _ (T : Tables) (ok : tableVerdict T .number ≡ 0) where
           go Uncoded e =
               let s = plain-sum e in
               let b = bytes in
-              let a = early in
+              let a = small in
               let m = known .sizeMost in
               record { same = placed .placesLength; counts = plain-most e; places = placed .rising; bits = omega arith; small = omega arith }
           go Coded e =
               let c = known .coded e in
               let b = bytes in
-              let a = early in
+              let a = small in
               let m = known .sizeMost in
               let t = coded-taken e in
               let needs : FrameNeeds f start es =
@@ -163,7 +163,7 @@ module _ (T : Tables) (ok : tableVerdict T .number ≡ 0) where
 
     -- the frame fits the buffer that holds it until it is known to be whole
     pub held-fits : {start : ℕ} → start ≤ 7 → (held : List ℕ) → length held ≡ mostHeld → HeldFits (T .mode) start es (length held)
-    held-fits {start} early held n = go (T .mode) refl
+    held-fits {start} small held n = go (T .mode) refl
       where
         go : (m : Mode) → T .mode ≡ m → HeldFits m start es (length held)
         go Uncoded e = (plain-most e, omega (arith, plain-sum e, known .sizeMost))

@@ -79,15 +79,15 @@ module _ (T : Tables) (ok : tableVerdict T .number ≡ 0) (p : PlanSizes) {layou
   pub read-of : (size start : ℕ) → start ≤ 7 → (xs ys : List ℤ) (labels held f : List ℕ) → length labels ≡ length (T .tones) → length xs ≡ length (T .tones) → length ys ≡ length (T .tones)
       → length held ≡ mostHeld → size ≡ sizeOf T → length f ≡ bytesFor start (sizeOf T)
       → ReadSymbolSupposes T (T .mode) (p .«shared_from» .0) size (take (p .«entry_count») entries) (take (p .«entry_count») places) (take (p .«drawing_count») drawing) (take (length (T .tones)) layouts) xs ys labels held f start
-  read-of size start early xs ys labels held f n nx ny nh s nf =
+  read-of size start small xs ys labels held f n nx ny nh s nf =
       let c = length-classes T in
       record {
         plan = the-plan T ok p is;
         labelsLength = n ∙ sym c;
         xsLength = nx ∙ sym c;
         ysLength = ny ∙ sym c;
-        startMost = early;
-        heldFits = held-fits T ok p is early held nh;
+        startMost = small;
+        heldFits = held-fits T ok p is small held nh;
         heldLength = nh;
         sizeIs = s;
         frameLength = nf;

@@ -45,7 +45,8 @@ pub fn encode(
     match checked {
         Planned::Refused(refusal) => Answer::Refused { refusal, register },
         Planned::Lists(p) => {
-            let after = passes::write::write_symbol(
+            let size = p.size;
+            let register = passes::write::write_symbol(
                 mode,
                 p,
                 n,
@@ -60,10 +61,7 @@ pub fn encode(
                 xs,
                 ys,
             );
-            Answer::Done {
-                size: p.size,
-                register: after,
-            }
+            Answer::Done { size, register }
         }
     }
 }
@@ -101,34 +99,25 @@ pub fn read(
         &mut places,
         &mut drawing,
     );
-    let checked = reading::check_inputs(
-        planned,
-        n,
-        xs.len(),
-        ys.len(),
-        frame.len(),
-        start,
-        register,
-    );
+    let frame_len = frame.len();
+    let checked = reading::check_inputs(planned, n, xs.len(), ys.len(), frame_len, start, register);
     match checked {
         Planned::Refused(refusal) => Answer::Refused { refusal, register },
-        Planned::Lists(p) => {
-            passes::read::read_symbol(
-                mode,
-                p,
-                n,
-                &layouts,
-                &entries,
-                &places,
-                &drawing,
-                xs,
-                ys,
-                register,
-                &mut labels,
-                &mut held,
-                frame,
-                start,
-            )
-        }
+        Planned::Lists(p) => passes::read::read_symbol(
+            mode,
+            p,
+            n,
+            &layouts,
+            &entries,
+            &places,
+            &drawing,
+            xs,
+            ys,
+            register,
+            &mut labels,
+            &mut held,
+            frame,
+            start,
+        ),
     }
 }

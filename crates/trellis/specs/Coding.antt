@@ -35,7 +35,7 @@ pub record CodesPair (c : Coder) (forced : Bool) (p : Pair) (frame : List ℕ) (
   pub vSmall : r .v < 2 ^ p .x
   pub wSmall : r .w < 2 ^ p .y
 
--- the coder at the start, the frame's bits beginning at one of its bytes' bits
+-- the coder before the first pair, the frame's bits beginning at one of its bytes' bits
 abbrev pub firstCoder : ℕ → Coder
 firstCoder start = record { state = zeroState; at = start }
 

@@ -52,7 +52,7 @@ pub struct PairCode {
     pub coder: Coder,
 }
 
-// The state at the start.
+// The state before the first pair.
 pub fn zero_state() -> TrellisState
     ensures { λ r. ⌜ r ≡ zeroState ⌝ }
 {
