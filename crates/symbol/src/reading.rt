@@ -30,10 +30,12 @@ pub fn check_inputs(
             if frame_len != frame::bytes_for(start, p.size) {
                 return Planned::Refused(Refusal::Room);
             }
-            if frame::start_refused(start) {
+            let start_refused = frame::start_refused(start);
+            let seed_refused = prbs::seed_refused(register);
+            if start_refused {
                 return Planned::Refused(Refusal::Frame);
             }
-            if prbs::seed_refused(register) {
+            if seed_refused {
                 return Planned::Refused(Refusal::Seed);
             }
             return Planned::Lists(p);

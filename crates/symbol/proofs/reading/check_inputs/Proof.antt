@@ -53,33 +53,33 @@ room-passed c =
     let a = lists .before .before .before .before .before .args in
     rooms-none (a .x-len) (a .y-len) (a .nsc) (a .frame-len) _ (lists .before .if1 .left) (lists .if2 .left) (c .if3 .left ∙ c .before .bytes-for .ensures)
 
-start-passed : (c : tie.Else4) → startTest (c .before .before .before .before .before .before .before .before .before .args .start) ≡ false
-start-passed c = sym (c .before .start-refused .ensures) ∙ c .if4 .left
+start-passed : (c : tie.Else4) → startTest (c .before .before .before .before .before .before .before .before .before .before .args .start) ≡ false
+start-passed c = sym (c .before .before .start-refused .ensures) ∙ c .if4 .left
 
 returns-5 : tie.Need-returns-5
 unfolding readInputs
 returns-5 c =
-    let room = c .before .before in
+    let room = c .before .before .before in
     let p = room .before .before .before .before .before .planned2 in
-    inputs-refused (p .given .1) _ (test-past 10 (room-passed room) (test-here 11 _ (sym (c .before .start-refused .ensures) ∙ c .if4 .taken)))
+    inputs-refused (p .given .1) _ (test-past 10 (room-passed room) (test-here 11 _ (sym (c .before .before .start-refused .ensures) ∙ c .if4 .taken)))
 
 returns-6 : tie.Need-returns-6
 unfolding readInputs
 returns-6 c =
-    let early = c .before .before in
-    let room = early .before .before in
+    let within = c .before in
+    let room = within .before .before .before in
     let p = room .before .before .before .before .before .planned2 in
     inputs-refused (p .given .1) _
-    (test-past 10 (room-passed room) (test-past 11 (start-passed early) (test-here 12 _ (sym (c .before .seed-refused .ensures) ∙ c .if5 .taken))))
+    (test-past 10 (room-passed room) (test-past 11 (start-passed within) (test-here 12 _ (sym (within .before .seed-refused .ensures) ∙ c .if5 .taken))))
 
 returns-7 : tie.Need-returns-7
 unfolding readInputs
 returns-7 c =
-    let early = c .before .before in
-    let room = early .before .before in
+    let within = c .before in
+    let room = within .before .before .before in
     let p = room .before .before .before .before .before .planned2 in
     inputs-pass (p .given .1)
-    (test-past 10 (room-passed room) (test-past 11 (start-passed early) (test-past 12 (sym (c .before .seed-refused .ensures) ∙ c .if5 .left) refl)))
+    (test-past 10 (room-passed room) (test-past 11 (start-passed within) (test-past 12 (sym (within .before .seed-refused .ensures) ∙ c .if5 .left) refl)))
 
 pub check-inputs-spec : {M : Type 1} → statement M
 check-inputs-spec =
@@ -93,7 +93,7 @@ check-inputs-spec =
     (λ c κs. search needs)
     returns-4
     (λ c κs. search needs)
-    returns-5
     (λ c κs. search needs)
+    returns-5
     returns-6
     returns-7)
