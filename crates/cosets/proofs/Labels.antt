@@ -1,0 +1,205 @@
+-- From raised coordinates to the labels and costs of an entry.
+use Prim.Native.Nat.{ℕ, zero, suc, _+_, _-_, _*_, _^_, _≤_, _<_}
+use mathlib.Core.Bool.{Bool, true, false, cond}
+use mathlib.Core.List.{List, [], _∷_}
+use mathlib.Core.Logic.{_⊎_, ⊎-elim}
+use mathlib.Core.Path.{_≡_, refl, sym, ap, subst, _∙_}
+use native.Mathlib.Omega.{arith}
+use borrow.Author.Tests.{le-ltb, ltb-true, ltb-false}
+use lib.Dec.{ltb}
+use lib.IntN.{ℤ, pos, negsuc, natAbs, subℕ, _+ℤ_, _-ℤ_}
+use lib.ListN.{length}
+use lib.Signed.{mag}
+use mir.Syntax.{w16}
+use mir.Val.{SFits, toZ}
+use mir.ValLaws.{toZ-pos}
+use Rattle.g9932.specs.Bits.{bit, weight, num, bits}
+use Rattle.g9932.specs.Nearest.{squaredDistance}
+use Rattle.g9932.specs.Points.{pointOf, labelOf, isLabel, labelBits}
+use Rattle.g9932.specs.Sizes.{Point, point}
+use Rattle.g9932.proofs.Labels.{label-point}
+use Rattle.g9932.proofs.TwosComplement.{pos-inj}
+use Rattle.g9932.proofs.Words.{bits-num, num-lt}
+use Rattle.constellation.specs.Reading.{FoundLabelIs}
+use Rattle.constellation.specs.declared.FoundLabel.{FoundLabel}
+use Rattle.cosets.specs.declared.Costs.{Costs}
+use Rattle.cosets.specs.declared.OneCosts.{OneCosts}
+use Rattle.cosets.specs.declared.Coset.{Coset}
+use Rattle.cosets.specs.Nearest.{Raised, RaisedPoint, Nearest, CosetCost, CostsOf, OneCostsOf}
+use Rattle.cosets.specs.Meters.{Meter, toneMeter, shared, InRange, costOf, LeastOf, CosetLabel, BestLabel, LeastCoset}
+
+-- ---- coordinates, raised and back
+
+pub raised-is : (z : ℤ) (r : ℕ) → InRange z → pos r ≡ z +ℤ pos 33792 → Raised z (r - 32768) × (32769 ≤ r) × (r ≤ 34815)
+raised-is (pos a) r h e = let n = pos-inj r (a + 33792) e in (omega arith, omega arith, omega arith)
+raised-is (negsuc a) r h e =
+    let n = pos-inj r (33792 - suc a) (e ∙ rw (le-ltb 33792 (suc a) (omega arith)) refl) in
+    (omega arith, omega arith, omega arith)
+
+pub lowered-is : (n : ℕ) → 1 ≤ n → n < 2048 → SFits w16 (toZ w16 n -ℤ pos 1024) × Raised (toZ w16 n -ℤ pos 1024) n
+lowered-is n l h = rw (toZ-pos w16 n (omega arith)) (go (ltb n 1024) refl)
+  where
+    go : (c : Bool) → ltb n 1024 ≡ c → SFits w16 (cond c (negsuc (1024 - suc n)) (pos (n - 1024))) × Raised (cond c (negsuc (1024 - suc n)) (pos (n - 1024))) n
+    go true t = let k = ltb-true n 1024 t in (record { sfits = omega arith }, omega arith)
+    go false t = let k = ltb-false n 1024 t in (record { sfits = omega arith }, omega arith)
+
+pub raised-fits : (z : ℤ) (n : ℕ) → Raised z n → n < 2048 → SFits w16 z
+raised-fits (pos a) n r h = record { sfits = omega arith }
+raised-fits (negsuc a) n r h = record { sfits = omega arith }
+
+raised-same : (a b : ℤ) (n : ℕ) → Raised a n → Raised b n → a ≡ b
+raised-same (pos a) (pos b) n p q = let e : a ≡ b = omega arith in ap pos e
+raised-same (pos a) (negsuc b) n p q = absurd (omega arith)
+raised-same (negsuc a) (pos b) n p q = absurd (omega arith)
+raised-same (negsuc a) (negsuc b) n p q = let e : a ≡ b = omega arith in ap negsuc e
+
+-- ---- the nearest label of a coset, from the nearest point
+
+pub label-nearest : {b x y d : ℕ} {v1 v0 : Bool} {p : Point} → Nearest b v1 v0 p x y d → (a c : ℤ) → Raised a x → Raised c y
+    → (s : FoundLabel) → FoundLabelIs s (labelOf b (point a c)) → (s .label < 2 ^ b) × CosetLabel (toneMeter b p) v1 v0 (bits b (s .label))
+label-nearest {b = b} {d = d} {v1 = v1} {v0 = v0} {p = p} n a c ra rc s f =
+    let v = n .label in
+    let ex = raised-same a (pointOf b v .px) _ ra (n .at .rx) in
+    let ey = raised-same c (pointOf b v .py) _ rc (n .at .ry) in
+    let o = (λ i. labelOf b (point (ex i) (ey i))) ∙ label-point b v (n .size) in
+    let l : s .label ≡ num v = f .label (ap isLabel o) ∙ ap (λ z. num (labelBits z)) o in
+    let e : bits b (s .label) ≡ v = ap (bits b) l ∙ subst (λ (k : ℕ). bits k (num v) ≡ v) (n .size) (bits-num v) in (
+      subst (λ (k : ℕ). s .label < 2 ^ k) (n .size) (rw l (num-lt v)),
+      record {
+        size = ap length e ∙ n .size;
+        low1 = ap (λ z. bit z 1) e ∙ n .low1;
+        low0 = ap (λ z. bit z 0) e ∙ n .low0;
+        least = λ w h l1 l0. rw (e, n .cost) (n .least w h l1 l0);
+      },
+    )
+
+-- ---- the costs of a tone, and of two that share
+
+coset : (b : ℕ) (p : Point) (r : Costs) → CostsOf b p r → (v1 v0 : Bool) → CosetCost b v1 v0 p (costOf r (weight v0 + 2 * weight v1))
+unfolding weight
+coset b p r h false false = h .is0
+coset b p r h false true = h .is1
+coset b p r h true false = h .is2
+coset b p r h true true = h .is3
+
+pub tone-least : {b : ℕ} {p : Point} {r : Costs} → CostsOf b p r → LeastOf (toneMeter b p) (costOf r)
+tone-least {b = b} {p = p} {r = r} h =
+    record {
+      label = λ v1 v0. coset b p r h v1 v0 .near .label;
+      size = λ v1 v0. coset b p r h v1 v0 .near .size;
+      low1 = λ v1 v0. coset b p r h v1 v0 .near .low1;
+      low0 = λ v1 v0. coset b p r h v1 v0 .near .low0;
+      is = λ v1 v0. coset b p r h v1 v0 .near .cost;
+      least = λ w l. coset b p r h (bit w 1) (bit w 0) .near .least w l refl refl;
+    }
+
+-- each label has a coset of its own
+abbrev oneLabel : Bool → Bool → List Bool
+oneLabel v1 v0 = v0 ∷ v1 ∷ []
+
+-- the two costs of a 1-bit tone, by its bit
+abbrev oneCost : OneCosts → Bool → ℕ
+oneCost c true = c .d1
+oneCost c false = c .d0
+
+one-cost : {p : Point} {c : OneCosts} → OneCostsOf p c → (z : Bool) → squaredDistance p (pointOf 1 (z ∷ [])) ≡ oneCost c z
+one-cost h true = h .is1
+one-cost h false = h .is0
+
+pub shared-least : {p q : Point} {a b : OneCosts} → OneCostsOf p a → OneCostsOf q b
+    → LeastOf (shared (toneMeter 1 p) (toneMeter 1 q)) (costOf (record { c0 = a .d0 + b .d0; c1 = a .d1 + b .d0; c2 = a .d0 + b .d1; c3 = a .d1 + b .d1 }))
+unfolding weight
+shared-least {p = p} {q = q} {a = a} {b = b} ha hb =
+    record {
+      label = oneLabel;
+      size = λ v1 v0. refl;
+      low1 = λ v1 v0. refl;
+      low0 = λ v1 v0. refl;
+      is = is;
+      least = go;
+    }
+  where
+    r : Costs
+    r = record { c0 = a .d0 + b .d0; c1 = a .d1 + b .d0; c2 = a .d0 + b .d1; c3 = a .d1 + b .d1 }
+
+    by : (v1 v0 : Bool) → oneCost a v0 + oneCost b v1 ≡ costOf r (weight v0 + 2 * weight v1)
+    by true true = refl
+    by true false = refl
+    by false true = refl
+    by false false = refl
+
+    is : (v1 v0 : Bool) → squaredDistance p (pointOf 1 (v0 ∷ [])) + squaredDistance q (pointOf 1 (v1 ∷ [])) ≡ costOf r (weight v0 + 2 * weight v1)
+    is v1 v0 = let x = one-cost ha v0 in let y = one-cost hb v1 in (λ i. x i + y i) ∙ by v1 v0
+
+    go : (w : List Bool) → length w ≡ 2 → costOf r (weight (bit w 0) + 2 * weight (bit w 1)) ≤ shared (toneMeter 1 p) (toneMeter 1 q) .cost w
+    go [] l = absurd (omega arith)
+    go (v0 ∷ []) l = absurd (omega arith)
+    go (v0 ∷ v1 ∷ []) l = omega (arith, is v1 v0)
+    go (v0 ∷ v1 ∷ c ∷ w) l = absurd (omega arith)
+
+-- ---- the label of two that share is its coset's only one
+
+pub shared-label : (a b : Meter) (v1 v0 : Bool) → CosetLabel (shared a b) v1 v0 (v0 ∷ v1 ∷ [])
+shared-label a b v1 v0 = record { size = refl; low1 = refl; low0 = refl; least = go }
+  where
+    go : (w : List Bool) → length w ≡ 2 → bit w 1 ≡ v1 → bit w 0 ≡ v0 → shared a b .cost (v0 ∷ v1 ∷ []) ≤ shared a b .cost w
+    go [] l e1 e0 = absurd (omega arith)
+    go (x ∷ []) l e1 e0 = absurd (omega arith)
+    go (x ∷ y ∷ []) l e1 e0 = rw (← e1, ← e0) (omega arith)
+    go (x ∷ y ∷ c ∷ w) l e1 e0 = absurd (omega arith)
+
+-- ---- the nearest of all labels
+
+pub one-best : {p : Point} {c : OneCosts} → OneCostsOf p c → (z : Bool) → oneCost c z ≤ c .d0 → oneCost c z ≤ c .d1 → BestLabel (toneMeter 1 p) (z ∷ []) (oneCost c z)
+one-best {p = p} {c = c} h z l0 l1 = record { size = refl; cost = one-cost h z; least = go }
+  where
+    go : (w : List Bool) → length w ≡ 1 → oneCost c z ≤ squaredDistance p (pointOf 1 w)
+    go [] e = absurd (omega arith)
+    go (true ∷ []) e = rw (one-cost h true) l1
+    go (false ∷ []) e = rw (one-cost h false) l0
+    go (x ∷ y ∷ w) e = absurd (omega arith)
+
+pub coset-of : (c : Costs) (a b d e m n r : Coset) → a ≡ record { v1 = false; v0 = false; cost = c .c0 } → b ≡ record { v1 = false; v0 = true; cost = c .c1 }
+    → d ≡ record { v1 = true; v0 = false; cost = c .c2 } → e ≡ record { v1 = true; v0 = true; cost = c .c3 }
+    → (m .cost ≤ a .cost) × (m .cost ≤ b .cost) × ((m ≡ a) ⊎ (m ≡ b)) → (n .cost ≤ d .cost) × (n .cost ≤ e .cost) × ((n ≡ d) ⊎ (n ≡ e))
+    → (r .cost ≤ m .cost) × (r .cost ≤ n .cost) × ((r ≡ m) ⊎ (r ≡ n)) → LeastCoset c r
+unfolding weight
+coset-of c a b d e m n r ea eb ed ee hm hn hr =
+    let xa = ap (λ (z : Coset). z .cost) ea in
+    let xb = ap (λ (z : Coset). z .cost) eb in
+    let xd = ap (λ (z : Coset). z .cost) ed in
+    let xe = ap (λ (z : Coset). z .cost) ee in
+    record {
+      is =
+          ⊎-elim (λ g. ⊎-elim (λ f. by (g ∙ f ∙ ea) refl) (λ f. by (g ∙ f ∙ eb) refl) (hm .2))
+          (λ g. ⊎-elim (λ f. by (g ∙ f ∙ ed) refl) (λ f. by (g ∙ f ∙ ee) refl) (hn .2)) (hr .2);
+      least0 = omega (arith, hr .0, hm .0, xa);
+      least1 = omega (arith, hr .0, hm .1, xb);
+      least2 = omega (arith, hr .1, hn .0, xd);
+      least3 = omega (arith, hr .1, hn .1, xe);
+    }
+  where
+    by : {k : Coset} → r ≡ k → k .cost ≡ costOf c (weight (k .v0) + 2 * weight (k .v1)) → r .cost ≡ costOf c (weight (r .v0) + 2 * weight (r .v1))
+    by q h = subst (λ (z : Coset). z .cost ≡ costOf c (weight (z .v0) + 2 * weight (z .v1))) (sym q) h
+
+-- the nearest label of the nearest coset
+pub best-label : {m : Meter} {c : Costs} {r : Coset} {v : List Bool} → LeastOf m (costOf c) → LeastCoset c r → CosetLabel m (r .v1) (r .v0) v → BestLabel m v (r .cost)
+unfolding weight
+best-label {m = m} {c = c} {r = r} {v = v} l k h =
+    let u = l .label (r .v1) (r .v0) in
+    let least = h .least u (l .size (r .v1) (r .v0)) (l .low1 (r .v1) (r .v0)) (l .low0 (r .v1) (r .v0)) in
+    let is = l .is (r .v1) (r .v0) in
+    let other : costOf c (weight (r .v0) + 2 * weight (r .v1)) ≤ m .cost v = rw (h .low1, h .low0) at (l .least v (h .size)) in
+    record { size = h .size; cost = omega (arith, least, is, other, k .is); least = go }
+  where
+    under : (v1 v0 : Bool) → r .cost ≤ costOf c (weight v0 + 2 * weight v1)
+    under false false = k .least0
+    under false true = k .least1
+    under true false = k .least2
+    under true true = k .least3
+
+    le-by : (x y z : ℕ) → x ≤ y → y ≤ z → x ≤ z
+    le-by x y z p q = omega arith
+
+    go : (w : List Bool) → length w ≡ m .bits → r .cost ≤ m .cost w
+    go w e = le-by (r .cost) (costOf c (weight (bit w 0) + 2 * weight (bit w 1))) (m .cost w) (under (bit w 1) (bit w 0)) (l .least w e)

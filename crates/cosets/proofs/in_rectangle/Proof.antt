@@ -1,0 +1,38 @@
+use Rattle.cosets.proofs.Places.{rectangle}
+use native.Mathlib.Omega.{arith}
+use borrow.Author.Needs.{needs}
+use Rattle.cosets.proofs.in_rectangle.Statement.{statement}
+use Rattle.cosets.proofs.in_rectangle.Tie as tie
+use Rattle.cosets.proofs.in_rectangle.Reads as reads
+use Rattle.cosets.proofs.in_rectangle.Lts as lts
+use Rattle.cosets.proofs.place.Reads as place-reads
+use Rattle.cosets.proofs.square_at.Reads as square-at-reads
+
+place-requires : tie.Need-place-requires
+place-requires c κs = search needs
+
+place-requires-2 : tie.Need-place-requires-2
+place-requires-2 c κs = search needs
+
+square-at-requires : tie.Need-square-at-requires
+square-at-requires c κs = (omega arith, omega (arith, c .before .place .ensures .within .right))
+
+square-at-requires-2 : tie.Need-square-at-requires-2
+square-at-requires-2 c κs = (omega arith, omega (arith, c .before .place2 .ensures .within .right))
+
+add-t11 : tie.Need-add-t11
+add-t11 c = omega (arith, c .before .square-at .ensures .1, c .square-at2 .ensures .1)
+
+returns : tie.Need-returns
+returns c = rectangle _ _ _ _ _ _ _ _ _ _ (c .before .before .before .place .ensures) (c .before .before .place2 .ensures) (c .before .square-at .ensures .0) (c .square-at2 .ensures .0)
+
+pub in-rectangle-spec : {M : Type 1} → statement M
+in-rectangle-spec =
+    tie.close
+    (tie.spec
+    place-requires
+    place-requires-2
+    square-at-requires
+    square-at-requires-2
+    add-t11
+    returns)

@@ -1,0 +1,23 @@
+use mathlib.Core.Path.{refl}
+use Rattle.cosets.proofs.Labels.{coset-of}
+use borrow.Author.Needs.{needs}
+use Rattle.cosets.proofs.least_coset.Statement.{statement}
+use Rattle.cosets.proofs.least_coset.Tie as tie
+use Rattle.cosets.proofs.least_coset.Reads as reads
+use Rattle.cosets.proofs.least_coset.Lts as lts
+use Rattle.cosets.proofs.nearer.Reads as nearer-reads
+
+nearer-requires : tie.Need-nearer-requires
+nearer-requires c κs = search needs
+
+nearer-requires-2 : tie.Need-nearer-requires-2
+nearer-requires-2 c κs = search needs
+
+nearer-requires-3 : tie.Need-nearer-requires-3
+nearer-requires-3 c κs = search needs
+
+returns : tie.Need-returns
+returns c = coset-of _ _ _ _ _ _ _ _ refl refl refl refl (c .before .before .nearer .ensures) (c .before .nearer2 .ensures) (c .nearer3 .ensures)
+
+pub least-coset-spec : {M : Type 1} → statement M
+least-coset-spec = tie.close (tie.spec nearer-requires nearer-requires-2 nearer-requires-3 returns)

@@ -1,0 +1,62 @@
+-- The nearest point of a coset: among the labels of b bits with given two lowest bits.
+use Prim.Native.Nat.{ℕ, suc, _+_, _*_, _≤_}
+use mathlib.Core.Bool.{Bool, true, false}
+use mathlib.Core.List.{List, [], _∷_}
+use mathlib.Core.Path.{_≡_}
+use lib.IntN.{ℤ, pos, negsuc}
+use lib.ListN.{length}
+use Rattle.g9932.specs.Bits.{bit}
+use Rattle.g9932.specs.Sizes.{Point}
+use Rattle.g9932.specs.Points.{pointOf}
+use Rattle.g9932.specs.Nearest.{squaredDistance}
+use Rattle.cosets.specs.declared.Costs.{Costs}
+use Rattle.cosets.specs.declared.OneCosts.{OneCosts}
+use Rattle.cosets.specs.declared.Received.{Received}
+
+-- a coordinate raised by 1,024 is n
+abbrev pub Raised : ℤ → ℕ → Type 0
+Raised (pos a) n = n ≡ a + 1024
+Raised (negsuc a) n = n + suc a ≡ 1024
+
+pub record RaisedPoint (p : Point) (x y : ℕ) : Type 0 where
+  pub rx : Raised (p .px) x
+  pub ry : Raised (p .py) y
+
+-- a received point that the code holds raised
+pub record Bounded (s : Received) : Type 0 where
+  pub xLeast : 1 ≤ s .x
+  pub xMost : s .x ≤ 2047
+  pub yLeast : 1 ≤ s .y
+  pub yMost : s .y ≤ 2047
+
+pub record IsReceived (p : Point) (s : Received) : Type 0 where
+  pub raised : RaisedPoint p (s .x) (s .y)
+  pub bounded : Bounded s
+
+-- (x, y), raised, is a point of a label with the lowest bits v1 v0, at the squared distance d from p, and no such label's point is nearer
+pub record Nearest (b : ℕ) (v1 v0 : Bool) (p : Point) (x y d : ℕ) : Type 0 where
+  pub label : List Bool
+  pub size : length label ≡ b
+  pub low1 : bit label 1 ≡ v1
+  pub low0 : bit label 0 ≡ v0
+  pub at : RaisedPoint (pointOf b label) x y
+  pub cost : squaredDistance p (pointOf b label) ≡ d
+  pub least : (w : List Bool) → length w ≡ b → bit w 1 ≡ v1 → bit w 0 ≡ v0 → d ≤ squaredDistance p (pointOf b w)
+
+-- the least squared distance of a coset
+pub record CosetCost (b : ℕ) (v1 v0 : Bool) (p : Point) (d : ℕ) : Type 0 where
+  pub x : ℕ
+  pub y : ℕ
+  pub near : Nearest b v1 v0 p x y d
+
+-- by the number (v1 v0)
+pub record CostsOf (b : ℕ) (p : Point) (r : Costs) : Type 0 where
+  pub is0 : CosetCost b false false p (r .c0)
+  pub is1 : CosetCost b false true p (r .c1)
+  pub is2 : CosetCost b true false p (r .c2)
+  pub is3 : CosetCost b true true p (r .c3)
+
+-- the squared distances of the two points of a 1-bit tone
+pub record OneCostsOf (p : Point) (r : OneCosts) : Type 0 where
+  pub is0 : squaredDistance p (pointOf 1 (false ∷ [])) ≡ r .d0
+  pub is1 : squaredDistance p (pointOf 1 (true ∷ [])) ≡ r .d1
