@@ -182,15 +182,18 @@ coset-of c a b d e m n r ea eb ed ee hm hn hr =
     by : {k : Coset} → r ≡ k → k .cost ≡ costOf c (weight (k .v0) + 2 * weight (k .v1)) → r .cost ≡ costOf c (weight (r .v0) + 2 * weight (r .v1))
     by q h = subst (λ (z : Coset). z .cost ≡ costOf c (weight (z .v0) + 2 * weight (z .v1))) (sym q) h
 
+-- what a nearest label of a coset costs
+pub coset-cost : {m : Meter} {c : ℕ → ℕ} {v1 v0 : Bool} {v : List Bool} → LeastOf m c → CosetLabel m v1 v0 v → m .cost v ≡ c (weight v0 + 2 * weight v1)
+coset-cost {m = m} {c = c} {v1 = v1} {v0 = v0} {v = v} l h =
+    let least = h .least (l .label v1 v0) (l .size v1 v0) (l .low1 v1 v0) (l .low0 v1 v0) in
+    let other : c (weight v0 + 2 * weight v1) ≤ m .cost v = rw (h .low1, h .low0) at (l .least v (h .size)) in
+    omega (arith, least, l .is v1 v0, other)
+
 -- the nearest label of the nearest coset
 pub best-label : {m : Meter} {c : Costs} {r : Coset} {v : List Bool} → LeastOf m (costOf c) → LeastCoset c r → CosetLabel m (r .v1) (r .v0) v → BestLabel m v (r .cost)
 unfolding weight
 best-label {m = m} {c = c} {r = r} {v = v} l k h =
-    let u = l .label (r .v1) (r .v0) in
-    let least = h .least u (l .size (r .v1) (r .v0)) (l .low1 (r .v1) (r .v0)) (l .low0 (r .v1) (r .v0)) in
-    let is = l .is (r .v1) (r .v0) in
-    let other : costOf c (weight (r .v0) + 2 * weight (r .v1)) ≤ m .cost v = rw (h .low1, h .low0) at (l .least v (h .size)) in
-    record { size = h .size; cost = omega (arith, least, is, other, k .is); least = go }
+    record { size = h .size; cost = coset-cost l h ∙ sym (k .is); least = go }
   where
     under : (v1 v0 : Bool) → r .cost ≤ costOf c (weight v0 + 2 * weight v1)
     under false false = k .least0
