@@ -2,7 +2,7 @@
 use Prim.Native.Nat.{ℕ, _+_, _-_, _*_, _^_, _≤_, _<_}
 use mathlib.Core.Bool.{Bool, true}
 use mathlib.Core.List.{List, _++_, map}
-use mathlib.Core.Path.{_≡_, refl, sym, ap, _∙_}
+use mathlib.Core.Path.{_≡_, refl, sym, ap, subst, _∙_}
 use native.Mathlib.Omega.{arith}
 use lib.IntN.{ℤ}
 use lib.ListN.{length, take, getD, length-map, length-drop}
@@ -33,7 +33,7 @@ use Rattle.g9932.specs.declared.Refusal.the-variants.{Offgrid, Monitor}
 use Rattle.mapper.specs.Reading.{DemapAllNeeds, LabelIs, DemapsPoints, CheckNeeds, passesFiller, wrongFiller, ChecksFiller, JoinNeeds, CollectNeeds, CollectsLabels}
 use Rattle.mapper.specs.declared.read.FillerRead.{FillerRead}
 use Rattle.plan.specs.Plan.{isDrawing}
-use Rattle.passes.specs.ReadSymbol.{ReadPlacesSupposes, ReadsPlaces, HeldFits, ReadFrameSupposes, ReadsFrame}
+use Rattle.passes.specs.ReadSymbol.{ReadPlacesSupposes, ReadsPlaces, HeldFits, FrameLabels, ReadFrameSupposes, ReadsFrame}
 use Rattle.passes.specs.declared.read.PlacesRead.the-variants.{Refused, Done}
 use Rattle.decoder.specs.Reading.{ReadLabelNeeds as TrellisNeeds, ReadsLabels}
 use Rattle.decoder.specs.declared.PairsRead.{PairsRead}
@@ -120,6 +120,78 @@ module _ {cs : List Class} {from : ℕ} {es ps ds layouts labels : List ℕ} {xs
 
 -- ---- the frame
 
+-- of labels at their entries' places
+module _ {m : Mode} {start : ℕ} {es ps ls held : List ℕ} (w : FrameLabels m start es ps ls held) where
+  abbrev d : List Bool
+  d = bitsOfLabels es (labelsAt ps ls)
+
+  pub collect-needs : m ≡ Uncoded → CollectNeeds (emptyWriter start) es ps ls held
+  collect-needs e =
+      let r : HeldFits Uncoded start es (length held) = rw e at (w .heldFits) in
+      record {
+        same = w .placed .placesLength;
+        counts = r .0;
+        places = w .placed .rising;
+        within = w .within;
+        bytes = omega (arith, r .1);
+        waits = empty-waits start (w .startMost);
+      }
+
+  pub trellis-needs : m ≡ Coded → Placed es ps ls × TrellisNeeds (emptyWriter start) es (labelsAt ps ls) held
+  trellis-needs e =
+      let r : HeldFits Coded start es (length held) = rw e at (w .heldFits) in
+      let t : TrellisNeeds (emptyWriter start) es (labelsAt ps ls) held =
+      record {
+        wide = r .0;
+        enough = r .1;
+        many = r .2;
+        within = w .within;
+        bytes = omega (arith, r .3);
+        waits = empty-waits start (w .startMost);
+      } in
+      (w .placed, t)
+
+  -- uncoded, the frame's bits are the labels'
+  module _ (e : m ≡ Uncoded) {v : BitWriter} {mid : List ℕ} (c : CollectsLabels (emptyWriter start) es ps ls held v mid) (same : length mid ≡ length held) where
+    -- the last byte is there
+    pub collect-fits : v .next < length mid
+    collect-fits =
+        let r : HeldFits Uncoded start es (length held) = rw e at (w .heldFits) in
+        omega (arith, c .counted, r .1)
+
+    pub collected : {after : List ℕ} → length after ≡ length mid → unpack (take (v .next + 1) after) ≡ written v mid ++ bits (8 - v .fill) 0 → ReadsFrame m start es d Nothing after
+    unfolding readingOf
+    collected {after} k f =
+        let h = collect-fits in
+        rw e
+        (record {
+          brokenIs = refl;
+          framed = λ _. finished v mid after (omega arith) (omega arith) (c .waits) f start d (c .whole ∙ rw (written-empty start held));
+        })
+
+  -- coded, the code is read
+  module _ (e : m ≡ Coded) {p : PairsRead} {mid : List ℕ} (c : ReadsLabels (emptyWriter start) es (labelsAt ps ls) held p mid) where
+    pub broken-found : {k : ℕ} (after : List ℕ) → p .broken ≡ At k → ReadsFrame m start es d (At k) after
+    broken-found after b = rw e (record { brokenIs = sym b ∙ c .broken; framed = λ z. absurd (found-not z) })
+
+    module _ (b : p .broken ≡ Nothing) (same : length mid ≡ length held) where
+      -- the last byte is there
+      pub read-fits : p .writer .next < length mid
+      read-fits =
+          let r : HeldFits Coded start es (length held) = rw e at (w .heldFits) in
+          omega (arith, c .counted b, r .3)
+
+      pub none-broken : {after : List ℕ} → length after ≡ length mid → unpack (take (p .writer .next + 1) after) ≡ written (p .writer) mid ++ bits (8 - p .writer .fill) 0
+          → ReadsFrame m start es d Nothing after
+      none-broken {after} k f =
+          let h = read-fits in
+          rw e
+          (record {
+            brokenIs = sym b ∙ c .broken;
+            framed = λ _. finished (p .writer) mid after (omega arith) (omega arith) (c .waits) f start (frameIn (readingOf Coded (pairsOf es) d)) (c .whole b ∙ rw (written-empty start held));
+          })
+
+-- of labels by place, joined where two tones share one
 module _ {m : Mode} {start : ℕ} {cs : List Class} {d : List Bool} {from : ℕ} {es ps ds layouts labels held : List ℕ} (w : ReadFrameSupposes m start cs d from es ps ds layouts labels held) where
   abbrev small : (k : ℕ) → k < length cs → 1 ≤ entry (map load cs) k → entry labels k < 2 ^ entry (map load cs) k
   small = w .labelled .small
@@ -139,77 +211,14 @@ module _ {m : Mode} {start : ℕ} {cs : List Class} {d : List Bool} {from : ℕ}
             rw (getD-drop from labels (i - from) 0, k) at (ones-small (w .plan) labels n small (i - from) (omega (arith, length-drop from labels)));
       }
 
-  placed : Placed es ps ls
-  placed = plan-placed (w .plan) ls (joined-count (w .plan) labels n)
-
-  bits-are : bitsOfLabels es (labelsAt ps ls) ≡ d
-  bits-are = by-entry (w .plan) labels n small ∙ w .labelled .bitsAre
-
-  pub collect-needs : m ≡ Uncoded → CollectNeeds (emptyWriter start) es ps ls held
-  collect-needs e =
-      let r : HeldFits Uncoded start es (length held) = rw e at (w .heldFits) in
+  pub joined-labels : FrameLabels m start es ps ls held
+  joined-labels =
       record {
-        same = placed .placesLength;
-        counts = r .0;
-        places = placed .rising;
+        placed = plan-placed (w .plan) ls (joined-count (w .plan) labels n);
         within = joined-within (w .plan) labels n small;
-        bytes = omega (arith, r .1);
-        waits = empty-waits start (w .startMost);
+        startMost = w .startMost;
+        heldFits = w .heldFits;
       }
 
-  pub trellis-needs : m ≡ Coded → Placed es ps ls × TrellisNeeds (emptyWriter start) es (labelsAt ps ls) held
-  trellis-needs e =
-      let r : HeldFits Coded start es (length held) = rw e at (w .heldFits) in
-      let t : TrellisNeeds (emptyWriter start) es (labelsAt ps ls) held =
-      record {
-        wide = r .0;
-        enough = r .1;
-        many = r .2;
-        within = joined-within (w .plan) labels n small;
-        bytes = omega (arith, r .3);
-        waits = empty-waits start (w .startMost);
-      } in
-      (placed, t)
-
-  -- uncoded, the frame's bits are the labels'
-  module _ (e : m ≡ Uncoded) {v : BitWriter} {mid : List ℕ} (c : CollectsLabels (emptyWriter start) es ps ls held v mid) (same : length mid ≡ length held) where
-    -- the last byte is there
-    pub collect-fits : v .next < length mid
-    collect-fits =
-        let r : HeldFits Uncoded start es (length held) = rw e at (w .heldFits) in
-        omega (arith, c .counted, r .1)
-
-    pub collected : {after : List ℕ} → length after ≡ length mid → unpack (take (v .next + 1) after) ≡ written v mid ++ bits (8 - v .fill) 0 → ReadsFrame m start es d Nothing after
-    unfolding readingOf
-    collected {after} k f =
-        let h = collect-fits in
-        rw e
-        (record {
-          brokenIs = refl;
-          framed = λ _. finished v mid after (omega arith) (omega arith) (c .waits) f start d (c .whole ∙ rw (written-empty start held, bits-are));
-        })
-
-  -- coded, the code is read
-  module _ (e : m ≡ Coded) {p : PairsRead} {mid : List ℕ} (c : ReadsLabels (emptyWriter start) es (labelsAt ps ls) held p mid) where
-    reading-is : readingOf Coded (pairsOf es) (bitsOfLabels es (labelsAt ps ls)) ≡ readingOf Coded (pairsOf es) d
-    reading-is = rw bits-are
-
-    pub broken-found : {k : ℕ} (after : List ℕ) → p .broken ≡ At k → ReadsFrame m start es d (At k) after
-    broken-found after b = rw e (record { brokenIs = sym b ∙ c .broken ∙ ap breakIn reading-is; framed = λ z. absurd (found-not z) })
-
-    module _ (b : p .broken ≡ Nothing) (same : length mid ≡ length held) where
-      -- the last byte is there
-      pub read-fits : p .writer .next < length mid
-      read-fits =
-          let r : HeldFits Coded start es (length held) = rw e at (w .heldFits) in
-          omega (arith, c .counted b, r .3)
-
-      pub none-broken : {after : List ℕ} → length after ≡ length mid → unpack (take (p .writer .next + 1) after) ≡ written (p .writer) mid ++ bits (8 - p .writer .fill) 0
-          → ReadsFrame m start es d Nothing after
-      none-broken {after} k f =
-          let h = read-fits in
-          rw e
-          (record {
-            brokenIs = sym b ∙ c .broken ∙ ap breakIn reading-is;
-            framed = λ _. finished (p .writer) mid after (omega arith) (omega arith) (c .waits) f start (frameIn (readingOf Coded (pairsOf es) d)) (c .whole b ∙ rw (written-empty start held, reading-is));
-          })
+  pub joined-reads : {b : Found} {after : List ℕ} → ReadsFrame m start es (bitsOfLabels es (labelsAt ps ls)) b after → ReadsFrame m start es d b after
+  joined-reads {b} {after} r = subst (λ (e : List Bool). ReadsFrame m start es e b after) (by-entry (w .plan) labels n small ∙ w .labelled .bitsAre) r

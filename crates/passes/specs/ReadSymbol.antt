@@ -5,7 +5,7 @@ use mathlib.Core.List.{List, map}
 use mathlib.Core.Path.{_≡_}
 use lib.IntN.{ℤ}
 use lib.ListN.{length, take}
-use Rattle.frame.specs.Labels.{bitsOfLabels}
+use Rattle.frame.specs.Labels.{bitsOfLabels, Within, labelsAt, Placed}
 use Rattle.frame.specs.Written.{Framed}
 use Rattle.g9932.specs.Answers.{onDone, reportOf, reportBy, breakIn, frameIn, placesVerdict, pointsVerdict}
 use Rattle.g9932.specs.Filler.{registerAfter}
@@ -70,6 +70,17 @@ abbrev pub HeldFits : Mode → ℕ → List ℕ → ℕ → Type 0
 HeldFits Uncoded start es n = ((k : ℕ) → entry es k ≤ 15) × (start + sum es + 64 ≤ 8 * n)
 HeldFits Coded start es n = Wide es × (4 ≤ length es) × (length es ≤ mostTones) × (start + takenTotal (pairsOf es) + 64 ≤ 8 * n)
 
+-- each entry has its label at its place
+pub record FrameLabels (m : Mode) (start : ℕ) (es ps labels held : List ℕ) : Type 0 where
+  pub placed : Placed es ps labels
+  pub within : Within es (labelsAt ps labels) (length es)
+  pub startMost : start ≤ 7
+  pub heldFits : HeldFits m start es (length held)
+
+pub record ReadsFrame (m : Mode) (start : ℕ) (es : List ℕ) (d : List Bool) (broken : Found) (after : List ℕ) : Type 0 where
+  pub brokenIs : broken ≡ breakIn (readingOf m (pairsOf es) d)
+  pub framed : broken ≡ Nothing → Framed start (frameIn (readingOf m (pairsOf es) d)) after
+
 -- the labels are those of some classes and their bits
 pub record ReadFrameSupposes (m : Mode) (start : ℕ) (cs : List Class) (d : List Bool) (from : ℕ) (es ps ds layouts labels held : List ℕ) : Type 0 where
   pub plan : PlanOf cs from es ps ds layouts
@@ -80,10 +91,6 @@ pub record ReadFrameSupposes (m : Mode) (start : ℕ) (cs : List Class) (d : Lis
 abbrev pub ReadFrameNeeds : Mode → ℕ → ℕ → List ℕ → List ℕ → List ℕ → List ℕ → Type 0
 ReadFrameNeeds m start from es ps labels held =
     (cs : List Class) × (d : List Bool) × (ds : List ℕ) × (layouts : List ℕ) × ReadFrameSupposes m start cs d from es ps ds layouts labels held
-
-pub record ReadsFrame (m : Mode) (start : ℕ) (es : List ℕ) (d : List Bool) (broken : Found) (after : List ℕ) : Type 0 where
-  pub brokenIs : broken ≡ breakIn (readingOf m (pairsOf es) d)
-  pub framed : broken ≡ Nothing → Framed start (frameIn (readingOf m (pairsOf es) d)) after
 
 -- whatever classes and bits they are
 abbrev pub ReadsAnyFrame : Mode → ℕ → ℕ → List ℕ → List ℕ → List ℕ → List ℕ → Found → List ℕ → Type 0

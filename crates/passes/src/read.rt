@@ -1,5 +1,6 @@
 // Reading a symbol.
-ghost use Rattle.passes.specs.ReadSymbol.{ReadPlacesNeeds, ReadsAnyPlaces, ReadFrameNeeds, ReadsAnyFrame, ReadSymbolNeeds, ReadsAnySymbol};
+ghost use Rattle.frame.specs.Labels.{bitsOfLabels, labelsAt};
+ghost use Rattle.passes.specs.ReadSymbol.{ReadPlacesNeeds, ReadsAnyPlaces, FrameLabels, ReadsFrame, ReadFrameNeeds, ReadsAnyFrame, ReadSymbolNeeds, ReadsAnySymbol};
 use frame::BitWriter;
 use g9932::Answer;
 use g9932::Found;
@@ -39,21 +40,19 @@ fn read_places(
     PlacesRead::Done(f.register)
 }
 
-// The frame of labels by place, from bit `start` on and with zeros around it, in the first bytes of a buffer; or else the first pair that
-// breaks the code. From place `shared_from` on two tones share a label.
-fn read_frame(
+// The frame of labels at their entries' places, from bit `start` on and with zeros around it, in the first bytes of a buffer; or else the
+// first pair that breaks the code. Called by proved code only.
+pub fn frame_of_labels(
     mode: Mode,
     start: u8,
-    shared_from: Place,
     entries: &[u8],
     places: &[u16],
-    labels: &mut [u16],
+    labels: &[u16],
     held: &mut [u8],
 ) -> Found
-    requires { ⌜ ReadFrameNeeds mode start («shared_from» .0) (now entries) (now places) (now labels) (now held) ⌝ }
-    ensures { λ r. ⌜ ReadsAnyFrame mode start («shared_from» .0) (now (entries .entry)) (now (places .entry)) (now (labels .entry)) (now (held .entry)) r (now (held .exit)) ⌝ }
+    requires { ⌜ FrameLabels mode start (now entries) (now places) (now labels) (now held) ⌝ }
+    ensures { λ r. ⌜ ReadsFrame mode start (now (entries .entry)) (bitsOfLabels (now (entries .entry)) (labelsAt (now (places .entry)) (now (labels .entry)))) r (now (held .exit)) ⌝ }
 {
-    mapper::read::join_shared(labels, shared_from);
     let first = BitWriter::starting_at(start);
     match mode {
         Mode::Uncoded => {
@@ -72,6 +71,23 @@ fn read_frame(
             Found::Nothing
         }
     }
+}
+
+// The frame of labels by place. From place `shared_from` on two tones share a label.
+fn read_frame(
+    mode: Mode,
+    start: u8,
+    shared_from: Place,
+    entries: &[u8],
+    places: &[u16],
+    labels: &mut [u16],
+    held: &mut [u8],
+) -> Found
+    requires { ⌜ ReadFrameNeeds mode start («shared_from» .0) (now entries) (now places) (now labels) (now held) ⌝ }
+    ensures { λ r. ⌜ ReadsAnyFrame mode start («shared_from» .0) (now (entries .entry)) (now (places .entry)) (now (labels .entry)) (now (held .entry)) r (now (held .exit)) ⌝ }
+{
+    mapper::read::join_shared(labels, shared_from);
+    frame_of_labels(mode, start, entries, places, labels, held)
 }
 
 // Refusals 13 to 15 of the points of a symbol of n tones, by the plan of its tables in four arrays; or else writes the frame. The
