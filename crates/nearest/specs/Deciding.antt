@@ -4,7 +4,7 @@ use mathlib.Core.Bool.{Bool, true, false}
 use mathlib.Core.List.{List, [], _∷_, _++_}
 use mathlib.Core.Path.{_≡_}
 use lib.IntN.{ℤ}
-use lib.ListN.{length, take, drop, getD}
+use lib.ListN.{length, set}
 use Rattle.cosets.specs.Meters.{Meter, CosetLabel, BestLabel}
 use Rattle.frame.specs.Labels.{bitsOfLabels, Within, labelsAt}
 use Rattle.g9932.specs.Bits.{bits}
@@ -89,6 +89,12 @@ pub record CosetNumber (m : Meter) (v1 v0 : Bool) (l : ℕ) : Type 0 where
   pub small : l < 2 ^ m .bits
   pub nearest : CosetLabel m v1 v0 (bits (m .bits) l)
 
+-- such a label put at a place
+pub record PutsNearest (m : Meter) (v1 v0 : Bool) (p : ℕ) (labels after : List ℕ) : Type 0 where
+  pub label : ℕ
+  pub is : after ≡ set labels p label
+  pub nearest : CosetNumber m v1 v0 label
+
 -- the labels of the first n entries are nearest ones, with the lowest bits that the survivors give
 pub record Traced (from : ℕ) (es ps : List ℕ) (q : List Point) (σ labels : List ℕ) (n : ℕ) : Type 0 where
   pub decided : (k : ℕ) → k < n → CosetNumber (meterAt from q es ps k) (upperAt σ (loneIn es + k)) (lowerAt σ (loneIn es + k)) (entry labels (entry ps k))
@@ -107,6 +113,6 @@ pub record ToneNeeds (es ps : List ℕ) (xs ys : List ℤ) (labels : List ℕ) :
   pub labelsLength : length labels ≡ length xs
 
 -- the labels at the entries' places are nearest, within their bits, and n is what they cost
-pub record DecidesTones (es ps : List ℕ) (q : List Point) (labels : List ℕ) (n : ℕ) : Type 0 where
+pub record DecidesTones (from : ℕ) (es ps : List ℕ) (q : List Point) (labels : List ℕ) (n : ℕ) : Type 0 where
   pub within : Within es (labelsAt ps labels) (length es)
-  pub best : BestAll (metersIn (length q) q es ps) (bitsOfLabels es (labelsAt ps labels)) n
+  pub best : BestAll (metersIn from q es ps) (bitsOfLabels es (labelsAt ps labels)) n

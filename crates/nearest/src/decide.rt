@@ -4,14 +4,16 @@ ghost use Prim.Native.Nat.{_^_, _<_};
 ghost use lib.ListN.{length, drop, getD};
 ghost use Rattle.cosets.specs.Meters.{costOf, LeastOf};
 ghost use Rattle.cosets.specs.Nearest.{IsReceived};
-ghost use Rattle.g9932.specs.Sizes.{points, origin};
+ghost use Rattle.g9932.specs.Sizes.{entry, points, origin};
 ghost use Rattle.nearest.specs.Entries.{metersIn, meterAt, PointNeeds, Decidable};
-ghost use Rattle.nearest.specs.Deciding.{loneIn, pairMeters, PathNeeds, Selected, LeastPath, CosetNumber, TraceNeeds, Traced, ToneNeeds, DecidesTones};
+ghost use Rattle.nearest.specs.Deciding.{loneIn, pairMeters, PathNeeds, Selected, LeastPath, CosetNumber, PutsNearest, TraceNeeds, Traced, ToneNeeds, DecidesTones};
+ghost use Rattle.paths.specs.Survivors.{stateAt};
 use cosets::Costs;
 use cosets::Received;
 use frame::by_place::place_at;
 use frame::by_place::put_label;
 use g9932::Place;
+use g9932::TrellisState;
 use trellis::weight;
 use trellis::zero_state;
 
@@ -36,12 +38,12 @@ fn entry_costs(
     requires { ⌜ Decidable 2 («shared_from» .0) (now entries) (now places) (now xs) (now ys) × (k < length (now entries)) ⌝ }
     ensures { λ r. ⌜ LeastOf (meterAt («shared_from» .0) (points (now (xs .entry)) (now (ys .entry))) (now (entries .entry)) (now (places .entry)) k) (costOf r) ⌝ }
 {
-    let at = places[k] as usize;
-    let s = received_at(xs, ys, Place(at));
-    if at < shared_from.0 {
+    let p = place_at(places, k);
+    let s = received_at(xs, ys, p);
+    if p.0 < shared_from.0 {
         return cosets::tone_costs(entries[k], s);
     }
-    let t = received_at(xs, ys, Place(at + 1));
+    let t = received_at(xs, ys, Place(p.0 + 1));
     cosets::shared_costs(s, t)
 }
 
@@ -59,9 +61,9 @@ fn entry_label(
     requires { ⌜ Decidable 2 («shared_from» .0) (now entries) (now places) (now xs) (now ys) × (k < length (now entries)) ⌝ }
     ensures { λ r. ⌜ CosetNumber (meterAt («shared_from» .0) (points (now (xs .entry)) (now (ys .entry))) (now (entries .entry)) (now (places .entry)) k) v1 v0 r × (r < 2 ^ 15) ⌝ }
 {
-    let at = places[k] as usize;
-    if at < shared_from.0 {
-        let s = received_at(xs, ys, Place(at));
+    let p = place_at(places, k);
+    if p.0 < shared_from.0 {
+        let s = received_at(xs, ys, p);
         return cosets::coset_label(entries[k], s, v1, v0);
     }
     weight(v0) + 2 * weight(v1)
@@ -115,7 +117,58 @@ pub fn least_path(
     metric[0] / 8
 }
 
-// The trace back: the nearest labels with the lowest bits that the survivors give from the zero state. A first pair with x = 0 has no v.
+// Puts the nearest label of an entry with given lowest bits at its place.
+fn put_nearest(
+    entries: &[u8],
+    places: &[u16],
+    shared_from: Place,
+    xs: &[i16],
+    ys: &[i16],
+    k: usize,
+    v1: bool,
+    v0: bool,
+    labels: &mut [u16],
+)
+    requires { ⌜ Decidable 2 («shared_from» .0) (now entries) (now places) (now xs) (now ys) × (k < length (now entries)) × (length (now labels) ≡ length (now xs)) ⌝ }
+    ensures { λ _. ⌜ PutsNearest (meterAt («shared_from» .0) (points (now (xs .entry)) (now (ys .entry))) (now (entries .entry)) (now (places .entry)) k) v1 v0 (entry (now (places .entry)) k) (now (labels .entry)) (now (labels .exit)) ⌝ }
+{
+    let l = entry_label(entries, places, shared_from, xs, ys, k, v1, v0);
+    put_label(labels, place_at(places, k), l as u16);
+}
+
+// The trace back of a first pair with x = 0, if there is one: it has no v. The state before the pairs with x at least 2.
+fn trace_first(
+    entries: &[u8],
+    places: &[u16],
+    shared_from: Place,
+    xs: &[i16],
+    ys: &[i16],
+    survivors: &[u8],
+    labels: &mut [u16],
+) -> TrellisState
+    requires { ⌜ TraceNeeds («shared_from» .0) (now entries) (now places) (now xs) (now ys) (now survivors) (now labels) ⌝ }
+    ensures { λ r. ⌜ (r ≡ stateAt (now (survivors .entry)) (loneIn (now (entries .entry)))) × Traced («shared_from» .0) (now (entries .entry)) (now (places .entry)) (points (now (xs .entry)) (now (ys .entry))) (now (survivors .entry)) (now (labels .exit)) (loneIn (now (entries .entry))) ⌝ }
+{
+    if entries.len() % 2 == 0 {
+        return zero_state();
+    }
+    let t = paths::follow_pair(survivors, 0, zero_state());
+    let low = t.low;
+    put_nearest(
+        entries,
+        places,
+        shared_from,
+        xs,
+        ys,
+        0,
+        low.w1,
+        low.w0,
+        labels,
+    );
+    t.next
+}
+
+// The trace back: the nearest labels with the lowest bits that the survivors give from the zero state.
 pub fn trace_labels(
     entries: &[u8],
     places: &[u16],
@@ -128,23 +181,36 @@ pub fn trace_labels(
     requires { ⌜ TraceNeeds («shared_from» .0) (now entries) (now places) (now xs) (now ys) (now survivors) (now labels) ⌝ }
     ensures { λ _. ⌜ Traced («shared_from» .0) (now (entries .entry)) (now (places .entry)) (points (now (xs .entry)) (now (ys .entry))) (now (survivors .entry)) (now (labels .exit)) (length (now (entries .entry))) ⌝ }
 {
+    let mut state = trace_first(entries, places, shared_from, xs, ys, survivors, labels);
     let lone = entries.len() % 2;
-    let n = (entries.len() + 1) / 2;
-    let mut state = zero_state();
-    let mut j = 0;
-    while j < n {
-        let t = paths::follow_pair(survivors, j, state);
+    let mut k = lone;
+    while k < entries.len() {
+        let t = paths::follow_pair(survivors, (k + lone) / 2, state);
         let low = t.low;
-        if lone <= 2 * j {
-            let k = 2 * j - lone;
-            let v = entry_label(entries, places, shared_from, xs, ys, k, low.v1, low.v0);
-            put_label(labels, place_at(places, k), v as u16);
-        }
-        let k = 2 * j + 1 - lone;
-        let w = entry_label(entries, places, shared_from, xs, ys, k, low.w1, low.w0);
-        put_label(labels, place_at(places, k), w as u16);
+        put_nearest(
+            entries,
+            places,
+            shared_from,
+            xs,
+            ys,
+            k,
+            low.v1,
+            low.v0,
+            labels,
+        );
+        put_nearest(
+            entries,
+            places,
+            shared_from,
+            xs,
+            ys,
+            k + 1,
+            low.w1,
+            low.w0,
+            labels,
+        );
         state = t.next;
-        j += 1;
+        k += 2;
     }
 }
 
@@ -157,7 +223,7 @@ pub fn nearest_labels(
     labels: &mut [u16],
 ) -> u64
     requires { ⌜ ToneNeeds (now entries) (now places) (now xs) (now ys) (now labels) ⌝ }
-    ensures { λ r. ⌜ DecidesTones (now (entries .entry)) (now (places .entry)) (points (now (xs .entry)) (now (ys .entry))) (now (labels .exit)) r ⌝ }
+    ensures { λ r. ⌜ DecidesTones (length (now (xs .entry))) (now (entries .entry)) (now (places .entry)) (points (now (xs .entry)) (now (ys .entry))) (now (labels .exit)) r ⌝ }
 {
     let mut total: u64 = 0;
     let mut k = entries.len();

@@ -47,18 +47,22 @@ in-rectangle-requires-4 c κs = search needs
 returns-3 : tie.Need-returns-3
 returns-3 c =
     let z = c .before .before .before .before .before .before .before .before .before .before .pre in (
-    second-nearest _ _ _ _ _ _ _ (c .before .before .before .before .in-rectangle3 .result) _ (z .0) (z .1) (c .before .before .before .before .before .before .before .if1 .left) (c .before .before .before .before .before .before .before .before .before .weight .ensures .0) (c .before .before .before .before .before .before .before .before .weight2 .ensures .0)
-    (rw (c .before .before .before .before .before .before .inner .ensures .0, c .before .before .before .before .before .outer .ensures .0) at (c .before .before .before .before .in-rectangle3 .ensures))
-    (rw (c .before .before .before .before .before .before .inner .ensures .0, c .before .before .before .before .before .outer .ensures .0) at (c .before .before .before .in-rectangle4 .ensures)) (le-of-lt (c .if3 .taken)),
-    omega (arith, c .before .before .before .in-rectangle4 .ensures .withinX .right, c .before .before .before .before .before .outer .ensures .2), omega (arith, c .before .before .before .in-rectangle4 .ensures .withinY .right, c .before .before .before .before .before .before .inner .ensures .2))
+      second-nearest _ _ _ _ _ _ _ (c .before .before .before .before .in-rectangle3 .result) _ (z .0) (z .1) (c .before .before .before .before .before .before .before .if1 .left) (c .before .before .before .before .before .before .before .before .before .weight .ensures .0) (c .before .before .before .before .before .before .before .before .weight2 .ensures .0)
+          (rw (c .before .before .before .before .before .before .inner .ensures .0, c .before .before .before .before .before .outer .ensures .0) at (c .before .before .before .before .in-rectangle3 .ensures))
+          (rw (c .before .before .before .before .before .before .inner .ensures .0, c .before .before .before .before .before .outer .ensures .0) at (c .before .before .before .in-rectangle4 .ensures)) (le-of-lt (c .if3 .taken)),
+      omega (arith, c .before .before .before .in-rectangle4 .ensures .withinX .right, c .before .before .before .before .before .outer .ensures .2),
+      omega (arith, c .before .before .before .in-rectangle4 .ensures .withinY .right, c .before .before .before .before .before .before .inner .ensures .2),
+    )
 
 returns-4 : tie.Need-returns-4
 returns-4 c =
     let z = c .before .before .before .before .before .before .before .before .before .before .pre in (
-    first-nearest _ _ _ _ _ _ _ _ (c .before .before .before .in-rectangle4 .result) (z .0) (z .1) (c .before .before .before .before .before .before .before .if1 .left) (c .before .before .before .before .before .before .before .before .before .weight .ensures .0) (c .before .before .before .before .before .before .before .before .weight2 .ensures .0)
-    (rw (c .before .before .before .before .before .before .inner .ensures .0, c .before .before .before .before .before .outer .ensures .0) at (c .before .before .before .before .in-rectangle3 .ensures))
-    (rw (c .before .before .before .before .before .before .inner .ensures .0, c .before .before .before .before .before .outer .ensures .0) at (c .before .before .before .in-rectangle4 .ensures)) (c .if3 .left),
-    omega (arith, c .before .before .before .before .in-rectangle3 .ensures .withinX .right, c .before .before .before .before .before .before .inner .ensures .2), omega (arith, c .before .before .before .before .in-rectangle3 .ensures .withinY .right, c .before .before .before .before .before .outer .ensures .2))
+      first-nearest _ _ _ _ _ _ _ _ (c .before .before .before .in-rectangle4 .result) (z .0) (z .1) (c .before .before .before .before .before .before .before .if1 .left) (c .before .before .before .before .before .before .before .before .before .weight .ensures .0) (c .before .before .before .before .before .before .before .before .weight2 .ensures .0)
+          (rw (c .before .before .before .before .before .before .inner .ensures .0, c .before .before .before .before .before .outer .ensures .0) at (c .before .before .before .before .in-rectangle3 .ensures))
+          (rw (c .before .before .before .before .before .before .inner .ensures .0, c .before .before .before .before .before .outer .ensures .0) at (c .before .before .before .in-rectangle4 .ensures)) (c .if3 .left),
+      omega (arith, c .before .before .before .before .in-rectangle3 .ensures .withinX .right, c .before .before .before .before .before .before .inner .ensures .2),
+      omega (arith, c .before .before .before .before .in-rectangle3 .ensures .withinY .right, c .before .before .before .before .before .outer .ensures .2),
+    )
 
 pub nearest-spec : {M : Type 1} → statement M
 nearest-spec =
