@@ -4,6 +4,7 @@
 // has a `requires`.
 ghost use mathlib.Core.Logic.{_⊎_};
 ghost use mathlib.Core.Path.{_≡_};
+ghost use lib.IntN.{pos, _+ℤ_};
 ghost use Prim.Native.Nat.{ℕ, _+_, _-_, _*_, _/_, _%_, _^_, _≤_, _<_, min, max};
 ghost use Rattle.g9932.specs.Bits.{weight as weightOf};
 ghost use Rattle.g9932.specs.Bits.{bits as lowestBits};
@@ -194,12 +195,19 @@ fn one_costs(x: u32, y: u32) -> OneCosts
     }
 }
 
+// A coordinate raised by 33,792, so that any is positive.
+pub fn lifted(z: i16) -> u32
+    ensures { λ r. ⌜ pos r ≡ z +ℤ pos 33792 ⌝ }
+{
+    (z as i32 + 33792) as u32
+}
+
 // A coordinate raised by 1,024.
 fn raise(z: i16) -> u32
     requires { ⌜ InRange z ⌝ }
     ensures { λ r. ⌜ Raised z r × (1 ≤ r) × (r ≤ 2047) ⌝ }
 {
-    (z as i32 + 33792) as u32 - 32768
+    lifted(z) - 32768
 }
 
 // A received point, its coordinates raised by 1,024.

@@ -1,3 +1,6 @@
 pub mod Deciding
 pub mod Selecting
 pub mod ToneLabels
+pub mod NearestInputs
+pub mod PlanMeters
+pub mod NearestPlan

@@ -53,7 +53,7 @@ length-take-most (suc n) [] = omega arith
 length-take-most (suc n) (a ∷ l) = let e = length-take-most n l in omega arith
 
 module _ (T : Tables) (ok : tableVerdict T .number ≡ 0) where
-  known : Accepted T
+  pub known : Accepted T
   known = accepted-tables T ok
 
   pub tones-most : length (T .tones) ≤ mostTones
@@ -77,7 +77,7 @@ module _ (T : Tables) (ok : tableVerdict T .number ≡ 0) where
     the-plan = plan-of T p (known .bitsMost) sharing-even is
 
     -- the entries, by the mode
-    entries-by : (m : Mode) → T .mode ≡ m → es ≡ filter (leb (leastOwn m)) (bitsOf (T .bits) (reorderedTones m (T .bits) (T .tones))) ++ replicate (sharing m (T .bits) (T .tones) / 2) 2
+    pub entries-by : (m : Mode) → T .mode ≡ m → es ≡ filter (leb (leastOwn m)) (bitsOf (T .bits) (reorderedTones m (T .bits) (T .tones))) ++ replicate (sharing m (T .bits) (T .tones) / 2) 2
     entries-by m e =
         is .entriesAre
         ∙ ap (λ (l : List ℕ). filter (leb (leastOwn (T .mode))) l ++ replicate (sharing (T .mode) (T .bits) (T .tones) / 2) 2) (load-classes (T .bits) (T .gains) (reorderedTones (T .mode) (T .bits) (T .tones)))
@@ -87,7 +87,7 @@ module _ (T : Tables) (ok : tableVerdict T .number ≡ 0) where
     unfolding reorderedTones
     plain-entries e = entries-by Uncoded e ∙ append-nil (filter (leb 1) (bitsOf (T .bits) (T .tones)))
 
-    plain-sum : T .mode ≡ Uncoded → sum es ≡ sizeOf T
+    pub plain-sum : T .mode ≡ Uncoded → sum es ≡ sizeOf T
     plain-sum e = ap sum (plain-entries e) ∙ sum-loaded (bitsOf (T .bits) (T .tones)) ∙ sym (size-uncoded T e)
 
     plain-most : T .mode ≡ Uncoded → (k : ℕ) → entry es k ≤ 15
@@ -101,7 +101,7 @@ module _ (T : Tables) (ok : tableVerdict T .number ≡ 0) where
     coded-is : T .mode ≡ Coded → es ≡ codedEntries (T .bits) (T .tones)
     coded-is e = entries-by Coded e
 
-    coded-pairs : T .mode ≡ Coded → pairsOf es ≡ pairsIn T
+    pub coded-pairs : T .mode ≡ Coded → pairsOf es ≡ pairsIn T
     coded-pairs e = ap pairsOf (coded-is e) ∙ sym (known .coded e .pairs)
 
     coded-taken : T .mode ≡ Coded → takenTotal (pairsOf es) ≡ sizeOf T

@@ -1,6 +1,6 @@
 // Encoding and reading one symbol: the order of the refusals, and the parts put together.
 mod encoding;
-mod reading;
+pub mod reading;
 
 ghost use Rattle.g9932.specs.Sizes.{tables};
 ghost use Rattle.g9932.specs.Answers.{Encodes, Reads};
