@@ -117,10 +117,10 @@ traced-none = record { decided = λ k l. absurd (omega arith) }
 
 -- ---- the lowest bits of an entry, by its place in its pair
 
-even-low : (σ : List ℕ) (t j : ℕ) → t % 2 ≡ 0 → t / 2 ≡ j → (upperAt σ t ≡ lowAt σ j .v1) × (lowerAt σ t ≡ lowAt σ j .v0)
+pub even-low : (σ : List ℕ) (t j : ℕ) → t % 2 ≡ 0 → t / 2 ≡ j → (upperAt σ t ≡ lowAt σ j .v1) × (lowerAt σ t ≡ lowAt σ j .v0)
 even-low σ t j e f = (rw (e, f) refl, rw (e, f) refl)
 
-odd-low : (σ : List ℕ) (t j : ℕ) → t % 2 ≡ 1 → t / 2 ≡ j → (upperAt σ t ≡ lowAt σ j .w1) × (lowerAt σ t ≡ lowAt σ j .w0)
+pub odd-low : (σ : List ℕ) (t j : ℕ) → t % 2 ≡ 1 → t / 2 ≡ j → (upperAt σ t ≡ lowAt σ j .w1) × (lowerAt σ t ≡ lowAt σ j .w0)
 odd-low σ t j e f = (rw (e, f) refl, rw (e, f) refl)
 
 -- ---- pair by pair

@@ -1,6 +1,9 @@
 pub mod Deciding
 pub mod Selecting
 pub mod ToneLabels
+pub mod PathLabels
 pub mod NearestInputs
 pub mod PlanMeters
 pub mod NearestPlan
+pub mod PlannedReading
+pub mod WholeNearest

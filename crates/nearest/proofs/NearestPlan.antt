@@ -8,10 +8,10 @@ use native.Mathlib.Omega.{arith}
 use borrow.Author.Tests.{ltb-false, leb-true}
 use lib.Dec.{leb}
 use lib.IntN.{ℤ, pos}
-use lib.ListN.{length, take, drop, getD, replicate, length-append, length-drop}
+use lib.ListN.{length, take, drop, getD, replicate, length-append, length-drop, length-map}
 use lib.Seq.{take-at, drop-at, length-take-le}
 use Rattle.cosets.specs.Meters.{Meter, InRange}
-use Rattle.frame.specs.Labels.{Placed}
+use Rattle.frame.specs.Labels.{bitsOfLabels, Within, labelsAt, Placed}
 use Rattle.g9932.proofs.Counts.{Every, every-at, every-append, every-replicate, every-map, every-filter}
 use Rattle.g9932.proofs.Formed.{formed-ok, length-pairsOf}
 use Rattle.g9932.proofs.Identities.{or-false}
@@ -25,18 +25,24 @@ use Rattle.g9932.specs.Order.{Pair, sum, filter, bitsOf, pairsOf, reorderedTone
 use Rattle.g9932.specs.Refusals.{tableVerdict, frameTest}
 use Rattle.g9932.specs.Sizes.{Tables, entry, mostTones, Point, points, pack, frameBits}
 use Rattle.g9932.specs.Symbol.{pairsIn, sizeOf, sentIn, writtenPoints}
-use Rattle.g9932.specs.Trellis.{zeroState, encodePairs, takenTotal, sentOf}
+use Rattle.g9932.specs.Trellis.{zeroState, encodePairs, readPairs, frame, takenTotal, sentOf, readingOf}
 use Rattle.g9932.specs.declared.Found.the-variants.{Nothing}
 use Rattle.g9932.specs.declared.Mode.{Mode}
 use Rattle.g9932.specs.declared.Mode.the-variants.{Uncoded, Coded}
 use Rattle.passes.proofs.PlanLabels.{plan-placed}
 use Rattle.passes.proofs.SymbolPoints.{point-at}
-use Rattle.paths.specs.Frames.{pairsBy, sentCost, LeastFrame}
+use Rattle.paths.specs.Frames.{pairBy, pairsBy, sentCost, Labelled, LeastFrame}
 use Rattle.plan.specs.Plan.{leastOwn, sharing, PlanIs}
 use Rattle.plan.specs.declared.PlanSizes.{PlanSizes}
 use Rattle.symbol.proofs.TablePlan.{known, the-plan, entries-by, plain-sum, coded-pairs}
 use Rattle.nearest.specs.Deciding.{pairMeters, BestAll, none, more}
 use Rattle.nearest.specs.Entries.{metersIn, Decidable}
+use Rattle.nearest.proofs.PathLabels.{traced-within, traced-labelled}
+use Rattle.nearest.specs.Planned.{Decides, NearestBits}
+use Rattle.g9932.proofs.PointLists.{length-points}
+use Rattle.paths.proofs.Frames.{least-frame}
+use Rattle.paths.specs.Survivors.{follow}
+use Rattle.paths.specs.declared.Inputs.{Inputs}
 use Rattle.nearest.proofs.PlanMeters.{metersCost, bitsIn, plan-shared, plan-total, meters-bits, pairs-metered, cost-metered}
 
 -- ---- nearest labels, one after the other
@@ -99,10 +105,13 @@ module _ (T : Tables) (ok : tableVerdict T .number ≡ 0) (p : PlanSizes) {layou
       written-total q n r start f ∙ sym (cost-metered (meters q) (sentIn T start f))
       ∙ ap (sentCost (pairMeters (meters q))) (sent ∙ ap (λ (z : List Pair). encodePairs zeroState z g) (sym (coded-same m q)))
 
-  pub nearest-coded : T .mode ≡ Coded → (q : List Point) → length q ≡ length (T .tones) → (r start : ℕ) → start ≤ 7 → (g : List Bool) (n : ℕ)
+  taken-all : T .mode ≡ Coded → (q : List Point) → takenTotal (pairsBy (pairMeters (meters q))) ≡ sizeOf T
+  taken-all m q = ap takenTotal (coded-same m q) ∙ known T ok .coded m .taken
+
+  nearest-coded : T .mode ≡ Coded → (q : List Point) → length q ≡ length (T .tones) → (r start : ℕ) → start ≤ 7 → (g : List Bool) (n : ℕ)
       → LeastFrame (pairMeters (meters q)) g n → NearestFrame T q r start (pack start g) n
   nearest-coded m q l r start small g n best =
-      let taken : takenTotal (pairsBy (pairMeters (meters q))) ≡ sizeOf T = ap takenTotal (coded-same m q) ∙ known T ok .coded m .taken in
+      let taken = taken-all m q in
       let size : length g ≡ sizeOf T = best .size ∙ taken in
       let same : frameBits start (sizeOf T) (pack start g) ≡ g = subst (λ (z : ℕ). frameBits start z (pack start g) ≡ g) size (bits-pack start g) in
       record {
@@ -122,10 +131,13 @@ module _ (T : Tables) (ok : tableVerdict T .number ≡ 0) (p : PlanSizes) {layou
       let sent : sentIn T start f ≡ frameBits start (sizeOf T) f = ap (λ (z : Mode). sentOf z (pairsIn T) (frameBits start (sizeOf T) f)) m in
       written-total q n r start f ∙ ap (metersCost (meters q)) sent
 
-  pub nearest-uncoded : T .mode ≡ Uncoded → (q : List Point) → length q ≡ length (T .tones) → (r start : ℕ) → start ≤ 7 → (d : List Bool) (n : ℕ)
+  plain-whole : T .mode ≡ Uncoded → (q : List Point) → sum (bitsIn (meters q)) ≡ sizeOf T
+  plain-whole m q = ap sum (same-bits q) ∙ plain-sum T ok p is m
+
+  nearest-uncoded : T .mode ≡ Uncoded → (q : List Point) → length q ≡ length (T .tones) → (r start : ℕ) → start ≤ 7 → (d : List Bool) (n : ℕ)
       → BestAll (meters q) d n → NearestFrame T q r start (pack start d) n
   nearest-uncoded m q l r start small d n best =
-      let whole : sum (bitsIn (meters q)) ≡ sizeOf T = ap sum (same-bits q) ∙ plain-sum T ok p is m in
+      let whole = plain-whole m q in
       let size : length d ≡ sizeOf T = best-length (meters q) d n best ∙ whole in
       let same : frameBits start (sizeOf T) (pack start d) ≡ d = subst (λ (z : ℕ). frameBits start z (pack start d) ≡ d) size (bits-pack start d) in
       record {
@@ -186,6 +198,54 @@ module _ (T : Tables) (ok : tableVerdict T .number ≡ 0) (p : PlanSizes) {layou
         sharedTwo = λ k h l. two k h l .0;
         sharedInside = λ k h l. omega (arith, two k h l .1, length-classes T);
       }
+
+  -- ---- decided labels are a nearest frame's
+
+  module _ (xs ys : List ℤ) (nx : length xs ≡ length (T .tones)) (ny : length ys ≡ length (T .tones)) (range : first (rangeTest (points xs ys)) (length (T .tones)) ≡ Nothing) where
+    abbrev q : List Point
+    q = points xs ys
+
+    nq : length q ≡ length (T .tones)
+    nq = length-points xs ys (nx ∙ sym ny) ∙ nx
+
+    pub decided-within : (m : Mode) → T .mode ≡ m → (ls : List ℕ) (n : ℕ) → Decides m from es ps q ls n → Within es (labelsAt ps ls) (length es)
+    decided-within Uncoded e ls n d = d .within
+    decided-within Coded e ls n d = traced-within (coded-decidable e) (d .traced)
+      where
+        coded-decidable : T .mode ≡ Coded → Decidable 2 from es ps xs ys
+        coded-decidable e = subst (λ (k : Mode). Decidable (leastOwn k) from es ps xs ys) e (decidable xs ys nx ny range)
+
+    pub bits-nearest : (m : Mode) → T .mode ≡ m → (r start : ℕ) → start ≤ 7 → (ls : List ℕ) (n : ℕ) → Decides m from es ps q ls n
+        → NearestBits T m es q r start (bitsOfLabels es (labelsAt ps ls)) n
+    unfolding readingOf
+    bits-nearest Uncoded e r start small ls n d =
+        let b = bitsOfLabels es (labelsAt ps ls) in
+        record {
+          bits = b;
+          reads = refl;
+          size = best-length (meters q) b n (d .best) ∙ plain-whole e q;
+          nearest = nearest-uncoded e q nq r start small b n (d .best);
+        }
+    bits-nearest Coded e r start small ls n d =
+        let b = bitsOfLabels es (labelsAt ps ls) in
+        let k = coded-decidable in
+        let p = d .path in
+        let us : follow (d .survivors) ((length es + 1) / 2) 0 zeroState ≡ follow (d .survivors) (length (p .branches)) 0 zeroState =
+        ap (λ (z : ℕ). follow (d .survivors) z 0 zeroState) (sym (p .count ∙ count)) in
+        let l = subst (λ (u : List Inputs). Labelled zeroState (pairMeters (meters q)) u b) us (traced-labelled k (d .traced)) in
+        let f = least-frame (pairMeters (meters q)) (p .branches) _ n b (coded-ok e q) (p .matches) (p .shortest) l in
+        record {
+          bits = f .0;
+          reads = subst (λ (z : List Pair). readPairs zeroState z b ≡ frame (f .0)) (pairs-metered (meters q) ∙ ap pairsOf (same-bits q)) (f .1);
+          size = f .2 .size ∙ taken-all e q;
+          nearest = nearest-coded e q nq r start small (f .0) n (f .2);
+        }
+      where
+        coded-decidable : Decidable 2 from es ps xs ys
+        coded-decidable = subst (λ (k : Mode). Decidable (leastOwn k) from es ps xs ys) e (decidable xs ys nx ny range)
+
+        count : length (pairMeters (meters q)) ≡ (length es + 1) / 2
+        count = sym (length-map (pairMeters (meters q)) pairBy) ∙ ap length (pairs-metered (meters q) ∙ ap pairsOf (same-bits q)) ∙ length-pairsOf es
 
   -- ---- the pairs, for the size of the working buffer
 

@@ -1,3 +1,6 @@
+use mathlib.Core.Path.{_≡_, _∙_}
+use native.Mathlib.Omega.{arith}
+use Rattle.nearest.proofs.PlannedReading.{decide-again, frame-labels, frame-fits, planned-read}
 use borrow.Author.Needs.{needs}
 use Rattle.nearest.proofs.read_planned.Statement.{statement}
 use Rattle.nearest.proofs.read_planned.Tie as tie
@@ -8,41 +11,45 @@ use Rattle.mapper.proofs.write.set_filler.Reads as set-filler-reads
 use Rattle.nearest.proofs.decide_labels.Reads as decide-labels-reads
 use Rattle.passes.proofs.read.frame_of_labels.Reads as frame-of-labels-reads
 
--- src/lib.rt:63:9
 set-filler-requires : tie.Need-set-filler-requires
-set-filler-requires c κs = search needs
+set-filler-requires c κs = c .before .before .before .before .before .before .before .before .pre .1 .filler
 
--- src/lib.rt:64:9
 decide-labels-requires : tie.Need-decide-labels-requires
-decide-labels-requires c κs = ?
+decide-labels-requires c κs =
+    let a = c .before .before .before .before .before .before .before .before .before .before .before .before .before .args in
+    let f = c .before .before .before .before .set-filler in
+    decide-again (a .mode) (a .shared-from .0) (a .entries .now) (a .places .now) (a .xs .now) (a .ys .now) (a .work .now) (a .labels .now) (f .last .1 .1 .0) (f .kept .1 .1 .0) (c .before .before .before .before .before .before .before .before .before .before .before .before .before .pre .1 .decide)
 
--- src/lib.rt:65:9
 frame-of-labels-requires : tie.Need-frame-of-labels-requires
-frame-of-labels-requires c κs = ?
+frame-of-labels-requires c κs =
+    let d = c .before .before .before .before .before .before .decide-labels in
+    frame-labels (c .before .before .before .before .before .before .before .before .before .before .before .before .before .before .before .before .before .before .before .before .pre .1) _ _ (d .kept .1 .1 .1 .1 .1 .1 .1 .0 ∙ c .before .before .before .before .before .before .before .before .before .before .before .set-filler .kept .1 .1 .0) (d .ensures)
 
--- src/lib.rt:66:5
 copy-requires : tie.Need-copy-requires
-copy-requires c κs = search needs
+copy-requires c κs =
+    let d = c .before .before .before .before .before .before .before .before .before .before .before .decide-labels in
+    let f = c .before .before .before .before .frame-of-labels in
+    frame-fits (c .before .before .before .before .before .before .before .before .before .before .before .before .before .before .before .before .before .before .before .before .before .before .before .before .before .pre .1) _ _ (d .kept .1 .1 .1 .1 .1 .1 .1 .0 ∙ c .before .before .before .before .before .before .before .before .before .before .before .before .before .before .before .before .set-filler .kept .1 .1 .0) (d .ensures) (f .ensures) (f .kept .1 .1 .1 .1 .1 .0)
 
--- src/lib.rt:43:1
 same-length : tie.Need-same-length
 same-length c = search needs
 
--- src/lib.rt:43:1
 same-length-2 : tie.Need-same-length-2
 same-length-2 c = search needs
 
--- src/lib.rt:43:1
 same-length-3 : tie.Need-same-length-3
 same-length-3 c = search needs
 
--- src/lib.rt:43:1
 same-length-4 : tie.Need-same-length-4
 same-length-4 c = search needs
 
--- src/lib.rt:43:1
 returns : tie.Need-returns
-returns c = ?
+returns c =
+    let d = c .before .before .before .before .before .before .before .before .before .before .before .before .before .before .decide-labels in
+    let f = c .before .before .before .before .before .before .before .frame-of-labels in
+    let bytes = c .before .before .before .before .before .slice-known8 .given in
+    λ T s. planned-read s _ _ (d .kept .1 .1 .1 .1 .1 .1 .1 .0 ∙ c .before .before .before .before .before .before .before .before .before .before .before .before .before .before .before .before .before .before .before .set-filler .kept .1 .1 .0) (d .ensures) (f .ensures) (f .kept .1 .1 .1 .1 .1 .0)
+    (c .before .before .before .before .before .before .before .before .before .before .before .before .before .before .before .before .before .before .before .set-filler .ensures) (λ k i. omega (arith, bytes k)) (c .before .before .copy .ensures)
 
 pub read-planned-spec : {M : Type 1} → statement M
 read-planned-spec =
