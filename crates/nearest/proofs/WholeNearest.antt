@@ -16,7 +16,7 @@ use Rattle.g9932.proofs.Sent.{length-classes}
 use Rattle.g9932.proofs.Verdicts.{test-none, number-none, number-some, found-here, found-past, and-refused, and-accepted, report-refused, report-done}
 use Rattle.g9932.specs.Answers.{reportBy, readInputs, verdictOf}
 use Rattle.g9932.specs.Bits.{first}
-use Rattle.g9932.specs.Filler.{registerAfter}
+use Rattle.g9932.specs.Filler.{afterDraws, registerAfter}
 use Rattle.g9932.specs.Nearest.{rangeTest, workBytes, nearestInputs, rangeVerdict, nearestVerdict, ReadsNearest, nearestOf, totalIn}
 use Rattle.g9932.specs.Refusals.{numberOf, placeOf, Verdict, refused, accepted, roomTest, tableVerdict}
 use Rattle.g9932.specs.Sizes.{Tables, Point, points, bytesFor, mostTones, mostHeld}
@@ -35,6 +35,7 @@ use Rattle.g9932.specs.declared.Refusal.the-variants.{Range}
 use Rattle.mapper.specs.Writing.{FillerNeeds}
 use Rattle.passes.proofs.FillerPlaces.{register-places}
 use Rattle.passes.proofs.PlanLabels.{where-inside, plan-placed}
+use Rattle.passes.specs.ReadSymbol.{HeldFits}
 use Rattle.plan.specs.Classes.{PlanOf}
 use Rattle.plan.specs.Plan.{isDrawing, leastOwn, plannedVerdict, PlanIs, Plans, Arrays}
 use Rattle.plan.specs.declared.Planned.{Planned}
@@ -50,9 +51,9 @@ use Rattle.nearest.proofs.NearestPlan.{decidable, uncoded-own, work-pai
 -- ---- the plan, where nothing is refused
 
 -- the entries fit whatever the tables
-pub entries-fit : {T : Tables} {planned : Planned} {layouts entries places drawing : List ℕ} → Plans T planned layouts entries places drawing → EntriesFit planned
-entries-fit {T} {Lists p} w = omega (arith, w .made .entriesMost, tones-most T (number-none (w .answer)))
-entries-fit {T} {PlanRefused x} w = tt
+pub entries-fit : (T : Tables) (planned : Planned) {layouts entries places drawing : List ℕ} → Plans T planned layouts entries places drawing → EntriesFit planned
+entries-fit T (Lists p) w = omega (arith, w .made .entriesMost, tones-most T (number-none (w .answer)))
+entries-fit T (PlanRefused x) w = tt
 
 pub record Passed (T : Tables) (v : PlanSizes → Verdict) (p : PlanSizes) (layouts entries places drawing : List ℕ) : Type 0 where
   pub tablesPass : accepted (p .size) ≡ tableVerdict T
@@ -114,4 +115,137 @@ module _ (T : Tables) (xs ys : List ℤ) (r start : ℕ) (f work : List ℕ) whe
             frameKept = λ h. absurd (h (number-none v));
             workKept = λ h. absurd (h (number-none v));
             workLength = n;
+          }
+
+-- ---- from the answers of planning and of checking the inputs
+
+-- 16 bytes a coded pair, by the plan
+work-is : (T : Tables) → tableVerdict T .number ≡ 0 → (p : PlanSizes) {layouts entries places drawing : List ℕ} → PlanIs T p layouts entries places drawing → length entries ≡ mostTones
+    → workFor (T .mode) (p .«entry_count») ≡ workBytes T
+work-is T ok p is n = go (T .mode) refl
+  where
+    go : (m : Mode) → T .mode ≡ m → workFor m (p .«entry_count») ≡ workBytes T
+    go Uncoded e = omega (arith, no-pairs T ok p is e)
+    go Coded e = omega (arith, work-pairs T ok p is e, entries-count T ok p is n)
+
+-- what the inputs are tested for, by the plan
+abbrev pub inputsBy : Tables → ℕ → ℕ → ℕ → ℕ → ℕ → ℕ → PlanSizes → Verdict
+inputsBy T start x y f w r p = nearestInputs start (p .size) (length (T .tones)) (workFor (T .mode) (p .«entry_count»)) x y f w r
+
+pub nearest-refused : (T : Tables) (xs ys : List ℤ) (r start : ℕ) (f work : List ℕ) (planned q : Planned) {x : Refusal} {layouts entries places drawing : List ℕ}
+    → Arrays layouts entries places drawing → Plans T planned layouts entries places drawing
+    → ChecksLists (inputsBy T start (length xs) (length ys) (length f) (length work) r) planned q → q ≡ PlanRefused x
+    → ReadsNearest T xs ys r start f work (Refused x r) f work
+nearest-refused T xs ys r start f work (PlanRefused y) q {x} a w c e = tables-refuse T xs ys r start f work x (sym (ap plannedVerdict e) ∙ c .answer ∙ w .answer)
+nearest-refused T xs ys r start f work (Lists p) q {x} a w c e =
+    let l = size-is T (w .answer) in
+    let b = work-is T (number-none (w .answer)) p (w .made) (a .entriesLength) in
+    inputs-refuse T xs ys r start f work (w .answer) x
+    (sym (ap plannedVerdict e) ∙ c .answer ∙ (λ i. nearestInputs start (l i) (length (T .tones)) (b i) (length xs) (length ys) (length f) (length work) r))
+
+module _ (T : Tables) (xs ys : List ℤ) (r start : ℕ) (f work : List ℕ) (p : PlanSizes) {layouts entries places drawing : List ℕ} (a : Arrays layouts entries places drawing)
+    (h : Passed T (inputsBy T start (length xs) (length ys) (length f) (length work) r) p layouts entries places drawing) where
+  ok : tableVerdict T .number ≡ 0
+  ok = number-none (h .tablesPass)
+
+  size : p .size ≡ sizeOf T
+  size = size-is T (h .tablesPass)
+
+  bytes : workFor (T .mode) (p .«entry_count») ≡ workBytes T
+  bytes = work-is T ok p (h .plan) (a .entriesLength)
+
+  inputs-are : accepted (p .size) ≡ inputs T xs ys r start f work
+  inputs-are = h .inputsPass ∙ (λ i. nearestInputs start (size i) (length (T .tones)) (bytes i) (length xs) (length ys) (length f) (length work) r)
+
+  -- every list has its length
+  work-length : length work ≡ workFor (T .mode) (p .«entry_count»)
+  unfolding nearestInputs
+  work-length =
+      let t = test-none 9 _ _ (number-none (h .inputsPass)) .0 in
+      let w = or-false (roomTest (length xs) (length (T .tones)) || roomTest (length ys) (length (T .tones)) || roomTest (length f) (bytesFor start (p .size))) _ t in
+      go (eqb (length work) (workFor (T .mode) (p .«entry_count»))) refl (w .1)
+    where
+      go : (b : Bool) → eqb (length work) (workFor (T .mode) (p .«entry_count»)) ≡ b → not b ≡ false → length work ≡ workFor (T .mode) (p .«entry_count»)
+      go true e n = eqb-true _ _ e
+      go false e n = absurd (true≢false n)
+
+  others : (((length xs ≡ length (T .tones)) × (length ys ≡ length (T .tones))) × (length f ≡ bytesFor start (p .size))) × (start ≤ 7)
+  others =
+      inputs-read start (p .size) (length (T .tones)) (length xs) (length ys) (length f) r (p .size)
+      (h .inputsPass ∙ sym (work-fits start (p .size) (length (T .tones)) (workFor (T .mode) (p .«entry_count»)) (length xs) (length ys) (length f) (length work) r work-length))
+
+  pub same-points : length ys ≡ length xs
+  same-points = others .0 .0 .1 ∙ sym (others .0 .0 .0)
+
+  pub range-refused : {k : ℕ} → At k ≡ first (rangeTest (points xs ys)) (length xs) → ReadsNearest T xs ys r start f work (Refused (Range (record { 0 = k })) r) f work
+  range-refused {k} e = range-refuses T xs ys r start f work (h .tablesPass) inputs-are k (e ∙ ap (first (rangeTest (points xs ys))) (others .0 .0 .0))
+
+  module _ (range : first (rangeTest (points xs ys)) (length xs) ≡ Nothing) where
+    in-range : first (rangeTest (points xs ys)) (length (T .tones)) ≡ Nothing
+    in-range = ap (first (rangeTest (points xs ys))) (sym (others .0 .0 .0)) ∙ range
+
+    abbrev es : List ℕ
+    es = take (p .«entry_count») entries
+
+    abbrev ps : List ℕ
+    ps = take (p .«entry_count») places
+
+    abbrev ds : List ℕ
+    ds = take (p .«drawing_count») drawing
+
+    few : length es ≤ mostTones
+    few = omega (arith, entries-count T ok p (h .plan) (a .entriesLength), h .plan .entriesMost, tones-most T ok)
+
+    pub read-done : {answer : Nearest} {after workAfter : List ℕ} → length workAfter ≡ length work → ReadsPlanned T (points xs ys) r start answer after
+        → ReadsNearest T xs ys r start f work answer after workAfter
+    read-done m d = nearest-done T xs ys r start f work (h .tablesPass) inputs-are in-range m d
+
+    module _ (labels held : List ℕ) (n : length labels ≡ length (T .tones)) (nh : length held ≡ mostHeld) where
+      can-decide : DecideNeeds (T .mode) (p .«shared_from» .0) es ps xs ys work labels
+      can-decide = go (T .mode) refl
+        where
+          d : Decidable (leastOwn (T .mode)) (p .«shared_from» .0) es ps xs ys
+          d = decidable T ok p (h .plan) xs ys (others .0 .0 .0) (others .0 .0 .1) in-range
+
+          same : length labels ≡ length xs
+          same = n ∙ sym (others .0 .0 .0)
+
+          go : (m : Mode) → T .mode ≡ m → DecideNeeds m (p .«shared_from» .0) es ps xs ys work labels
+          go Uncoded e =
+              let own : p .«shared_from» .0 ≡ length xs = uncoded-own T ok p (h .plan) e ∙ sym (others .0 .0 .0) in
+              let d1 : Decidable 1 (p .«shared_from» .0) es ps xs ys = subst (λ (k : Mode). Decidable (leastOwn k) (p .«shared_from» .0) es ps xs ys) e d in
+              (record { decidable = subst (λ (z : ℕ). Decidable 1 z es ps xs ys) own d1; many = few; labelsLength = same }, own)
+          go Coded e =
+              let w : length work ≡ workFor Coded (p .«entry_count») = rw e at work-length in
+              let fits = subst (λ (k : Mode). HeldFits k start es (length held)) e (held-fits T ok p (h .plan) (others .1) held nh) in
+              let d2 : Decidable 2 (p .«shared_from» .0) es ps xs ys = subst (λ (k : Mode). Decidable (leastOwn k) (p .«shared_from» .0) es ps xs ys) e d in
+              record {
+                path = record { decidable = d2; enough = fits .1; many = few; sixteens = w ∙ ap (λ (z : ℕ). 16 * ((z + 1) / 2)) (sym (entries-count T ok p (h .plan) (a .entriesLength))) };
+                labelsLength = same;
+              }
+
+      the : PlanOf (classesOf T) (p .«shared_from» .0) es ps ds (take (length (T .tones)) layouts)
+      the = the-plan T ok p (h .plan)
+
+      pub nearest-of : NearestSupposes T (T .mode) (p .«shared_from» .0) (p .size) es ps ds xs ys labels held f start work
+      nearest-of =
+          let c = length-classes T in
+          record {
+            decide = can-decide;
+            filler =
+                record {
+                  below = λ k l.
+                      let i = where-inside isDrawing 0 (classesOf T) k (rw (the .drawingAre) at l) in
+                      rw (the .drawingAre) (omega (arith, i .1, n, c));
+                };
+            registerIs = λ s. ap (λ (l : List ℕ). afterDraws (2 * length l) s) (the .drawingAre) ∙ register-places (classesOf T) 0 s;
+            placed = λ ls m. plan-placed the ls (m ∙ n ∙ sym c);
+            startMost = others .1;
+            heldFits = held-fits T ok p (h .plan) (others .1) held nh;
+            heldLength = nh;
+            sizeIs = size;
+            sizeMost = accepted-tables T ok .sizeMost;
+            frameLength = others .0 .1 ∙ ap (bytesFor start) size;
+            within = λ ls k m d. decided-within T ok p (h .plan) xs ys (others .0 .0 .0) (others .0 .0 .1) in-range (T .mode) refl ls k d;
+            bitsNearest = λ s ls k m d. bits-nearest T ok p (h .plan) xs ys (others .0 .0 .0) (others .0 .0 .1) in-range (T .mode) refl s start (others .1) ls k d;
           }

@@ -1,3 +1,13 @@
+use Prim.Native.Nat.{ℕ}
+use lib.Seq.{length-take-le}
+use lib.ListN.{length, take, replicate}
+use mathlib.Core.Path.{_≡_, refl, sym, ap, _∙_}
+use native.Mathlib.Omega.{arith}
+use Rattle.g9932.proofs.Verdicts.{number-none}
+use Rattle.symbol.proofs.TablePlan.{tones-most}
+use Rattle.g9932.specs.Sizes.{tables}
+use Rattle.plan.specs.Plan.{Arrays}
+use Rattle.nearest.proofs.WholeNearest.{entries-fit, passed, nearest-refused, same-points, range-refused, nearest-of, read-done}
 use borrow.Author.Needs.{needs}
 use Rattle.nearest.proofs.read.Statement.{statement}
 use Rattle.nearest.proofs.read.Tie as tie
@@ -8,108 +18,135 @@ use Rattle.nearest.proofs.range.first_outside.Reads as first-outside-re
 use Rattle.nearest.proofs.read_planned.Reads as read-planned-reads
 use Rattle.plan.proofs.plan_tables.Reads as plan-tables-reads
 
--- src/lib.rt:105:9
+-- the plan's lists keep the lengths of their arrays
+arrays : (c : tie.After-plan-tables) → Arrays (c .plan-tables .last .1 .1 .1 .1 .0) (c .plan-tables .last .1 .1 .1 .1 .1 .0) (c .plan-tables .last .1 .1 .1 .1 .1 .1 .0) (c .plan-tables .last .1 .1 .1 .1 .1 .1 .1 .0)
+arrays c =
+    record {
+      layoutsLength = c .plan-tables .kept .1 .1 .1 .1 .0;
+      entriesLength = c .plan-tables .kept .1 .1 .1 .1 .1 .0;
+      placesLength = c .plan-tables .kept .1 .1 .1 .1 .1 .1 .0;
+      drawingLength = c .plan-tables .kept .1 .1 .1 .1 .1 .1 .1 .0;
+    }
+
 slice-aggregate-plan-tables : tie.Need-slice-aggregate-plan-tables
 slice-aggregate-plan-tables c = search needs
 
--- src/lib.rt:106:9
 slice-aggregate-plan-tables-2 : tie.Need-slice-aggregate-plan-tables-2
 slice-aggregate-plan-tables-2 c = search needs
 
--- src/lib.rt:107:9
 slice-aggregate-plan-tables-3 : tie.Need-slice-aggregate-plan-tables-3
 slice-aggregate-plan-tables-3 c = search needs
 
--- src/lib.rt:108:9
 slice-aggregate-plan-tables-4 : tie.Need-slice-aggregate-plan-tables-4
 slice-aggregate-plan-tables-4 c = search needs
 
--- src/lib.rt:100:9
 plan-tables-requires : tie.Need-plan-tables-requires
 plan-tables-requires c κs = search needs
 
--- src/lib.rt:110:9
 check-inputs-requires : tie.Need-check-inputs-requires
-check-inputs-requires c κs = ?
+check-inputs-requires c κs =
+    let a = c .before .before .before .before .before .before .before .before .before .before .before .before .before .before .args in
+    entries-fit (tables (a .mode) (a .bits .now) (a .gains .now) (a .tones .now)) _ (c .before .before .before .before .plan-tables .ensures)
 
--- src/lib.rt:122:26
 enum-known-checked : tie.Need-enum-known-checked
 enum-known-checked c = search needs
 
--- src/lib.rt:123:24
 enum-known-checked-2 : tie.Need-enum-known-checked-2
 enum-known-checked-2 c = search needs
 
--- src/lib.rt:124:17
 first-outside-requires : tie.Need-first-outside-requires
-first-outside-requires c κs = ?
+first-outside-requires c κs =
+    let a = c .before .before .before .before .before .before .before .before .before .before .before .before .before .before .before .before .before .before .args in
+    let pt = c .before .before .before .before .before .before .before .before .plan-tables in
+    let h = passed (pt .ensures) (c .before .before .before .check-inputs .ensures) (c .before .checked2 .given .1) in
+    same-points (tables (a .mode) (a .bits .now) (a .gains .now) (a .tones .now)) (a .xs .now) (a .ys .now) (a .register) (a .start) (a .frame .now) (a .work .now) _ (arrays (c .before .before .before .before .before .before .before .before)) h
 
--- src/lib.rt:125:30
 enum-known-outside : tie.Need-enum-known-outside
 enum-known-outside c = search needs
 
--- src/lib.rt:126:17
 returns : tie.Need-returns
-returns c = ?
+returns c =
+    let a = c .before .before .before .before .before .before .before .before .before .before .before .before .before .before .before .before .before .before .before .before .before .before .args in
+    let pt = c .before .before .before .before .before .before .before .before .before .before .before .before .plan-tables in
+    let h = passed (pt .ensures) (c .before .before .before .before .before .before .before .check-inputs .ensures) (c .before .before .before .before .before .checked2 .given .1) in
+    range-refused _ _ _ (a .register) (a .start) _ _ _ (arrays (c .before .before .before .before .before .before .before .before .before .before .before .before)) h (sym (c .before .outside .given .1) ∙ c .before .before .before .first-outside .ensures)
 
 enum-told : tie.Need-enum-told
 enum-told c = search needs
 
--- src/lib.rt:137:17
 array-share-prefix-entries : tie.Need-array-share-prefix-entries
-array-share-prefix-entries c = ?
+array-share-prefix-entries c =
+    let h = passed (c .before .before .before .before .before .before .before .before .before .before .before .plan-tables .ensures) (c .before .before .before .before .before .before .check-inputs .ensures) (c .before .before .before .before .checked2 .given .1) in
+    omega (arith, h .plan .entriesMost, tones-most _ (number-none (h .tablesPass)), arrays (c .before .before .before .before .before .before .before .before .before .before .before) .entriesLength)
 
--- src/lib.rt:137:17
 slice-aggregate-read-planned : tie.Need-slice-aggregate-read-planned
-slice-aggregate-read-planned c = ?
+slice-aggregate-read-planned c =
+    let h = passed (c .before .before .before .before .before .before .before .before .before .before .before .before .plan-tables .ensures) (c .before .before .before .before .before .before .before .check-inputs .ensures) (c .before .before .before .before .before .checked2 .given .1) in
+    sym (length-take-le _ (c .before .before .before .before .before .before .before .before .before .before .before .before .plan-tables .last .1 .1 .1 .1 .1 .0) (omega (arith, h .plan .entriesMost, tones-most _ (number-none (h .tablesPass)), arrays (c .before .before .before .before .before .before .before .before .before .before .before .before) .entriesLength)))
 
--- src/lib.rt:138:17
 array-share-prefix-places : tie.Need-array-share-prefix-places
-array-share-prefix-places c = ?
+array-share-prefix-places c =
+    let h = passed (c .before .before .before .before .before .before .before .before .before .before .before .before .plan-tables .ensures) (c .before .before .before .before .before .before .before .check-inputs .ensures) (c .before .before .before .before .before .checked2 .given .1) in
+    omega (arith, h .plan .entriesMost, tones-most _ (number-none (h .tablesPass)), arrays (c .before .before .before .before .before .before .before .before .before .before .before .before) .placesLength)
 
--- src/lib.rt:138:17
 slice-aggregate-read-planned-2 : tie.Need-slice-aggregate-read-planned-2
-slice-aggregate-read-planned-2 c = ?
+slice-aggregate-read-planned-2 c =
+    let h = passed (c .before .before .before .before .before .before .before .before .before .before .before .before .before .plan-tables .ensures) (c .before .before .before .before .before .before .before .before .check-inputs .ensures) (c .before .before .before .before .before .before .checked2 .given .1) in
+    sym (length-take-le _ (c .before .before .before .before .before .before .before .before .before .before .before .before .before .plan-tables .last .1 .1 .1 .1 .1 .1 .0) (omega (arith, h .plan .entriesMost, tones-most _ (number-none (h .tablesPass)), arrays (c .before .before .before .before .before .before .before .before .before .before .before .before .before) .placesLength)))
 
--- src/lib.rt:139:17
 array-share-prefix-drawing : tie.Need-array-share-prefix-drawing
-array-share-prefix-drawing c = ?
+array-share-prefix-drawing c =
+    let h = passed (c .before .before .before .before .before .before .before .before .before .before .before .before .before .plan-tables .ensures) (c .before .before .before .before .before .before .before .before .check-inputs .ensures) (c .before .before .before .before .before .before .checked2 .given .1) in
+    omega (arith, h .plan .drawingMost, tones-most _ (number-none (h .tablesPass)), arrays (c .before .before .before .before .before .before .before .before .before .before .before .before .before) .drawingLength)
 
--- src/lib.rt:139:17
 slice-aggregate-read-planned-3 : tie.Need-slice-aggregate-read-planned-3
-slice-aggregate-read-planned-3 c = ?
+slice-aggregate-read-planned-3 c =
+    let h = passed (c .before .before .before .before .before .before .before .before .before .before .before .before .before .before .plan-tables .ensures) (c .before .before .before .before .before .before .before .before .before .check-inputs .ensures) (c .before .before .before .before .before .before .before .checked2 .given .1) in
+    sym (length-take-le _ (c .before .before .before .before .before .before .before .before .before .before .before .before .before .before .plan-tables .last .1 .1 .1 .1 .1 .1 .1 .0) (omega (arith, h .plan .drawingMost, tones-most _ (number-none (h .tablesPass)), arrays (c .before .before .before .before .before .before .before .before .before .before .before .before .before .before) .drawingLength)))
 
--- src/lib.rt:143:17
 array-borrow-prefix-labels : tie.Need-array-borrow-prefix-labels
-array-borrow-prefix-labels c = ?
+array-borrow-prefix-labels c =
+    let h = passed (c .before .before .before .before .before .before .before .before .before .before .before .before .before .before .plan-tables .ensures) (c .before .before .before .before .before .before .before .before .before .check-inputs .ensures) (c .before .before .before .before .before .before .before .checked2 .given .1) in
+    tones-most _ (number-none (h .tablesPass))
 
--- src/lib.rt:143:17
 slice-aggregate-read-planned-4 : tie.Need-slice-aggregate-read-planned-4
-slice-aggregate-read-planned-4 c = ?
+slice-aggregate-read-planned-4 c =
+    let h = passed (c .before .before .before .before .before .before .before .before .before .before .before .before .before .before .before .plan-tables .ensures) (c .before .before .before .before .before .before .before .before .before .before .check-inputs .ensures) (c .before .before .before .before .before .before .before .before .checked2 .given .1) in
+    sym (length-take-le {A = ℕ} _ (replicate 4096 0) (tones-most _ (number-none (h .tablesPass))))
 
--- src/lib.rt:144:17
 slice-aggregate-read-planned-5 : tie.Need-slice-aggregate-read-planned-5
 slice-aggregate-read-planned-5 c = search needs
 
--- src/lib.rt:133:13
 read-planned-requires : tie.Need-read-planned-requires
-read-planned-requires c κs = ?
+read-planned-requires c κs =
+    let a = c .before .before .before .before .before .before .before .before .before .before .before .before .before .before .before .before .before .before .before .before .before .before .before .before .before .before .before .before .args in
+    let pt = c .before .before .before .before .before .before .before .before .before .before .before .before .before .before .before .before .before .before .plan-tables in
+    let h = passed (pt .ensures) (c .before .before .before .before .before .before .before .before .before .before .before .before .before .check-inputs .ensures) (c .before .before .before .before .before .before .before .before .before .before .before .checked2 .given .1) in
+    let range = sym (c .before .before .before .before .before .before .before .before .before .first-outside .ensures) ∙ c .before .before .before .before .before .before .before .enum-told .given .1 in
+    let labels = length-take-le {A = ℕ} _ (replicate 4096 0) (tones-most _ (number-none (h .tablesPass))) in
+    (_, nearest-of _ _ _ (a .register) (a .start) _ _ _ (arrays (c .before .before .before .before .before .before .before .before .before .before .before .before .before .before .before .before .before .before)) h range _ (replicate 7689 0) labels refl)
 
--- src/lib.rt:78:1
 returns-2 : tie.Need-returns-2
-returns-2 c = ?
+returns-2 c =
+    let a = c .before .before .before .before .before .before .before .before .before .before .before .before .before .before .before .before .before .before .args in
+    nearest-refused _ _ _ (a .register) (a .start) _ _ _ _ (arrays (c .before .before .before .before .before .before .before .before)) (c .before .before .before .before .before .before .before .before .plan-tables .ensures) (c .before .before .before .check-inputs .ensures) (c .before .checked .given .1)
 
--- src/lib.rt:78:1
 same-length : tie.Need-same-length
 same-length c = search needs
 
--- src/lib.rt:78:1
 same-length-2 : tie.Need-same-length-2
 same-length-2 c = search needs
 
--- src/lib.rt:78:1
 returns-3 : tie.Need-returns-3
-returns-3 c = ?
+returns-3 c =
+    let a = c .before .before .before .before .before .before .before .before .before .before .before .before .before .before .before .before .before .before .before .before .before .before .before .before .before .before .before .before .before .before .before .before .before .before .before .args in
+    let pt = c .before .before .before .before .before .before .before .before .before .before .before .before .before .before .before .before .before .before .before .before .before .before .before .before .before .plan-tables in
+    let rp = c .before .before .before .before .before .before .read-planned in
+    let h = passed (pt .ensures) (c .before .before .before .before .before .before .before .before .before .before .before .before .before .before .before .before .before .before .before .before .check-inputs .ensures) (c .before .before .before .before .before .before .before .before .before .before .before .before .before .before .before .before .before .before .checked2 .given .1) in
+    let range = sym (c .before .before .before .before .before .before .before .before .before .before .before .before .before .before .before .before .first-outside .ensures) ∙ c .before .before .before .before .before .before .before .before .before .before .before .before .before .before .enum-told .given .1 in
+    let labels = length-take-le {A = ℕ} _ (replicate 4096 0) (tones-most _ (number-none (h .tablesPass))) in
+    let n = nearest-of (tables (a .mode) (a .bits .now) (a .gains .now) (a .tones .now)) (a .xs .now) (a .ys .now) (a .register) (a .start) (a .frame .now) (a .work .now) _ (arrays (c .before .before .before .before .before .before .before .before .before .before .before .before .before .before .before .before .before .before .before .before .before .before .before .before .before)) h range _ (replicate 7689 0) labels refl in
+    read-done (tables (a .mode) (a .bits .now) (a .gains .now) (a .tones .now)) (a .xs .now) (a .ys .now) (a .register) (a .start) (a .frame .now) (a .work .now) _ (arrays (c .before .before .before .before .before .before .before .before .before .before .before .before .before .before .before .before .before .before .before .before .before .before .before .before .before)) h range (rp .kept .1 .1 .1 .1 .1 .1 .1 .1 .1 .1 .1 .1 .1 .0) (rp .ensures _ n)
 
 pub read-spec : {M : Type 1} → statement M
 read-spec =

@@ -59,7 +59,6 @@ tested c =
     let ey = c .is-outside2 .ensures ∙ ap outOfRange y in
     (λ z. ex z || ey z) ∙ ap (λ (p : Point). outOfRange (p .px) || outOfRange (p .py)) (sym (point-at (s .args .xs .now) (s .args .ys .now) i (omega arith) (s .pre)))
 
-
 returns : tie.Need-returns Inv-loop μ-loop
 returns c = first-at _ _ _ (c .before .before .before .before .before .before .loop .inv .1) (sym (tested (c .before)) ∙ c .if1 .taken) (omega arith)
 
