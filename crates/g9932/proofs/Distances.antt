@@ -1,14 +1,14 @@
 -- Laws of nearest reading's definitions: points have distance 0 from themselves alone; what a total of 0 says of the loaded tones and,
 -- with the tones that carry no data, of the whole symbol; and the coordinates of written points are in range, turned by half a turn too.
 use Prim.Native.Nat.{ℕ, zero, suc, _+_, _*_, _-_, _^_, _≤_, _<_}
-use mathlib.Core.Bool.{Bool, true, false, cond}
+use mathlib.Core.Bool.{Bool, true, false, cond, _||_}
 use mathlib.Core.List.{List, [], _∷_, _++_, map}
 use mathlib.Core.Path.{_≡_, refl, sym, ap, ap₂, _∙_, subst}
-use native.Mathlib.Nat.{pow-le-pow-right}
 use native.Mathlib.Omega.{arith}
 use borrow.Author.Tests.{le-ltb, not-false}
 use lib.IntN.{ℤ, pos, negsuc, negℤ, natAbs, _+ℤ_, _-ℤ_, +ℤ-invr, +ℤ-idl, -ℤ-+ℤ-cancel}
 use lib.ListN.{length, take, drop, getD, length-drop}
+use lib.Pow.{pow-mono}
 use lib.Seq.{take-at, drop-at, length-take-le}
 use Rattle.g9932.specs.Bits.{num}
 use Rattle.g9932.specs.Sizes.{Tables, entry, Point, origin}
@@ -160,3 +160,51 @@ axis-most (suc (suc (suc zero))) = omega arith
 axis-most (suc (suc (suc (suc zero)))) = omega arith
 axis-most (suc (suc (suc (suc (suc zero))))) = omega arith
 axis-most (suc (suc (suc (suc (suc (suc n)))))) = omega (arith, axis-most (suc (suc (suc (suc n)))))
+
+-- within the range
+abbrev InRange : Point → Type 0
+InRange p = (natAbs (p .px) ≤ 1023) × (natAbs (p .py) ≤ 1023)
+
+axis-range : (l : List Bool) → length l ≤ 8 → natAbs (twosComplement (true ∷ l)) ≤ 1023
+axis-range l h =
+    let p : 2 ^ suc (length l) ≤ 2 ^ 9 = pow-mono {i = suc (length l)} {j = 9} (omega arith) in
+    omega (arith, twos-most (true ∷ l), p)
+
+point-range : (b : ℕ) (v : List Bool) → b ≤ 15 → length v ≡ b → InRange (pointOf b v)
+point-range b v h l =
+    let e : pointOf b v ≡ pointOf (length v) v = ap (λ (n : ℕ). pointOf n v) (sym l) in
+    let k = coords-length v in
+    let a = axis-most (length v) in
+    rw (e, point-coords v) (axis-range (coords v .xs) (omega (arith, k .0)), axis-range (coords v .ys) (omega (arith, k .1)))
+
+tone-range : (r : ℕ) (c : Class) (d : List Bool) → load c ≤ 15 → load c ≤ length d → InRange (tonePoint r c d)
+tone-range r (Data n) d h l = point-range n (take n d) h (length-take-le n d l)
+tone-range r Monitored d h l = point-range 2 (drawn 2 r) (omega arith) refl
+tone-range r Silent d h l = (omega arith, omega arith)
+
+in-range : (p : Point) → InRange p → outOfRange (p .px) || outOfRange (p .py) ≡ false
+in-range p h = rw (le-ltb 1023 (natAbs (p .px)) (h .0), le-ltb 1023 (natAbs (p .py)) (h .1))
+
+write-range : (r : ℕ) (cs : List Class) (d : List Bool) → length d ≡ loads cs → ((k : ℕ) → load (getD cs k Silent) ≤ 15) → (k : ℕ) → k < length cs
+    → rangeTest (writePoints r cs d) k ≡ false
+unfolding writePoints
+write-range r [] d l most k h = absurd (omega arith)
+write-range r (c ∷ cs) d l most zero h = in-range (tonePoint r c d) (tone-range r c d (most 0) (omega arith))
+write-range r (c ∷ cs) d l most (suc k) h =
+    write-range (afterDraws (draws c) r) cs (drop (load c) d) (simp length-drop (omega arith)) (λ j. most (suc j)) k (omega arith)
+
+most-load : (b g t : List ℕ) → ((k : ℕ) → entry b k ≤ 15) → (k : ℕ) → load (getD (classesBy b g t) k Silent) ≤ 15
+most-load b g [] h k = omega arith
+most-load b g (j ∷ t) h zero = omega (arith, h j, ap (λ (l : List ℕ). getD l 0 0) (load-classes b g (j ∷ [])))
+most-load b g (j ∷ t) h (suc k) = most-load b g t h k
+
+-- no place of a written symbol of accepted tables is refused by 23,
+pub written-range : (T : Tables) → Accepted T → (r : ℕ) (d : List Bool) → length d ≡ loads (classesOf T) → (k : ℕ) → k < length (classesOf T)
+    → rangeTest (writePoints r (classesOf T) d) k ≡ false
+written-range T a r d l = write-range r (classesOf T) d l (most-load (T .bits) (T .gains) (reorderedTonesOf T) (a .bitsMost))
+
+-- nor is one of the opposite points
+pub opposite-range : (q : List Point) (k : ℕ) → rangeTest (map negated q) k ≡ rangeTest q k
+opposite-range [] k = refl
+opposite-range (p ∷ q) zero = rw (abs-neg (p .px), abs-neg (p .py))
+opposite-range (p ∷ q) (suc k) = opposite-range q k
