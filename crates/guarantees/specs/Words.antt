@@ -21,8 +21,12 @@ use Rattle.g9932.specs.declared.TrellisState.{TrellisState}
 abbrev pub AcceptedTables : Tables → Type 0
 AcceptedTables T = tableVerdict T .number ≡ 0
 
+-- the bytes of a lent buffer, by its type
+abbrev pub Bytes : List ℕ → Type 0
+Bytes f = (k : ℕ) → k < length f → getD f k 0 < 256
+
 pub record AcceptedFrame (T : Tables) (start : ℕ) (f : List ℕ) : Type 0 where
-  pub bytes : (k : ℕ) → k < length f → getD f k 0 < 256
+  pub bytes : Bytes f
   pub passes : frameTest start (sizeOf T) f ≡ false
 
 abbrev pub ValidRegister : ℕ → Type 0
