@@ -129,10 +129,16 @@ module _ (T : Tables) (r start : ℕ) (xs ys : List ℤ) (f₀ : List ℕ) (read
       (w .0, w .1, e, ap (λ (b : Read). b .frame) (written-read (w .0) (w .1) e))
 
   module _ (f : List ℕ) (ok : AcceptedFrame T start f) (n : ℕ) (near : NearestFrame T (points X Y) r start f n) where
+    pub nearest-one : n ≡ 0 → (g : List ℕ) → AcceptedFrame T start g → frameTotal T (points X Y) r start g ≡ 0 → g ≡ f
+    nearest-one z g hg zg = zero-once T facts r start (points X Y) long g f hg ok zg (near .total ∙ z)
+
+    pub nearest-written : (g : List ℕ) → AcceptedFrame T start g → points X Y ≡ writtenPoints T r start g → (n ≡ 0) × (f ≡ g)
+    nearest-written = written-nearest T facts r start (points X Y) long f ok n near
+
     pub nearest-exact : readAt T X Y r start f₀ .report .verdict .number ≡ 0 → (n ≡ 0) × (f ≡ readAt T X Y r start f₀ .frame)
     nearest-exact h =
         let w = read-written h in
-        let e = written-nearest T facts r start (points X Y) long f ok n near (w .0) (w .1) (w .2) in
+        let e = nearest-written (w .0) (w .1) (w .2) in
         (e .0, e .1 ∙ sym (w .3))
 
     pub nearest-zero : n ≡ 0 → SameUnloaded T (points X Y) (writtenPoints T r start f)
@@ -147,7 +153,7 @@ module _ (T : Tables) (r start : ℕ) (xs ys : List ℤ) (f₀ : List ℕ) (read
         only : readAt T X Y r start f₀ .report .verdict .number ≡ 0 → (n ≡ 0) × SameUnloaded T (points X Y) (writtenPoints T r start f)
         only h =
             let w = read-written h in
-            let e = written-nearest T facts r start (points X Y) long f ok n near (w .0) (w .1) (w .2) in
+            let e = nearest-written (w .0) (w .1) (w .2) in
             let same : points X Y ≡ writtenPoints T r start f = w .2 ∙ ap (writtenPoints T r start) (sym (e .1)) in
             (e .0, λ k h u. ap (λ (p : List Point). getD p k origin) same)
 
