@@ -3,7 +3,7 @@
 use Prim.Native.Nat.{ℕ, zero, suc, _+_, _*_, _-_, _^_, _≤_, _<_}
 use mathlib.Core.Bool.{Bool, true, false, cond, _||_}
 use mathlib.Core.List.{List, [], _∷_, _++_, map}
-use mathlib.Core.Path.{_≡_, refl, sym, ap, ap₂, _∙_, subst}
+use mathlib.Core.Path.{_≡_, refl, sym, ap, ap₂, _∙_}
 use native.Mathlib.Omega.{arith}
 use borrow.Author.Tests.{le-ltb, not-false}
 use lib.IntN.{ℤ, pos, negsuc, negℤ, natAbs, _+ℤ_, _-ℤ_, +ℤ-invr, +ℤ-idl, -ℤ-+ℤ-cancel}
@@ -14,7 +14,7 @@ use Rattle.g9932.specs.Bits.{num}
 use Rattle.g9932.specs.Sizes.{Tables, entry, Point, origin}
 use Rattle.g9932.specs.Points.{signBit, twosComplement, pointOf, negated, labelOf, labelBits}
 use Rattle.g9932.specs.Filler.{drawn, afterDraws, draws}
-use Rattle.g9932.specs.Symbol.{classAt, classesBy, reorderedTonesOf, classesOf, load, tonePoint, writePoints, toneBits, gatherBits, inConstellation}
+use Rattle.g9932.specs.Symbol.{classesBy, reorderedTonesOf, classesOf, load, tonePoint, writePoints, toneBits, gatherBits, inConstellation}
 use Rattle.g9932.specs.Nearest.{apart, squaredDistance, toneDistance, totalOf, outOfRange, rangeTest}
 use Rattle.g9932.specs.declared.Class.{Class}
 use Rattle.g9932.specs.declared.Class.the-variants.{Data, Monitored, Silent}

@@ -36,6 +36,7 @@ use Rattle.guarantees.proofs.Coded as Coded
 use Rattle.guarantees.proofs.EntryBits as EntryBits
 use Rattle.guarantees.proofs.HalfTurn as HalfTurn
 use Rattle.guarantees.proofs.Mapping as Mapping
+use Rattle.guarantees.proofs.NearestAnswers as NearestAnswers
 use Rattle.guarantees.proofs.NearestFrames as NearestFrames
 use Rattle.guarantees.proofs.Operations as Operations
 use Rattle.guarantees.proofs.RoundTrip as RoundTrip
@@ -389,7 +390,7 @@ module _ (T : Tables) (r start : ℕ) (xs ys : List ℤ) (f₀ : List ℕ) (read
 
   -- Exact reading reads the turned symbol exactly when the total is 0 and no tone is monitored; with a monitored tone it is MONITOR.
   pub nearest-half-turn-exactly :
-    (readAt T (turned (encodeAt T start g r xs ys .xs)) (turned (encodeAt T start g r xs ys .ys)) r start f₀ .report .verdict .number ≡ 0)
+      (readAt T (turned (encodeAt T start g r xs ys .xs)) (turned (encodeAt T start g r xs ys .ys)) r start f₀ .report .verdict .number ≡ 0)
       ↔ ((firstMonitored T ≡ Nothing) × (n ≡ 0))
   nearest-half-turn-exactly = NearestFrames.nearest-half-turn-exactly T r start xs ys f₀ ready m g ok f n near
 
@@ -398,21 +399,21 @@ module _ (T : Tables) (X Y : List ℤ) (r start : ℕ) (f₀ work : List ℕ) (a
     (reads : ReadsNearest T X Y r start f₀ work a f work′) where
   -- where it is DONE, f is a nearest frame, with the total told; so all of the above holds of it.
   pub nearest-answer : nearestOf a .verdict .number ≡ 0 → NearestFrame T (points X Y) r start f (totalIn a)
-  nearest-answer = NearestFrames.nearest-answer T X Y r start f₀ work a f work′ reads
+  nearest-answer = NearestAnswers.nearest-answer T X Y r start f₀ work a f work′ reads
 
   -- On points that exact reading reads it answers the same number, place, L and register and the same frame, with total 0.
   pub nearest-as-exact : length work ≡ workBytes T → Bytes f → readAt T X Y r start f₀ .report .verdict .number ≡ 0
       → (nearestOf a ≡ readAt T X Y r start f₀ .report) × (totalIn a ≡ 0) × (f ≡ readAt T X Y r start f₀ .frame)
-  nearest-as-exact = NearestFrames.nearest-as-exact T X Y r start f₀ work a f work′ reads
+  nearest-as-exact = NearestAnswers.nearest-as-exact T X Y r start f₀ work a f work′ reads
 
   -- What is refused returns the given register, leaves both buffers as they came, and reports L as 0.
   pub refused-nearest : nearestOf a .verdict .number ≢ 0
       → (nearestOf a .register ≡ r) × (f ≡ f₀) × (work′ ≡ work) × (nearestOf a .verdict .size ≡ 0)
-  refused-nearest = NearestFrames.refused-nearest T X Y r start f₀ work a f work′ reads
+  refused-nearest = NearestAnswers.refused-nearest T X Y r start f₀ work a f work′ reads
 
 -- No answer has number 9.
 pub nine-nearest : (a : Nearest) → nearestOf a .verdict .number ≢ 9
-nine-nearest = NearestFrames.nine-nearest
+nine-nearest = NearestAnswers.nine-nearest
 
 -- As in demand 3, with a working buffer of its exact length:
 module _ (T : Tables) (r start : ℕ) (xs ys : List ℤ) (f₀ : List ℕ) (ready : Ready T r start xs ys f₀) (work : List ℕ) (room : length work ≡ workBytes T)
@@ -420,10 +421,10 @@ module _ (T : Tables) (r start : ℕ) (xs ys : List ℤ) (f₀ : List ℕ) (read
   -- The symbol written for g is read back: with the number, place, L and register of encoding it, total 0, and g itself.
   pub nearest-round-trip : Bytes f → ReadsNearest T (encodeAt T start g r xs ys .xs) (encodeAt T start g r xs ys .ys) r start f₀ work a f work′
       → (nearestOf a ≡ encodeAt T start g r xs ys .report) × (totalIn a ≡ 0) × (f ≡ g)
-  nearest-round-trip = NearestFrames.nearest-round-trip T r start xs ys f₀ ready work room g ok a f work′
+  nearest-round-trip = NearestAnswers.nearest-round-trip T r start xs ys f₀ ready work room g ok a f work′
 
   -- Coded, turned by half a turn it is never refused: it is DONE, at total 0 exactly when N is even.
   pub nearest-turned : T .mode ≡ Coded
       → ReadsNearest T (turned (encodeAt T start g r xs ys .xs)) (turned (encodeAt T start g r xs ys .ys)) r start f₀ work a f work′
       → (nearestOf a ≡ encodeAt T start g r xs ys .report) × ((totalIn a ≡ 0) ↔ (nonZero T % 2 ≡ 0))
-  nearest-turned = NearestFrames.nearest-turned T r start xs ys f₀ ready work room g ok a f work′
+  nearest-turned = NearestAnswers.nearest-turned T r start xs ys f₀ ready work room g ok a f work′

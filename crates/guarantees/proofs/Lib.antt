@@ -4,6 +4,7 @@ pub mod EntryBits
 pub mod Guarantees
 pub mod HalfTurn
 pub mod Mapping
+pub mod NearestAnswers
 pub mod NearestFrames
 pub mod Operations
 pub mod RoundTrip

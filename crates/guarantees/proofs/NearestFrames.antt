@@ -10,39 +10,34 @@ use borrow.Author.Tests.{eq-eqb, ne-eqb, le-ltb}
 use lib.Dec.{ltb, eqb}
 use lib.IntN.{ℤ}
 use lib.ListN.{length, getD, length-map}
-use Rattle.g9932.specs.Sizes.{Tables, bytesFor, pack, frameBits, Point, origin, points}
-use Rattle.g9932.specs.Refusals.{frameTest, Verdict, accepted, tableVerdict}
+use Rattle.g9932.specs.Sizes.{Tables, pack, frameBits, Point, origin, points}
+use Rattle.g9932.specs.Refusals.{frameTest}
 use Rattle.g9932.specs.Order.{count, isOne, ones, entries, reorderedBits}
 use Rattle.g9932.specs.Trellis.{zeroState, encodePairs, frame, breaks, readPairs, readingOf, takenTotal}
 use Rattle.g9932.specs.Points.{negated}
 use Rattle.g9932.specs.Symbol.{reorderedTonesOf, classesOf, pairsIn, sizeOf, firstMonitored, writePoints, sentIn, writtenPoints, gatherBits, readingIn}
-use Rattle.g9932.specs.Answers.{Report, reportBy, Encoded, encodeAt, Read, readAt}
-use Rattle.g9932.specs.Nearest.{totalOf, frameTotal, NearestFrame, rangeTest, workBytes, nearestInputs, rangeVerdict, nearestVerdict, nearestOf, totalIn, ReadsNearest}
+use Rattle.g9932.specs.Answers.{encodeAt, Read, readAt}
+use Rattle.g9932.specs.Nearest.{totalOf, frameTotal, NearestFrame}
 use Rattle.g9932.specs.declared.Class.{Class}
 use Rattle.g9932.specs.declared.Class.the-variants.{Data, Monitored, Silent}
 use Rattle.g9932.specs.declared.Found.the-variants.{Nothing}
 use Rattle.g9932.specs.declared.Mode.{Mode}
 use Rattle.g9932.specs.declared.Mode.the-variants.{Coded}
-use Rattle.g9932.specs.declared.Nearest.{Nearest}
-use Rattle.g9932.specs.declared.Nearest.the-variants.{Done, Refused}
 use Rattle.g9932.proofs.Accepted.{Accepted, AcceptedCoded, accepted-tables}
 use Rattle.g9932.proofs.Constellations.{point-opposite}
-use Rattle.g9932.proofs.Distances.{total-self, total-bits, total-equal, total-gathered, written-range, opposite-range}
+use Rattle.g9932.proofs.Distances.{total-self, total-bits, total-equal, total-gathered}
 use Rattle.g9932.proofs.Formed.{Formed}
 use Rattle.g9932.proofs.HalfPairs.{halfTurned, turned-even, turned-odd}
 use Rattle.g9932.proofs.HalfWord.{half}
 use Rattle.g9932.proofs.Packed.{start-most, length-frame, pack-frame}
 use Rattle.g9932.proofs.PointLists.{points-both, points-xs, points-ys, length-points}
 use Rattle.g9932.proofs.Reordering.{nonzero-entries}
-use Rattle.g9932.proofs.Search.{first-all}
 use Rattle.g9932.proofs.Sent.{length-classes, loads-sum, length-taken, length-sentOf, read-sentOf, sentOf-read}
 use Rattle.g9932.proofs.Symbols.{loads, OnGrid, gather-write, length-gather}
 use Rattle.g9932.proofs.TurnedTones.{half-ones}
-use Rattle.g9932.proofs.Verdicts.{test-past, found-past, number-none, nine-unused, and-past, and-accepted}
-use Rattle.guarantees.specs.Words.{Bytes, AcceptedFrame, RightLength, Ready, nonZero, turned, SameUnloaded}
+use Rattle.guarantees.specs.Words.{AcceptedFrame, RightLength, Ready, nonZero, turned, SameUnloaded}
 use Rattle.guarantees.proofs.HalfTurn.{turnedRead, right, half-turn-only, half-turn-even}
-use Rattle.guarantees.proofs.Operations.{done, encoded, read-ready}
-use Rattle.guarantees.proofs.RoundTrip.{packed-frame, packed-points, length-sentIn, length-written, X-of, Y-of, encoded-xs, encoded-ys, answered, exactly}
+use Rattle.guarantees.proofs.RoundTrip.{packed-frame, packed-points, length-written, X-of, Y-of, encoded-xs, encoded-ys, answered, exactly}
 use Rattle.guarantees.proofs.TurnedSymbol.{AllLoaded, loaded-classes, PointTurn, leaves, off-13, turned-reading}
 
 -- ---- totals
@@ -112,14 +107,14 @@ module _ (T : Tables) (r start : ℕ) (xs ys : List ℤ) (f₀ : List ℕ) (read
   )
 
   -- what is written is read,
-  written-read : (g : List ℕ) → AcceptedFrame T start g → points X Y ≡ writtenPoints T r start g
+  pub written-read : (g : List ℕ) → AcceptedFrame T start g → points X Y ≡ writtenPoints T r start g
       → readAt T X Y r start f₀ ≡ record { report = encodeAt T start g r xs ys .report; frame = g }
   written-read g ok e =
       let l = written-lists g ok e in
       ap₂ (λ (A B : List ℤ). readAt T A B r start f₀) (sym (l .0)) (sym (l .1)) ∙ answered T r start xs ys f₀ ready g ok
 
   -- and what is read is what is written for the frame answered
-  read-written : readAt T X Y r start f₀ .report .verdict .number ≡ 0
+  pub read-written : readAt T X Y r start f₀ .report .verdict .number ≡ 0
       → (g : List ℕ) × AcceptedFrame T start g × (points X Y ≡ writtenPoints T r start g) × (readAt T X Y r start f₀ .frame ≡ g)
   read-written h =
       let w = exactly T r start xs ys f₀ ready X Y right .0 h in
@@ -273,7 +268,7 @@ module _ (T : Tables) (r start : ℕ) (xs ys : List ℤ) (f₀ : List ℕ) (read
   abbrev turnedPoints : List Point
   turnedPoints = points (turned (X-of T r start xs ys f₀ ready g)) (turned (Y-of T r start xs ys f₀ ready g))
 
-  are-points : turnedPoints ≡ map negated (writtenPoints T r start g)
+  pub are-points : turnedPoints ≡ map negated (writtenPoints T r start g)
   are-points = rw (encoded-xs T r start xs ys f₀ ready g ok, encoded-ys T r start xs ys f₀ ready g ok) (points-turned (writtenPoints T r start g))
 
   module _ (f : List ℕ) (n : ℕ) (near : NearestFrame T turnedPoints r start f n) where
@@ -291,95 +286,3 @@ module _ (T : Tables) (r start : ℕ) (xs ys : List ℤ) (f₀ : List ℕ) (read
       λ h. let e = half-turn-only T r start xs ys f₀ ready m g ok h in (e .0, nearest-half-turn .1 (e .1)),
       λ h. half-turn-even T r start xs ys f₀ ready m g ok (h .0) (nearest-half-turn .0 (h .1)) .0,
     )
-
--- ---- the operation's own answer
-
-no-size : (a : Nearest) → nearestOf a .verdict .number ≢ 0 → nearestOf a .verdict .size ≡ 0
-no-size (Done l r n) h = absurd (h refl)
-no-size (Refused x r) h = refl
-
-pub nine-nearest : (a : Nearest) → nearestOf a .verdict .number ≢ 9
-nine-nearest (Done l r n) e = omega arith
-nine-nearest (Refused x r) e = nine-unused x e
-
-sent-range : (T : Tables) (a : Accepted T) (r start : ℕ) (g : List ℕ) → AcceptedFrame T start g → (k : ℕ) → k < length (T .tones)
-    → rangeTest (writtenPoints T r start g) k ≡ false
-unfolding writtenPoints
-sent-range T a r start g ok k l = written-range T a r (sentIn T start g) (length-sentIn T a r start g ok) k (omega (arith, length-classes T))
-
-module _ (T : Tables) (X Y : List ℤ) (r start : ℕ) (f₀ work : List ℕ) where
-  abbrev verdict : Verdict
-  verdict = nearestVerdict T X Y r start (length f₀) (length work)
-
-  -- where everything is in order
-  in-order : Ready T r start X Y f₀ → start ≤ 7 → length work ≡ workBytes T → ((k : ℕ) → k < length (T .tones) → rangeTest (points X Y) k ≡ false)
-      → accepted (sizeOf T) ≡ verdict
-  unfolding nearestVerdict nearestInputs rangeVerdict
-  in-order ready small room range =
-      let inputs : accepted (sizeOf T)
-      ≡ nearestInputs start (sizeOf T) (length (T .tones)) (workBytes T) (length X) (length Y) (length f₀) (length work) r =
-      test-past 10
-      (rw (eq-eqb (length X) (length (T .tones)) (ready .lists .xsLength), eq-eqb (length Y) (length (T .tones)) (ready .lists .ysLength), eq-eqb (length f₀) (bytesFor start (sizeOf T)) (ready .frame), eq-eqb (length work) (workBytes T) room))
-      (test-past 11 (le-ltb 7 start small) (test-past 12 (ready .register) refl)) in
-      and-past (tableVerdict T) (ready .tables)
-      (and-accepted (sizeOf T) inputs (found-past 23 (first-all (rangeTest (points X Y)) (length (T .tones)) range) refl))
-
-  module _ (a : Nearest) (f work′ : List ℕ) (reads : ReadsNearest T X Y r start f₀ work a f work′) where
-    number-is : nearestOf a .verdict .number ≡ verdict .number
-    unfolding reportBy
-    number-is = ap (λ (e : Report). e .verdict .number) (reads .answer)
-
-    pub nearest-answer : nearestOf a .verdict .number ≡ 0 → NearestFrame T (points X Y) r start f (totalIn a)
-    nearest-answer h = reads .nearest (sym number-is ∙ h)
-
-    pub refused-nearest : nearestOf a .verdict .number ≢ 0
-        → (nearestOf a .register ≡ r) × (f ≡ f₀) × (work′ ≡ work) × (nearestOf a .verdict .size ≡ 0)
-    unfolding reportBy
-    refused-nearest h =
-        let some : verdict .number ≢ 0 = λ e. h (number-is ∙ e) in
-        (ap (λ (e : Report). e .register) (reads .answer) ∙ rw (ne-eqb (verdict .number) 0 some), reads .frameKept some, reads .workKept some, no-size a h)
-
-    order-done : accepted (sizeOf T) ≡ verdict → (nearestOf a ≡ done T r) × NearestFrame T (points X Y) r start f (totalIn a)
-    unfolding reportBy
-    order-done e = (reads .answer ∙ rw (← e), reads .nearest (number-none e))
-
-    -- on points that are read exactly
-    pub nearest-as-exact : length work ≡ workBytes T → Bytes f → readAt T X Y r start f₀ .report .verdict .number ≡ 0
-        → (nearestOf a ≡ readAt T X Y r start f₀ .report) × (totalIn a ≡ 0) × (f ≡ readAt T X Y r start f₀ .frame)
-    nearest-as-exact room bytes h =
-        let ready = read-ready T X Y r start f₀ h in
-        let w = read-written T r start X Y f₀ (ready .0) X Y (ready .0 .lists) h in
-        let o = order-done (in-order (ready .0) (ready .1) room (λ k l. ap (λ (q : List Point). rangeTest q k) (w .2) ∙ sent-range T (accepted-tables T (ready .0 .tables)) r start (w .0) (w .1) k l)) in
-        let x = nearest-exact T r start X Y f₀ (ready .0) X Y (ready .0 .lists) f (record { bytes = bytes; passes = o .1 .frameAccepted }) (totalIn a) (o .1) h in (
-          o .0
-              ∙ sym (ap (λ (b : Read). b .report) (written-read T r start X Y f₀ (ready .0) X Y (ready .0 .lists) (w .0) (w .1) (w .2))
-              ∙ ap (λ (b : Encoded). b .report) (encoded T r start X Y f₀ (ready .0) (w .0) (w .1))),
-          x .0,
-          x .1,
-        )
-
-module _ (T : Tables) (r start : ℕ) (xs ys : List ℤ) (f₀ : List ℕ) (ready : Ready T r start xs ys f₀) (work : List ℕ) (room : length work ≡ workBytes T)
-    (g : List ℕ) (ok : AcceptedFrame T start g) (a : Nearest) (f work′ : List ℕ) where
-  pub nearest-round-trip : Bytes f → ReadsNearest T (X-of T r start xs ys f₀ ready g) (Y-of T r start xs ys f₀ ready g) r start f₀ work a f work′
-      → (nearestOf a ≡ encodeAt T start g r xs ys .report) × (totalIn a ≡ 0) × (f ≡ g)
-  nearest-round-trip bytes reads =
-      let e = answered T r start xs ys f₀ ready g ok in
-      let z = ap (λ (b : Read). b .report .verdict .number) e ∙ ap (λ (b : Encoded). b .report .verdict .number) (encoded T r start xs ys f₀ ready g ok) in
-      let x = nearest-as-exact T (X-of T r start xs ys f₀ ready g) (Y-of T r start xs ys f₀ ready g) r start f₀ work a f work′ reads room bytes z in
-      (x .0 ∙ ap (λ (b : Read). b .report) e, x .1, x .2 ∙ ap (λ (b : Read). b .frame) e)
-
-  pub nearest-turned : (m : T .mode ≡ Coded)
-      → ReadsNearest T (turned (X-of T r start xs ys f₀ ready g)) (turned (Y-of T r start xs ys f₀ ready g)) r start f₀ work a f work′
-      → (nearestOf a ≡ encodeAt T start g r xs ys .report) × ((totalIn a ≡ 0) ↔ (nonZero T % 2 ≡ 0))
-  nearest-turned m reads =
-      let X′ : List ℤ = turned (X-of T r start xs ys f₀ ready g) in
-      let Y′ : List ℤ = turned (Y-of T r start xs ys f₀ ready g) in
-      let ready′ : Ready T r start X′ Y′ f₀ =
-      record { tables = ready .tables; register = ready .register; lists = right T r start xs ys f₀ ready m g ok; frame = ready .frame } in
-      let range : (k : ℕ) → k < length (T .tones) → rangeTest (points X′ Y′) k ≡ false =
-      λ k l. ap (λ (q : List Point). rangeTest q k) (are-points T r start xs ys f₀ ready m g ok) ∙ opposite-range (writtenPoints T r start g) k
-          ∙ sent-range T (accepted-tables T (ready .tables)) r start g ok k l in
-      let o = order-done T X′ Y′ r start f₀ work a f work′ reads (in-order T X′ Y′ r start f₀ work ready′ (start-most start (sizeOf T) g (ok .passes)) room range) in (
-        o .0 ∙ sym (ap (λ (b : Encoded). b .report) (encoded T r start xs ys f₀ ready g ok)),
-        nearest-half-turn T r start xs ys f₀ ready m g ok f (totalIn a) (o .1),
-      )
