@@ -82,7 +82,8 @@ tone-same (Data n) p q h = ap (λ (z : Point). labelBits (labelOf n z)) (distanc
 tone-same Monitored p q h = refl
 tone-same Silent p q h = refl
 
-pub total-bits : (cs : List Class) (p q : List Point) → length p ≡ length cs → length q ≡ length cs → totalOf cs p q ≡ 0 → gatherBits cs p ≡ gatherBits cs q
+pub total-bits : (cs : List Class) (p q : List Point) → length p ≡ length cs → length q ≡ length cs → totalOf cs p q ≡ 0
+    → gatherBits cs p ≡ gatherBits cs q
 unfolding totalOf gatherBits
 total-bits [] p q lp lq h = refl
 total-bits (c ∷ cs) [] q lp lq h = absurd (omega arith)
@@ -91,16 +92,14 @@ total-bits (c ∷ cs) (x ∷ p) (y ∷ q) lp lq h =
     let z = none-left (toneDistance c x y) (totalOf cs p q) h in
     ap₂ (λ (a b : List Bool). a ++ b) (tone-same c x y (z .0)) (total-bits cs p q (omega arith) (omega arith) (z .1))
 
--- with the points of the other tones, all is the same
-abbrev pub UnloadedSame : List Class → List Point → List Point → Type 0
-UnloadedSame cs p q = (k : ℕ) → k < length cs → load (getD cs k Silent) ≡ 0 → getD p k origin ≡ getD q k origin
-
 tone-equal : (c : Class) (p q : Point) → toneDistance c p q ≡ 0 → (load c ≡ 0 → p ≡ q) → p ≡ q
 tone-equal (Data n) p q h u = distance-zero p q h
 tone-equal Monitored p q h u = u refl
 tone-equal Silent p q h u = u refl
 
-pub total-equal : (cs : List Class) (p q : List Point) → length p ≡ length cs → length q ≡ length cs → totalOf cs p q ≡ 0 → UnloadedSame cs p q → p ≡ q
+-- where the tones that carry no data agree too, all points are the same
+pub total-equal : (cs : List Class) (p q : List Point) → length p ≡ length cs → length q ≡ length cs → totalOf cs p q ≡ 0
+    → ((k : ℕ) → k < length cs → load (getD cs k Silent) ≡ 0 → getD p k origin ≡ getD q k origin) → p ≡ q
 unfolding totalOf
 total-equal [] [] [] lp lq h u = refl
 total-equal [] (x ∷ p) q lp lq h u = absurd (omega arith)
@@ -127,7 +126,8 @@ tone-load (Data n) p h = label-back n p h .0
 tone-load Monitored p h = refl
 tone-load Silent p h = refl
 
-pub total-gathered : (r : ℕ) (cs : List Class) (q : List Point) → length q ≡ length cs → OnGrid cs q → totalOf cs q (writePoints r cs (gatherBits cs q)) ≡ 0
+pub total-gathered : (r : ℕ) (cs : List Class) (q : List Point) → length q ≡ length cs → OnGrid cs q
+    → totalOf cs q (writePoints r cs (gatherBits cs q)) ≡ 0
 unfolding totalOf writePoints gatherBits
 total-gathered r [] q l on = refl
 total-gathered r (c ∷ cs) [] l on = refl
@@ -185,8 +185,8 @@ tone-range r Silent d h l = (omega arith, omega arith)
 in-range : (p : Point) → InRange p → outOfRange (p .px) || outOfRange (p .py) ≡ false
 in-range p h = rw (le-ltb 1023 (natAbs (p .px)) (h .0), le-ltb 1023 (natAbs (p .py)) (h .1))
 
-write-range : (r : ℕ) (cs : List Class) (d : List Bool) → length d ≡ loads cs → ((k : ℕ) → load (getD cs k Silent) ≤ 15) → (k : ℕ) → k < length cs
-    → rangeTest (writePoints r cs d) k ≡ false
+write-range : (r : ℕ) (cs : List Class) (d : List Bool) → length d ≡ loads cs → ((k : ℕ) → load (getD cs k Silent) ≤ 15)
+    → (k : ℕ) → k < length cs → rangeTest (writePoints r cs d) k ≡ false
 unfolding writePoints
 write-range r [] d l most k h = absurd (omega arith)
 write-range r (c ∷ cs) d l most zero h = in-range (tonePoint r c d) (tone-range r c d (most 0) (omega arith))

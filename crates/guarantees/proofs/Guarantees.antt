@@ -1,6 +1,7 @@
 -- The promises over the definitions of document 01: demand 3, in full; of demand 2, how many bits go on the tones, and which go where;
--- and what else is shown of the definitions. That the code gives what they say is the `ensures` of each operation. Each proof cites
--- the part that shows it. The words are those of specs/Words.antt and of crate g9932.
+-- what else is shown of the definitions; and of request R-13, nearest reading against exact reading. That the code gives what they say
+-- is the `ensures` of each operation. Each proof cites the part that shows it. The words are those of specs/Words.antt and of crate
+-- g9932.
 use Prim.Native.Nat.{ℕ, _+_, _-_, _*_, _/_, _%_, _^_, _≤_, _<_}
 use mathlib.Core.Bool.{Bool, true, false, cond, not}
 use mathlib.Core.List.{List, [], _∷_, map}
@@ -375,8 +376,8 @@ module _ (T : Tables) (r start : ℕ) (xs ys : List ℤ) (f₀ : List ℕ) (read
   pub nearest-exactly : (readAt T X Y r start f₀ .report .verdict .number ≡ 0) ↔ ((n ≡ 0) × SameUnloaded T (points X Y) (writtenPoints T r start f))
   nearest-exactly = NearestFrames.nearest-exactly T r start xs ys f₀ ready X Y right f ok n near
 
--- Coded, for the symbol written for g with every point turned by half a turn, and a nearest frame f of it, with total n: total 0 is no
--- proof that no point was turned. It says so only together with the points at monitored places.
+-- Coded, for the symbol written for g with every point turned by half a turn, and a nearest frame f of it, with total n. Total 0 is no
+-- proof that the points are not turned: the total doesn't look at monitored points, and they alone can show it where N is even.
 module _ (T : Tables) (r start : ℕ) (xs ys : List ℤ) (f₀ : List ℕ) (ready : Ready T r start xs ys f₀) (m : T .mode ≡ Coded)
     (g : List ℕ) (ok : AcceptedFrame T start g) (f : List ℕ) (n : ℕ)
     (near : NearestFrame T (points (turned (encodeAt T start g r xs ys .xs)) (turned (encodeAt T start g r xs ys .ys))) r start f n) where
@@ -416,8 +417,8 @@ pub nine-nearest : (a : Nearest) → nearestOf a .verdict .number ≢ 9
 nine-nearest = NearestAnswers.nine-nearest
 
 -- As in demand 3, with a working buffer of its exact length:
-module _ (T : Tables) (r start : ℕ) (xs ys : List ℤ) (f₀ : List ℕ) (ready : Ready T r start xs ys f₀) (work : List ℕ) (room : length work ≡ workBytes T)
-    (g : List ℕ) (ok : AcceptedFrame T start g) (a : Nearest) (f work′ : List ℕ) where
+module _ (T : Tables) (r start : ℕ) (xs ys : List ℤ) (f₀ : List ℕ) (ready : Ready T r start xs ys f₀) (work : List ℕ)
+    (room : length work ≡ workBytes T) (g : List ℕ) (ok : AcceptedFrame T start g) (a : Nearest) (f work′ : List ℕ) where
   -- The symbol written for g is read back: with the number, place, L and register of encoding it, total 0, and g itself.
   pub nearest-round-trip : Bytes f → ReadsNearest T (encodeAt T start g r xs ys .xs) (encodeAt T start g r xs ys .ys) r start f₀ work a f work′
       → (nearestOf a ≡ encodeAt T start g r xs ys .report) × (totalIn a ≡ 0) × (f ≡ g)

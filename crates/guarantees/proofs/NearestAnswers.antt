@@ -11,7 +11,6 @@ use lib.IntN.{ℤ}
 use lib.ListN.{length}
 use Rattle.g9932.specs.Sizes.{Tables, bytesFor, Point, points}
 use Rattle.g9932.specs.Refusals.{Verdict, accepted, tableVerdict}
-use Rattle.g9932.specs.Trellis.{frame}
 use Rattle.g9932.specs.Symbol.{sizeOf, sentIn, writtenPoints}
 use Rattle.g9932.specs.Answers.{Report, reportBy, Encoded, encodeAt, Read, readAt}
 use Rattle.g9932.specs.Nearest.{NearestFrame, rangeTest, workBytes, nearestInputs, rangeVerdict, nearestVerdict, nearestOf, totalIn, ReadsNearest}
@@ -48,14 +47,19 @@ module _ (T : Tables) (X Y : List ℤ) (r start : ℕ) (f₀ work : List ℕ) wh
   verdict = nearestVerdict T X Y r start (length f₀) (length work)
 
   -- where everything is in order
-  in-order : Ready T r start X Y f₀ → start ≤ 7 → length work ≡ workBytes T → ((k : ℕ) → k < length (T .tones) → rangeTest (points X Y) k ≡ false)
-      → accepted (sizeOf T) ≡ verdict
+  in-order : Ready T r start X Y f₀ → start ≤ 7 → length work ≡ workBytes T
+      → ((k : ℕ) → k < length (T .tones) → rangeTest (points X Y) k ≡ false) → accepted (sizeOf T) ≡ verdict
   unfolding nearestVerdict nearestInputs rangeVerdict
   in-order ready small room range =
       let inputs : accepted (sizeOf T)
       ≡ nearestInputs start (sizeOf T) (length (T .tones)) (workBytes T) (length X) (length Y) (length f₀) (length work) r =
       test-past 10
-      (rw (eq-eqb (length X) (length (T .tones)) (ready .lists .xsLength), eq-eqb (length Y) (length (T .tones)) (ready .lists .ysLength), eq-eqb (length f₀) (bytesFor start (sizeOf T)) (ready .frame), eq-eqb (length work) (workBytes T) room))
+      (rw (
+        eq-eqb (length X) (length (T .tones)) (ready .lists .xsLength),
+        eq-eqb (length Y) (length (T .tones)) (ready .lists .ysLength),
+        eq-eqb (length f₀) (bytesFor start (sizeOf T)) (ready .frame),
+        eq-eqb (length work) (workBytes T) room,
+      ))
       (test-past 11 (le-ltb 7 start small) (test-past 12 (ready .register) refl)) in
       and-past (tableVerdict T) (ready .tables)
       (and-accepted (sizeOf T) inputs (found-past 23 (first-all (rangeTest (points X Y)) (length (T .tones)) range) refl))
@@ -83,19 +87,21 @@ module _ (T : Tables) (X Y : List ℤ) (r start : ℕ) (f₀ work : List ℕ) wh
     pub nearest-as-exact : length work ≡ workBytes T → Bytes f → readAt T X Y r start f₀ .report .verdict .number ≡ 0
         → (nearestOf a ≡ readAt T X Y r start f₀ .report) × (totalIn a ≡ 0) × (f ≡ readAt T X Y r start f₀ .frame)
     nearest-as-exact room bytes h =
-        let ready = read-ready T X Y r start f₀ h in
-        let w = read-written T r start X Y f₀ (ready .0) X Y (ready .0 .lists) h in
-        let o = order-done (in-order (ready .0) (ready .1) room (λ k l. ap (λ (q : List Point). rangeTest q k) (w .2) ∙ sent-range T (accepted-tables T (ready .0 .tables)) r start (w .0) (w .1) k l)) in
-        let x = nearest-exact T r start X Y f₀ (ready .0) X Y (ready .0 .lists) f (record { bytes = bytes; passes = o .1 .frameAccepted }) (totalIn a) (o .1) h in (
-          o .0
-              ∙ sym (ap (λ (b : Read). b .report) (written-read T r start X Y f₀ (ready .0) X Y (ready .0 .lists) (w .0) (w .1) (w .2))
-              ∙ ap (λ (b : Encoded). b .report) (encoded T r start X Y f₀ (ready .0) (w .0) (w .1))),
-          x .0,
-          x .1,
-        )
+        let ready = read-ready T X Y r start f₀ h .0 in
+        let small = read-ready T X Y r start f₀ h .1 in
+        let w = read-written T r start X Y f₀ ready X Y (ready .lists) h in
+        let range : (k : ℕ) → k < length (T .tones) → rangeTest (points X Y) k ≡ false =
+        λ k l. ap (λ (q : List Point). rangeTest q k) (w .2) ∙ sent-range T (accepted-tables T (ready .tables)) r start (w .0) (w .1) k l in
+        let o = order-done (in-order ready small room range) in
+        let ok : AcceptedFrame T start f = record { bytes = bytes; passes = o .1 .frameAccepted } in
+        let x = nearest-exact T r start X Y f₀ ready X Y (ready .lists) f ok (totalIn a) (o .1) h in
+        let report : readAt T X Y r start f₀ .report ≡ done T r =
+        ap (λ (b : Read). b .report) (written-read T r start X Y f₀ ready X Y (ready .lists) (w .0) (w .1) (w .2))
+        ∙ ap (λ (b : Encoded). b .report) (encoded T r start X Y f₀ ready (w .0) (w .1)) in
+        (o .0 ∙ sym report, x .0, x .1)
 
-module _ (T : Tables) (r start : ℕ) (xs ys : List ℤ) (f₀ : List ℕ) (ready : Ready T r start xs ys f₀) (work : List ℕ) (room : length work ≡ workBytes T)
-    (g : List ℕ) (ok : AcceptedFrame T start g) (a : Nearest) (f work′ : List ℕ) where
+module _ (T : Tables) (r start : ℕ) (xs ys : List ℤ) (f₀ : List ℕ) (ready : Ready T r start xs ys f₀) (work : List ℕ)
+    (room : length work ≡ workBytes T) (g : List ℕ) (ok : AcceptedFrame T start g) (a : Nearest) (f work′ : List ℕ) where
   pub nearest-round-trip : Bytes f → ReadsNearest T (X-of T r start xs ys f₀ ready g) (Y-of T r start xs ys f₀ ready g) r start f₀ work a f work′
       → (nearestOf a ≡ encodeAt T start g r xs ys .report) × (totalIn a ≡ 0) × (f ≡ g)
   nearest-round-trip bytes reads =
@@ -115,7 +121,8 @@ module _ (T : Tables) (r start : ℕ) (xs ys : List ℤ) (f₀ : List ℕ) (read
       let range : (k : ℕ) → k < length (T .tones) → rangeTest (points X′ Y′) k ≡ false =
       λ k l. ap (λ (q : List Point). rangeTest q k) (are-points T r start xs ys f₀ ready m g ok) ∙ opposite-range (writtenPoints T r start g) k
       ∙ sent-range T (accepted-tables T (ready .tables)) r start g ok k l in
-      let o = order-done T X′ Y′ r start f₀ work a f work′ reads (in-order T X′ Y′ r start f₀ work ready′ (start-most start (sizeOf T) g (ok .passes)) room range) in (
+      let order = in-order T X′ Y′ r start f₀ work ready′ (start-most start (sizeOf T) g (ok .passes)) room range in
+      let o = order-done T X′ Y′ r start f₀ work a f work′ reads order in (
         o .0 ∙ sym (ap (λ (b : Encoded). b .report) (encoded T r start xs ys f₀ ready g ok)),
         nearest-half-turn T r start xs ys f₀ ready m g ok f (totalIn a) (o .1),
       )

@@ -4,7 +4,7 @@ use Prim.Native.Nat.{ℕ, zero, suc, _/_, _%_, _≤_, _<_}
 use mathlib.Core.Bool.{Bool, true, false, cond}
 use mathlib.Core.List.{List, [], _∷_, map}
 use mathlib.Core.Logic.{_↔_, _≢_}
-use mathlib.Core.Path.{_≡_, refl, sym, ap, ap₂, _∙_, subst}
+use mathlib.Core.Path.{_≡_, refl, sym, ap, ap₂, _∙_}
 use native.Mathlib.Omega.{arith}
 use borrow.Author.Tests.{eq-eqb, ne-eqb, le-ltb}
 use lib.Dec.{ltb, eqb}
@@ -59,7 +59,8 @@ not-both e = let z : _≡_ {A = ℕ} 0 1 = cc in omega arith
 
 module _ (T : Tables) (a : Accepted T) (r start : ℕ) (q : List Point) (long : length q ≡ length (T .tones)) where
   -- the bits of a frame at total 0 are what the points are read as, 13 and 14 apart
-  pub zero-reading : (f : List ℕ) → frameTest start (sizeOf T) f ≡ false → frameTotal T q r start f ≡ 0 → readingIn T q ≡ frame (frameBits start (sizeOf T) f)
+  pub zero-reading : (f : List ℕ) → frameTest start (sizeOf T) f ≡ false → frameTotal T q r start f ≡ 0
+      → readingIn T q ≡ frame (frameBits start (sizeOf T) f)
   unfolding writtenPoints readingIn
   zero-reading f ok z =
       let l : length (sentIn T start f) ≡ loads (classesOf T) =
@@ -69,7 +70,8 @@ module _ (T : Tables) (a : Accepted T) (r start : ℕ) (q : List Point) (long : 
       ∙ gather-write r (classesOf T) (sentIn T start f) l)
       ∙ read-sentOf T a (frameBits start (sizeOf T) f) (length-frame start (sizeOf T) f ok)
 
-  pub zero-once : (f g : List ℕ) → AcceptedFrame T start f → AcceptedFrame T start g → frameTotal T q r start f ≡ 0 → frameTotal T q r start g ≡ 0 → f ≡ g
+  pub zero-once : (f g : List ℕ) → AcceptedFrame T start f → AcceptedFrame T start g
+      → frameTotal T q r start f ≡ 0 → frameTotal T q r start g ≡ 0 → f ≡ g
   zero-once f g hf hg zf zg =
       sym (pack-frame start (sizeOf T) f (hf .passes) (hf .bytes))
       ∙ ap (pack start) (bits-of (sym (zero-reading f (hf .passes) zf) ∙ zero-reading g (hg .passes) zg))
@@ -78,14 +80,16 @@ module _ (T : Tables) (a : Accepted T) (r start : ℕ) (q : List Point) (long : 
   module _ (f : List ℕ) (ok : AcceptedFrame T start f) (n : ℕ) (near : NearestFrame T q r start f n) where
     pub written-nearest : (g : List ℕ) → AcceptedFrame T start g → q ≡ writtenPoints T r start g → (n ≡ 0) × (f ≡ g)
     written-nearest g hg e =
-        let zg : frameTotal T q r start g ≡ 0 = subst (λ (w : List Point). frameTotal T w r start g ≡ 0) (sym e) (total-self (classesOf T) (writtenPoints T r start g)) in
+        let zg : frameTotal T q r start g ≡ 0 =
+        ap (λ (w : List Point). frameTotal T w r start g) e ∙ total-self (classesOf T) (writtenPoints T r start g) in
         let z : n ≡ 0 = omega (arith, near .least g (hg .passes), zg) in
         (z, zero-once f g ok hg (near .total ∙ z) zg)
 
     -- at total 0, with the tones that carry no data as they are written
     pub zero-written : n ≡ 0 → SameUnloaded T q (writtenPoints T r start f) → q ≡ writtenPoints T r start f
     zero-written z same =
-        total-equal (classesOf T) q (writtenPoints T r start f) (long ∙ sym (length-classes T)) (length-written T a r start f ∙ sym (length-classes T)) (near .total ∙ z)
+        total-equal (classesOf T) q (writtenPoints T r start f) (long ∙ sym (length-classes T))
+        (length-written T a r start f ∙ sym (length-classes T)) (near .total ∙ z)
         (λ k h. same k (omega (arith, length-classes T)))
 
 -- ---- exact reading
@@ -100,7 +104,8 @@ module _ (T : Tables) (r start : ℕ) (xs ys : List ℤ) (f₀ : List ℕ) (read
   long : length (points X Y) ≡ length (T .tones)
   long = length-points X Y same-length ∙ right .xsLength
 
-  written-lists : (g : List ℕ) → AcceptedFrame T start g → points X Y ≡ writtenPoints T r start g → (X-of T r start xs ys f₀ ready g ≡ X) × (Y-of T r start xs ys f₀ ready g ≡ Y)
+  written-lists : (g : List ℕ) → AcceptedFrame T start g → points X Y ≡ writtenPoints T r start g
+      → (X-of T r start xs ys f₀ ready g ≡ X) × (Y-of T r start xs ys f₀ ready g ≡ Y)
   written-lists g ok e = (
     encoded-xs T r start xs ys f₀ ready g ok ∙ ap (map (λ p. p .px)) (sym e) ∙ points-xs X Y same-length,
     encoded-ys T r start xs ys f₀ ready g ok ∙ ap (map (λ p. p .py)) (sym e) ∙ points-ys X Y same-length,
@@ -164,7 +169,7 @@ unfolding points
 points-turned [] = refl
 points-turned (p ∷ q) = ap (λ (l : List Point). negated p ∷ l) (points-turned q)
 
--- no point leaves its constellation
+-- half a turn, by which no point leaves its constellation
 abbrev halfPoint : PointTurn
 halfPoint =
     record {
@@ -265,6 +270,9 @@ module _ (T : Tables) (a : Accepted T) (m : T .mode ≡ Coded) (r start : ℕ) (
 -- the turned lists of the page
 module _ (T : Tables) (r start : ℕ) (xs ys : List ℤ) (f₀ : List ℕ) (ready : Ready T r start xs ys f₀) (m : T .mode ≡ Coded)
     (g : List ℕ) (ok : AcceptedFrame T start g) where
+  known : Accepted T
+  known = accepted-tables T (ready .tables)
+
   abbrev turnedPoints : List Point
   turnedPoints = points (turned (X-of T r start xs ys f₀ ready g)) (turned (Y-of T r start xs ys f₀ ready g))
 
@@ -276,10 +284,10 @@ module _ (T : Tables) (r start : ℕ) (xs ys : List ℤ) (f₀ : List ℕ) (read
     near′ = rw are-points at near
 
     pub nearest-half-turn : (n ≡ 0) ↔ (nonZero T % 2 ≡ 0)
-    nearest-half-turn = (half-zero T (accepted-tables T (ready .tables)) m r start g ok f n near′, half-even T (accepted-tables T (ready .tables)) m r start g ok f n near′)
+    nearest-half-turn = (half-zero T known m r start g ok f n near′, half-even T known m r start g ok f n near′)
 
     pub nearest-half-turn-other : n ≡ 0 → f ≢ g
-    nearest-half-turn-other = half-other T (accepted-tables T (ready .tables)) m r start g ok f n near′
+    nearest-half-turn-other = half-other T known m r start g ok f n near′
 
     pub nearest-half-turn-exactly : (turnedRead T r start xs ys f₀ ready g .report .verdict .number ≡ 0) ↔ ((firstMonitored T ≡ Nothing) × (n ≡ 0))
     nearest-half-turn-exactly = (
