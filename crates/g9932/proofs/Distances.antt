@@ -46,13 +46,13 @@ square-zero′ : (n m : ℕ) → m + n * n ≡ 0 → n ≡ 0
 square-zero′ zero m e = refl
 square-zero′ (suc n) m e = absurd (omega (arith, e))
 
-pub distance-self : (p : Point) → squaredDistance p p ≡ 0
+distance-self : (p : Point) → squaredDistance p p ≡ 0
 distance-self p =
     let a = apart-self (p .px) in
     let b = apart-self (p .py) in
     λ i. a i * a i + b i * b i
 
-pub distance-zero : (p q : Point) → squaredDistance p q ≡ 0 → p ≡ q
+distance-zero : (p q : Point) → squaredDistance p q ≡ 0 → p ≡ q
 distance-zero p q e =
     let a : ℕ = apart (p .px) (q .px) in
     let b : ℕ = apart (p .py) (q .py) in

@@ -59,7 +59,7 @@ not-both e = let z : _≡_ {A = ℕ} 0 1 = cc in omega arith
 
 module _ (T : Tables) (a : Accepted T) (r start : ℕ) (q : List Point) (long : length q ≡ length (T .tones)) where
   -- the bits of a frame at total 0 are what the points are read as, 13 and 14 apart
-  pub zero-reading : (f : List ℕ) → frameTest start (sizeOf T) f ≡ false → frameTotal T q r start f ≡ 0
+  zero-reading : (f : List ℕ) → frameTest start (sizeOf T) f ≡ false → frameTotal T q r start f ≡ 0
       → readingIn T q ≡ frame (frameBits start (sizeOf T) f)
   unfolding writtenPoints readingIn
   zero-reading f ok z =
@@ -70,7 +70,7 @@ module _ (T : Tables) (a : Accepted T) (r start : ℕ) (q : List Point) (long : 
       ∙ gather-write r (classesOf T) (sentIn T start f) l)
       ∙ read-sentOf T a (frameBits start (sizeOf T) f) (length-frame start (sizeOf T) f ok)
 
-  pub zero-once : (f g : List ℕ) → AcceptedFrame T start f → AcceptedFrame T start g
+  zero-once : (f g : List ℕ) → AcceptedFrame T start f → AcceptedFrame T start g
       → frameTotal T q r start f ≡ 0 → frameTotal T q r start g ≡ 0 → f ≡ g
   zero-once f g hf hg zf zg =
       sym (pack-frame start (sizeOf T) f (hf .passes) (hf .bytes))
@@ -78,7 +78,7 @@ module _ (T : Tables) (a : Accepted T) (r start : ℕ) (q : List Point) (long : 
       ∙ pack-frame start (sizeOf T) g (hg .passes) (hg .bytes)
 
   module _ (f : List ℕ) (ok : AcceptedFrame T start f) (n : ℕ) (near : NearestFrame T q r start f n) where
-    pub written-nearest : (g : List ℕ) → AcceptedFrame T start g → q ≡ writtenPoints T r start g → (n ≡ 0) × (f ≡ g)
+    written-nearest : (g : List ℕ) → AcceptedFrame T start g → q ≡ writtenPoints T r start g → (n ≡ 0) × (f ≡ g)
     written-nearest g hg e =
         let zg : frameTotal T q r start g ≡ 0 =
         ap (λ (w : List Point). frameTotal T w r start g) e ∙ total-self (classesOf T) (writtenPoints T r start g) in
@@ -86,7 +86,7 @@ module _ (T : Tables) (a : Accepted T) (r start : ℕ) (q : List Point) (long : 
         (z, zero-once f g ok hg (near .total ∙ z) zg)
 
     -- at total 0, with the tones that carry no data as they are written
-    pub zero-written : n ≡ 0 → SameUnloaded T q (writtenPoints T r start f) → q ≡ writtenPoints T r start f
+    zero-written : n ≡ 0 → SameUnloaded T q (writtenPoints T r start f) → q ≡ writtenPoints T r start f
     zero-written z same =
         total-equal (classesOf T) q (writtenPoints T r start f) (long ∙ sym (length-classes T))
         (length-written T a r start f ∙ sym (length-classes T)) (near .total ∙ z)
@@ -196,8 +196,9 @@ module _ (T : Tables) (a : Accepted T) (m : T .mode ≡ Coded) (r start : ℕ) (
   abbrev q : List Point
   q = map negated (writtenPoints T r start g)
 
-  abbrev sent : List Bool
-  sent = frameBits start (sizeOf T) g
+  -- the frame's own bits
+  abbrev own : List Bool
+  own = frameBits start (sizeOf T) g
 
   length-q : length q ≡ length (T .tones)
   length-q = length-map (writtenPoints T r start g) negated ∙ length-written T a r start g
@@ -208,13 +209,13 @@ module _ (T : Tables) (a : Accepted T) (m : T .mode ≡ Coded) (r start : ℕ) (
   on-grid : OnGrid (classesOf T) q
   on-grid k h = off-13 halfPoint T a m r start g ok k h ∙ none k h
 
-  half-reading : readingIn T q ≡ readPairs zeroState (pairsIn T) (halfTurned (pairsIn T) (encodePairs zeroState (pairsIn T) sent))
+  half-reading : readingIn T q ≡ readPairs zeroState (pairsIn T) (halfTurned (pairsIn T) (encodePairs zeroState (pairsIn T) own))
   half-reading =
       let n : ℕ = ones (T .bits) (T .tones) in
       let even : n % 2 ≡ 0 = c .onesEven in
       turned-reading halfPoint T a m r start g ok none (λ d l. half-ones (n / 2) n d (omega arith) l)
 
-  taken-bits : length sent ≡ takenTotal (pairsIn T)
+  taken-bits : length own ≡ takenTotal (pairsIn T)
   taken-bits = length-taken T a m start g (ok .passes)
 
   parity : nonZero T ≡ length (entries (T .bits) (T .tones))
@@ -226,12 +227,12 @@ module _ (T : Tables) (a : Accepted T) (m : T .mode ≡ Coded) (r start : ℕ) (
   -- whatever is monitored: N odd breaks the code, and N even gives the bits of another frame
   odd-reading : nonZero T % 2 ≡ 1 → readingIn T q ≡ breaks (cond (eqb (length (pairsIn T)) 3) 1 2)
   odd-reading n =
-      half-reading ∙ turned-odd (pairsIn T) sent (formed-as true (eq-eqb (length (entries (T .bits) (T .tones)) % 2) 1 (rw (← parity) n))) taken-bits
+      half-reading ∙ turned-odd (pairsIn T) own (formed-as true (eq-eqb (length (entries (T .bits) (T .tones)) % 2) 1 (rw (← parity) n))) taken-bits
 
-  even-reading : nonZero T % 2 ≡ 0 → (h : List Bool) × (readingIn T q ≡ frame h) × (h ≢ sent)
+  even-reading : nonZero T % 2 ≡ 0 → (h : List Bool) × (readingIn T q ≡ frame h) × (h ≢ own)
   even-reading n =
       let o = formed-as false (ne-eqb (length (entries (T .bits) (T .tones)) % 2) 1 (λ h. omega (arith, parity))) in
-      let t = turned-even (pairsIn T) sent o taken-bits in
+      let t = turned-even (pairsIn T) own o taken-bits in
       (t .0, half-reading ∙ t .1, t .2)
 
   -- which has total 0
