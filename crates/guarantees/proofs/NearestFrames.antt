@@ -36,7 +36,7 @@ use Rattle.g9932.proofs.Sent.{length-classes, loads-sum, length-taken, length-s
 use Rattle.g9932.proofs.Symbols.{loads, OnGrid, gather-write, length-gather}
 use Rattle.g9932.proofs.TurnedTones.{half-ones}
 use Rattle.guarantees.specs.Words.{AcceptedFrame, RightLength, Ready, nonZero, turned, SameUnloaded}
-use Rattle.guarantees.proofs.HalfTurn.{turnedRead, right, half-turn-only, half-turn-even}
+use Rattle.guarantees.proofs.HalfTurn.{turnedRead, half-turn-only, half-turn-even}
 use Rattle.guarantees.proofs.RoundTrip.{packed-frame, packed-points, length-written, X-of, Y-of, encoded-xs, encoded-ys, answered, exactly}
 use Rattle.guarantees.proofs.TurnedSymbol.{AllLoaded, loaded-classes, PointTurn, leaves, off-13, turned-reading}
 
