@@ -21,12 +21,8 @@ use Rattle.g9932.specs.declared.TrellisState.{TrellisState}
 abbrev pub AcceptedTables : Tables → Type 0
 AcceptedTables T = tableVerdict T .number ≡ 0
 
--- the bytes of a lent buffer, by its type
-abbrev pub Bytes : List ℕ → Type 0
-Bytes f = (k : ℕ) → k < length f → getD f k 0 < 256
-
 pub record AcceptedFrame (T : Tables) (start : ℕ) (f : List ℕ) : Type 0 where
-  pub bytes : Bytes f
+  pub bytes : (k : ℕ) → k < length f → getD f k 0 < 256
   pub passes : frameTest start (sizeOf T) f ≡ false
 
 abbrev pub ValidRegister : ℕ → Type 0
@@ -126,6 +122,10 @@ abbrev pub fillerBit : ℕ → Bool
 fillerBit n = bit (drawn n resetRegister) (n - 1)
 
 -- ---- received points
+
+-- what a buffer of bytes holds, by its type; `ReadsNearest` names the frame that is left in one and does not say it
+abbrev pub Bytes : List ℕ → Type 0
+Bytes f = (k : ℕ) → k < length f → getD f k 0 < 256
 
 -- two point lists agree at the tones that carry no data: at each monitored or silent place in t'
 abbrev pub SameUnloaded : Tables → List Point → List Point → Type 0
