@@ -1,6 +1,7 @@
 -- The promises over the definitions of document 01: demand 3, in full; of demand 2, how many bits go on the tones, and which go where;
--- and what else is shown of the definitions. That the code gives what they say is the `ensures` of each operation. Each proof cites
--- the part that shows it. The words are those of specs/Words.antt and of crate g9932.
+-- what else is shown of the definitions; and of request R-13, nearest reading against exact reading. That the code gives what they say
+-- is the `ensures` of each operation. Each proof cites the part that shows it. The words are those of specs/Words.antt and of crate
+-- g9932.
 use Prim.Native.Nat.{ℕ, _+_, _-_, _*_, _/_, _%_, _^_, _≤_, _<_}
 use mathlib.Core.Bool.{Bool, true, false, cond, not}
 use mathlib.Core.List.{List, [], _∷_, map}
@@ -10,7 +11,7 @@ use lib.Dec.{eqb}
 use lib.IntN.{ℤ}
 use lib.ListN.{length, take, drop, getD}
 use Rattle.g9932.specs.Bits.{_⊕_, bits, bit, num, odd}
-use Rattle.g9932.specs.Sizes.{Tables, entry, bytesFor, pack, frameBits, unusedBits, Point, origin}
+use Rattle.g9932.specs.Sizes.{Tables, entry, bytesFor, pack, frameBits, unusedBits, Point, origin, points}
 use Rattle.g9932.specs.Refusals.{numberOf, accepted, refused, someOne, tableVerdict}
 use Rattle.g9932.specs.Order.{sum, count, filter, oneBit, bitsOf, entryCount, entries, pairCount}
 use Rattle.g9932.specs.Trellis.{Word, zeroState, lowBits, lowBitsOf, sentBits}
@@ -19,21 +20,25 @@ use Rattle.g9932.specs.Filler.{nextRegister, drawn, afterDraws, registerAfter}
 use Rattle.g9932.specs.Symbol.{reorderedTonesOf, reorderedBitsOf, classesOf, pairsIn, sizeOf, sentIn, writtenPoints, firstMonitored}
 use Rattle.g9932.specs.Answers.{reorderOf, encodeAt, Read, readAt, toneDone, mapLabel, readPoint, drawAnswer}
 use Rattle.g9932.specs.Aligned.{encodeOf, readOf}
+use Rattle.g9932.specs.Nearest.{frameTotal, NearestFrame, workBytes, nearestOf, totalIn, ReadsNearest}
 use Rattle.g9932.specs.Figures.{MarkedFigures}
 use Rattle.g9932.specs.declared.Class.the-variants.{Monitored, Silent}
 use Rattle.g9932.specs.declared.Found.the-variants.{At, Nothing}
 use Rattle.g9932.specs.declared.Mode.the-variants.{Uncoded, Coded}
+use Rattle.g9932.specs.declared.Nearest.{Nearest}
 use Rattle.g9932.specs.declared.Refusal.{Refusal}
 use Rattle.g9932.proofs.Aligned as Aligned
 use Rattle.g9932.proofs.Figures as Figures
 use Rattle.g9932.proofs.Packed as Packed
 use Rattle.g9932.proofs.Reordering as Reordering
 use Rattle.g9932.proofs.Verdicts as Verdicts
-use Rattle.guarantees.specs.Words.{AcceptedTables, AcceptedFrame, ValidRegister, RightLength, Ready, nonZero, pairAt, wordsIn, stateAfter, labelsOf, lowest, lowestAt, oneBitTones, firstOfTwo, sharedEntry, table10-2, bitOne, zeroBitTones, fillerBit, turned}
+use Rattle.guarantees.specs.Words.{Bytes, AcceptedTables, AcceptedFrame, ValidRegister, RightLength, Ready, nonZero, pairAt, wordsIn, stateAfter, labelsOf, lowest, lowestAt, oneBitTones, firstOfTwo, sharedEntry, table10-2, bitOne, zeroBitTones, fillerBit, turned, SameUnloaded}
 use Rattle.guarantees.proofs.Coded as Coded
 use Rattle.guarantees.proofs.EntryBits as EntryBits
 use Rattle.guarantees.proofs.HalfTurn as HalfTurn
 use Rattle.guarantees.proofs.Mapping as Mapping
+use Rattle.guarantees.proofs.NearestAnswers as NearestAnswers
+use Rattle.guarantees.proofs.NearestFrames as NearestFrames
 use Rattle.guarantees.proofs.Operations as Operations
 use Rattle.guarantees.proofs.RoundTrip as RoundTrip
 use Rattle.guarantees.proofs.Totals as Totals
@@ -332,3 +337,95 @@ silent-point T r start f k h = Totals.silent-point T r start f k
 
 pub marked-figures : MarkedFigures
 marked-figures = Figures.marked-figures
+
+-- ---- nearest reading (request R-13)
+
+-- `NearestFrame` is all that is promised of the frame f and the total n that points are read as, so what follows holds of every answer
+-- that nearest reading can give. The total looks at loaded tones only. No accepted frame has less, so neither has the one that was sent,
+pub nearest-most : (T : Tables) (q : List Point) (r start : ℕ) (f : List ℕ) (n : ℕ) → NearestFrame T q r start f n
+    → (g : List ℕ) → AcceptedFrame T start g → n ≤ frameTotal T q r start g
+nearest-most T q r start f n near = NearestFrames.most near
+
+-- and any two answers have the same total.
+pub nearest-same-total : (T : Tables) (q : List Point) (r start : ℕ) (f g : List ℕ) (n m : ℕ)
+    → NearestFrame T q r start f n → NearestFrame T q r start g m → n ≡ m
+nearest-same-total T q r start f g n m near = NearestFrames.same-total near g m
+
+-- As in demand 3, for X and Y of the right length and a nearest frame f of bytes, with total n:
+module _ (T : Tables) (r start : ℕ) (xs ys : List ℤ) (f₀ : List ℕ) (ready : Ready T r start xs ys f₀) (X Y : List ℤ) (right : RightLength T X Y)
+    (f : List ℕ) (ok : AcceptedFrame T start f) (n : ℕ) (near : NearestFrame T (points X Y) r start f n) where
+  -- At total 0 the answer is not free: no other accepted frame has it.
+  pub nearest-one : n ≡ 0 → (g : List ℕ) → AcceptedFrame T start g → frameTotal T (points X Y) r start g ≡ 0 → g ≡ f
+  nearest-one = NearestFrames.nearest-one T r start xs ys f₀ ready X Y right f ok n near
+
+  -- The points of an accepted frame have total 0, and the answer is that frame.
+  pub nearest-written : (g : List ℕ) → AcceptedFrame T start g → points X Y ≡ writtenPoints T r start g → (n ≡ 0) × (f ≡ g)
+  nearest-written = NearestFrames.nearest-written T r start xs ys f₀ ready X Y right f ok n near
+
+  -- So have points that exact reading reads, and the answer is the same frame.
+  pub nearest-exact : readAt T X Y r start f₀ .report .verdict .number ≡ 0 → (n ≡ 0) × (f ≡ readAt T X Y r start f₀ .frame)
+  nearest-exact = NearestFrames.nearest-exact T r start xs ys f₀ ready X Y right f ok n near
+
+  -- The other way round, points at total 0 that have, at every monitored and every silent place, the point that is written there, are
+  -- those of f, and exact reading reads them as f.
+  pub nearest-zero : n ≡ 0 → SameUnloaded T (points X Y) (writtenPoints T r start f)
+      → (points X Y ≡ writtenPoints T r start f) × (readAt T X Y r start f₀ ≡ record { report = encodeAt T start f r xs ys .report; frame = f })
+  nearest-zero = NearestFrames.nearest-zero T r start xs ys f₀ ready X Y right f ok n near
+
+  -- Together: exact reading reads exactly the points that have total 0 and agree where no data is.
+  pub nearest-exactly : (readAt T X Y r start f₀ .report .verdict .number ≡ 0) ↔ ((n ≡ 0) × SameUnloaded T (points X Y) (writtenPoints T r start f))
+  nearest-exactly = NearestFrames.nearest-exactly T r start xs ys f₀ ready X Y right f ok n near
+
+-- Coded, for the symbol written for g with every point turned by half a turn, and a nearest frame f of it, with total n. Total 0 is no
+-- proof that the points are not turned: the total doesn't look at monitored points, and they alone can show it where N is even.
+module _ (T : Tables) (r start : ℕ) (xs ys : List ℤ) (f₀ : List ℕ) (ready : Ready T r start xs ys f₀) (m : T .mode ≡ Coded)
+    (g : List ℕ) (ok : AcceptedFrame T start g) (f : List ℕ) (n : ℕ)
+    (near : NearestFrame T (points (turned (encodeAt T start g r xs ys .xs)) (turned (encodeAt T start g r xs ys .ys))) r start f n) where
+  -- The total is 0 exactly when N is even, whatever is monitored;
+  pub nearest-half-turn : (n ≡ 0) ↔ (nonZero T % 2 ≡ 0)
+  nearest-half-turn = NearestFrames.nearest-half-turn T r start xs ys f₀ ready m g ok f n near
+
+  -- f is then another frame than g.
+  pub nearest-half-turn-other : n ≡ 0 → f ≢ g
+  nearest-half-turn-other = NearestFrames.nearest-half-turn-other T r start xs ys f₀ ready m g ok f n near
+
+  -- Exact reading reads the turned symbol exactly when the total is 0 and no tone is monitored; with a monitored tone it is MONITOR.
+  pub nearest-half-turn-exactly :
+      (readAt T (turned (encodeAt T start g r xs ys .xs)) (turned (encodeAt T start g r xs ys .ys)) r start f₀ .report .verdict .number ≡ 0)
+      ↔ ((firstMonitored T ≡ Nothing) × (n ≡ 0))
+  nearest-half-turn-exactly = NearestFrames.nearest-half-turn-exactly T r start xs ys f₀ ready m g ok f n near
+
+-- An operation that reads so (`ReadsNearest`), with its answer a, and with f and work′ left in the lent buffers. Whatever the inputs:
+module _ (T : Tables) (X Y : List ℤ) (r start : ℕ) (f₀ work : List ℕ) (a : Nearest) (f work′ : List ℕ)
+    (reads : ReadsNearest T X Y r start f₀ work a f work′) where
+  -- where it is DONE, f is a nearest frame, with the total told; so all of the above holds of it.
+  pub nearest-answer : nearestOf a .verdict .number ≡ 0 → NearestFrame T (points X Y) r start f (totalIn a)
+  nearest-answer = NearestAnswers.nearest-answer T X Y r start f₀ work a f work′ reads
+
+  -- On points that exact reading reads it answers the same number, place, L and register and the same frame, with total 0.
+  pub nearest-as-exact : length work ≡ workBytes T → Bytes f → readAt T X Y r start f₀ .report .verdict .number ≡ 0
+      → (nearestOf a ≡ readAt T X Y r start f₀ .report) × (totalIn a ≡ 0) × (f ≡ readAt T X Y r start f₀ .frame)
+  nearest-as-exact = NearestAnswers.nearest-as-exact T X Y r start f₀ work a f work′ reads
+
+  -- What is refused returns the given register, leaves both buffers as they came, and reports L as 0.
+  pub refused-nearest : nearestOf a .verdict .number ≢ 0
+      → (nearestOf a .register ≡ r) × (f ≡ f₀) × (work′ ≡ work) × (nearestOf a .verdict .size ≡ 0)
+  refused-nearest = NearestAnswers.refused-nearest T X Y r start f₀ work a f work′ reads
+
+-- No answer has number 9.
+pub nine-nearest : (a : Nearest) → nearestOf a .verdict .number ≢ 9
+nine-nearest = NearestAnswers.nine-nearest
+
+-- As in demand 3, with a working buffer of its exact length:
+module _ (T : Tables) (r start : ℕ) (xs ys : List ℤ) (f₀ : List ℕ) (ready : Ready T r start xs ys f₀) (work : List ℕ)
+    (room : length work ≡ workBytes T) (g : List ℕ) (ok : AcceptedFrame T start g) (a : Nearest) (f work′ : List ℕ) where
+  -- The symbol written for g is read back: with the number, place, L and register of encoding it, total 0, and g itself.
+  pub nearest-round-trip : Bytes f → ReadsNearest T (encodeAt T start g r xs ys .xs) (encodeAt T start g r xs ys .ys) r start f₀ work a f work′
+      → (nearestOf a ≡ encodeAt T start g r xs ys .report) × (totalIn a ≡ 0) × (f ≡ g)
+  nearest-round-trip = NearestAnswers.nearest-round-trip T r start xs ys f₀ ready work room g ok a f work′
+
+  -- Coded, turned by half a turn it is never refused: it is DONE, at total 0 exactly when N is even.
+  pub nearest-turned : T .mode ≡ Coded
+      → ReadsNearest T (turned (encodeAt T start g r xs ys .xs)) (turned (encodeAt T start g r xs ys .ys)) r start f₀ work a f work′
+      → (nearestOf a ≡ encodeAt T start g r xs ys .report) × ((totalIn a ≡ 0) ↔ (nonZero T % 2 ≡ 0))
+  nearest-turned = NearestAnswers.nearest-turned T r start xs ys f₀ ready work room g ok a f work′

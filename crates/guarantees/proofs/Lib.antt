@@ -4,6 +4,8 @@ pub mod EntryBits
 pub mod Guarantees
 pub mod HalfTurn
 pub mod Mapping
+pub mod NearestAnswers
+pub mod NearestFrames
 pub mod Operations
 pub mod RoundTrip
 pub mod Totals

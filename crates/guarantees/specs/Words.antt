@@ -7,12 +7,13 @@ use lib.Dec.{ltb, eqb}
 use lib.IntN.{ℤ, pos, negsuc, negℤ}
 use lib.ListN.{length, take, drop, getD}
 use Rattle.g9932.specs.Bits.{bit, odd}
-use Rattle.g9932.specs.Sizes.{Tables, entry, bytesFor, frameBits}
+use Rattle.g9932.specs.Sizes.{Tables, entry, bytesFor, frameBits, Point, origin}
 use Rattle.g9932.specs.Refusals.{tableVerdict, frameTest, seedTest}
 use Rattle.g9932.specs.Order.{Pair, pair, count, ones}
 use Rattle.g9932.specs.Trellis.{Word, zeroState, lastTwo, taken, lowBitsOf, nextOf, wordAt}
 use Rattle.g9932.specs.Filler.{resetRegister, drawn}
-use Rattle.g9932.specs.Symbol.{reorderedBitsOf, pairsIn, sizeOf}
+use Rattle.g9932.specs.Symbol.{reorderedBitsOf, classesOf, load, pairsIn, sizeOf}
+use Rattle.g9932.specs.declared.Class.the-variants.{Silent}
 use Rattle.g9932.specs.declared.TrellisState.{TrellisState}
 
 -- Tables are accepted in a mode when none of 1 to 8 applies, a frame of bytes, from its start, when 11 doesn't. A register is valid
@@ -119,3 +120,13 @@ zeroBitTones T t = count (λ k. eqb (entry (T .bits) k) 0) t
 -- dn, the n-th filler bit drawn from reset
 abbrev pub fillerBit : ℕ → Bool
 fillerBit n = bit (drawn n resetRegister) (n - 1)
+
+-- ---- received points
+
+-- what a buffer of bytes holds, by its type; `ReadsNearest` names the frame that is left in one and does not say it
+abbrev pub Bytes : List ℕ → Type 0
+Bytes f = (k : ℕ) → k < length f → getD f k 0 < 256
+
+-- two point lists agree at the tones that carry no data: at each monitored or silent place in t'
+abbrev pub SameUnloaded : Tables → List Point → List Point → Type 0
+SameUnloaded T p q = (k : ℕ) → k < length (T .tones) → load (getD (classesOf T) k Silent) ≡ 0 → getD p k origin ≡ getD q k origin
