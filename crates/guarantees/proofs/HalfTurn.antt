@@ -14,7 +14,7 @@ use Rattle.g9932.specs.Bits.{first}
 use Rattle.g9932.specs.Sizes.{Tables, pack, frameBits, Point, points}
 use Rattle.g9932.specs.Refusals.{Verdict, refused}
 use Rattle.g9932.specs.Order.{count, isOne, ones, entries, reorderedBits}
-use Rattle.g9932.specs.Trellis.{zeroState, encodePairs, frame, readPairs, takenTotal}
+use Rattle.g9932.specs.Trellis.{zeroState, encodePairs, frame, breaks, readPairs, takenTotal}
 use Rattle.g9932.specs.Points.{negated}
 use Rattle.g9932.specs.Symbol.{classesOf, reorderedTonesOf, pairsIn, sizeOf, writtenPoints, offgridTest, monitorTest, gatherBits, readingIn, firstMonitored}
 use Rattle.g9932.specs.Answers.{reportBy, breakIn, pointsVerdict, Read, readAt}
@@ -82,7 +82,7 @@ module _ (T : Tables) (a : Accepted T) (m : T .mode ≡ Coded) (r start : ℕ) (
   none : (k : ℕ) → k < length (classesOf T) → leaves halfPoint (getD (classesOf T) k Silent) ≡ false
   none = none-leaves (classesOf T) (loaded-classes (T .bits) (T .gains) (reorderedTonesOf T))
 
-  no-13 : (k : ℕ) → k < length (classesOf T) → offgridTest (classesOf T) q k ≡ false
+  pub no-13 : (k : ℕ) → k < length (classesOf T) → offgridTest (classesOf T) q k ≡ false
   no-13 k h = off-13 halfPoint T a m r start f ok k h ∙ none k h
 
   is-14 : first (monitorTest r (classesOf T) q) (length (classesOf T)) ≡ firstMonitored T
@@ -100,6 +100,25 @@ module _ (T : Tables) (a : Accepted T) (m : T .mode ≡ Coded) (r start : ℕ) (
   parity : nonZero T ≡ length (entries (T .bits) (T .tones))
   parity = ap (λ (n : Mode). count (ltb 0) (reorderedBits n (T .bits) (T .tones))) m ∙ nonzero-entries (T .bits) (T .tones)
 
+  formed-as : (o : Bool) → isOne (length (entries (T .bits) (T .tones)) % 2) ≡ o → Formed o (pairsIn T)
+  formed-as o e = rw e at (c .formed)
+
+  -- whatever is monitored: N odd breaks the code, and N even gives the bits of another frame
+  pub reading-odd : nonZero T % 2 ≡ 1 → readingIn T q ≡ breaks (cond (eqb (length (pairsIn T)) 3) 1 2)
+  reading-odd n =
+      let o = formed-as true (eq-eqb (length (entries (T .bits) (T .tones)) % 2) 1 (rw (← parity) n)) in
+      half-reading ∙ turned-odd (pairsIn T) g o taken-bits
+
+  pub reading-even : nonZero T % 2 ≡ 0 → (h : List Bool) × (readingIn T q ≡ frame h) × (length h ≡ sizeOf T) × (h ≢ g)
+  unfolding readingIn
+  reading-even n =
+      let o = formed-as false (ne-eqb (length (entries (T .bits) (T .tones)) % 2) 1 (λ h. omega (arith, parity))) in
+      let t = turned-even (pairsIn T) g o taken-bits in
+      let is : readingIn T q ≡ frame (t .0) = half-reading ∙ t .1 in
+      let lq : length q ≡ length (classesOf T) = length-map (writtenPoints T r start f) negated ∙ length-written T a r start f ∙ sym (length-classes T) in
+      let lg = length-gather (classesOf T) q lq no-13 ∙ loads-sum T in
+      (t .0, is, sentOf-read T a (gatherBits (classesOf T) q) (t .0) lg is .0, t .2)
+
   -- ---- the verdict on them
 
   past-13 : first (offgridTest (classesOf T) q) (length (classesOf T)) ≡ Nothing
@@ -109,32 +128,23 @@ module _ (T : Tables) (a : Accepted T) (m : T .mode ≡ Coded) (r start : ℕ) (
   unfolding pointsVerdict
   points-monitored k e = and-refused (Monitor (record { 0 = k })) _ (found-past 13 past-13 (found-here 14 _ (is-14 ∙ e)))
 
-  formed-as : (o : Bool) → isOne (length (entries (T .bits) (T .tones)) % 2) ≡ o → Formed o (pairsIn T)
-  formed-as o e = rw e at (c .formed)
-
   pub points-odd : firstMonitored T ≡ Nothing → nonZero T % 2 ≡ 1 → refused 15 (cond (eqb (length (pairsIn T)) 3) 1 2) ≡ pointsVerdict T q r
   unfolding pointsVerdict
   points-odd e n =
-      let o = formed-as true (eq-eqb (length (entries (T .bits) (T .tones)) % 2) 1 (rw (← parity) n)) in
-      and-accepted 0 (found-past 13 past-13 (found-past 14 (is-14 ∙ e) refl)) (found-here 15 _ (ap breakIn (half-reading ∙ turned-odd (pairsIn T) g o taken-bits)))
+      and-accepted 0 (found-past 13 past-13 (found-past 14 (is-14 ∙ e) refl)) (found-here 15 _ (ap breakIn (reading-odd n)))
 
   pub points-even : firstMonitored T ≡ Nothing → nonZero T % 2 ≡ 0
       → Passes T q r × (h : List Bool) × (readingIn T q ≡ frame h) × (length h ≡ sizeOf T) × (h ≢ g)
-  unfolding readingIn
   points-even e n =
-      let o = formed-as false (ne-eqb (length (entries (T .bits) (T .tones)) % 2) 1 (λ h. omega (arith, parity))) in
-      let t = turned-even (pairsIn T) g o taken-bits in
-      let is : readingIn T q ≡ frame (t .0) = half-reading ∙ t .1 in
-      let lq : length q ≡ length (classesOf T) = length-map (writtenPoints T r start f) negated ∙ length-written T a r start f ∙ sym (length-classes T) in
-      let lg = length-gather (classesOf T) q lq no-13 ∙ loads-sum T in (
+      let t = reading-even n in (
         record {
           on = no-13;
           filled = first-no (monitorTest r (classesOf T) q) (length (classesOf T)) (is-14 ∙ e);
         },
         t .0,
-        is,
-        sentOf-read T a (gatherBits (classesOf T) q) (t .0) lg is .0,
+        t .1,
         t .2,
+        t .3,
       )
 
 -- ---- the promises
@@ -164,7 +174,7 @@ module _ (T : Tables) (r start : ℕ) (xs ys : List ℤ) (f₀ : List ℕ) (read
           ysLength = length-map (Y-of T r start xs ys f₀ ready f) negℤ ∙ e .ysLength;
         }
 
-    are-points : points X′ Y′ ≡ map negated (writtenPoints T r start f)
+    pub are-points : points X′ Y′ ≡ map negated (writtenPoints T r start f)
     are-points = rw (encoded-xs T r start xs ys f₀ ready f ok, encoded-ys T r start xs ys f₀ ready f ok) (points-turned (writtenPoints T r start f))
 
     verdict-is : turnedRead f .report .verdict ≡ pointsVerdict T (map negated (writtenPoints T r start f)) r

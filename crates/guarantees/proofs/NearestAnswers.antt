@@ -24,10 +24,10 @@ use Rattle.g9932.proofs.Search.{first-all}
 use Rattle.g9932.proofs.Sent.{length-classes}
 use Rattle.g9932.proofs.Verdicts.{test-past, found-past, number-none, nine-unused, and-past, and-accepted}
 use Rattle.guarantees.specs.Words.{Bytes, AcceptedFrame, Ready, nonZero, turned}
-use Rattle.guarantees.proofs.HalfTurn.{right}
+use Rattle.guarantees.proofs.HalfTurn.{right, are-points}
 use Rattle.guarantees.proofs.Operations.{done, encoded, read-ready}
 use Rattle.guarantees.proofs.RoundTrip.{length-sentIn, X-of, Y-of, answered}
-use Rattle.guarantees.proofs.NearestFrames.{written-read, read-written, nearest-exact, are-points, nearest-half-turn}
+use Rattle.guarantees.proofs.NearestFrames.{written-read, read-written, nearest-exact, nearest-half-turn}
 
 no-size : (a : Nearest) → nearestOf a .verdict .number ≢ 0 → nearestOf a .verdict .size ≡ 0
 no-size (Done l r n) h = absurd (h refl)

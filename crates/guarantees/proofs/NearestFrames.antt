@@ -1,44 +1,31 @@
 -- Nearest reading against exact reading: at total 0 the loaded tones have the points of one frame alone, which is the frame that exact
 -- reading answers where it reads the points, and it reads them exactly when the tones that carry no data agree too.
-use Prim.Native.Nat.{ℕ, zero, suc, _/_, _%_, _≤_, _<_}
-use mathlib.Core.Bool.{Bool, true, false, cond}
-use mathlib.Core.List.{List, [], _∷_, map}
+use Prim.Native.Nat.{ℕ, zero, suc, _%_, _≤_}
+use mathlib.Core.Bool.{Bool, false}
+use mathlib.Core.List.{List, map}
 use mathlib.Core.Logic.{_↔_, _≢_}
 use mathlib.Core.Path.{_≡_, refl, sym, ap, ap₂, _∙_}
 use native.Mathlib.Omega.{arith}
-use borrow.Author.Tests.{eq-eqb, ne-eqb, le-ltb}
-use lib.Dec.{ltb, eqb}
 use lib.IntN.{ℤ}
 use lib.ListN.{length, getD, length-map}
 use Rattle.g9932.specs.Sizes.{Tables, pack, frameBits, Point, origin, points}
 use Rattle.g9932.specs.Refusals.{frameTest}
-use Rattle.g9932.specs.Order.{count, isOne, ones, entries, reorderedBits}
-use Rattle.g9932.specs.Trellis.{zeroState, encodePairs, frame, breaks, readPairs, readingOf, takenTotal}
+use Rattle.g9932.specs.Trellis.{frame, breaks, readingOf}
 use Rattle.g9932.specs.Points.{negated}
-use Rattle.g9932.specs.Symbol.{reorderedTonesOf, classesOf, pairsIn, sizeOf, firstMonitored, writePoints, sentIn, writtenPoints, gatherBits, readingIn}
+use Rattle.g9932.specs.Symbol.{classesOf, pairsIn, sizeOf, firstMonitored, writePoints, sentIn, writtenPoints, gatherBits, readingIn}
 use Rattle.g9932.specs.Answers.{encodeAt, Read, readAt}
 use Rattle.g9932.specs.Nearest.{totalOf, frameTotal, NearestFrame}
-use Rattle.g9932.specs.declared.Class.{Class}
-use Rattle.g9932.specs.declared.Class.the-variants.{Data, Monitored, Silent}
 use Rattle.g9932.specs.declared.Found.the-variants.{Nothing}
-use Rattle.g9932.specs.declared.Mode.{Mode}
 use Rattle.g9932.specs.declared.Mode.the-variants.{Coded}
-use Rattle.g9932.proofs.Accepted.{Accepted, AcceptedCoded, accepted-tables}
-use Rattle.g9932.proofs.Constellations.{point-opposite}
+use Rattle.g9932.proofs.Accepted.{Accepted, accepted-tables}
 use Rattle.g9932.proofs.Distances.{total-self, total-bits, total-equal, total-gathered}
-use Rattle.g9932.proofs.Formed.{Formed}
-use Rattle.g9932.proofs.HalfPairs.{halfTurned, turned-even, turned-odd}
-use Rattle.g9932.proofs.HalfWord.{half}
 use Rattle.g9932.proofs.Packed.{start-most, length-frame, pack-frame}
 use Rattle.g9932.proofs.PointLists.{points-both, points-xs, points-ys, length-points}
-use Rattle.g9932.proofs.Reordering.{nonzero-entries}
-use Rattle.g9932.proofs.Sent.{length-classes, loads-sum, length-taken, length-sentOf, read-sentOf, sentOf-read}
+use Rattle.g9932.proofs.Sent.{length-classes, loads-sum, length-sentOf, read-sentOf, sentOf-read}
 use Rattle.g9932.proofs.Symbols.{loads, OnGrid, gather-write, length-gather}
-use Rattle.g9932.proofs.TurnedTones.{half-ones}
 use Rattle.guarantees.specs.Words.{AcceptedFrame, RightLength, Ready, nonZero, turned, SameUnloaded}
-use Rattle.guarantees.proofs.HalfTurn.{turnedRead, half-turn-only, half-turn-even}
+use Rattle.guarantees.proofs.HalfTurn.{no-13, reading-odd, reading-even, turnedRead, are-points, half-turn-only, half-turn-even}
 use Rattle.guarantees.proofs.RoundTrip.{packed-frame, packed-points, length-written, X-of, Y-of, encoded-xs, encoded-ys, answered, exactly}
-use Rattle.guarantees.proofs.TurnedSymbol.{AllLoaded, loaded-classes, PointTurn, leaves, off-13, turned-reading}
 
 -- ---- totals
 
@@ -164,86 +151,21 @@ module _ (T : Tables) (r start : ℕ) (xs ys : List ℤ) (f₀ : List ℕ) (read
 
 -- ---- half a turn, coded
 
-points-turned : (q : List Point) → points (turned (map (λ p. p .px) q)) (turned (map (λ p. p .py) q)) ≡ map negated q
-unfolding points
-points-turned [] = refl
-points-turned (p ∷ q) = ap (λ (l : List Point). negated p ∷ l) (points-turned q)
-
--- half a turn, by which no point leaves its constellation
-abbrev halfPoint : PointTurn
-halfPoint =
-    record {
-      labels = half;
-      point = negated;
-      least = 1;
-      small = omega arith;
-      still = refl;
-      label = point-opposite;
-      off = λ b v h k l. absurd (omega arith);
-    }
-
-none-leaves : (cs : List Class) → AllLoaded cs → (k : ℕ) → k < length cs → leaves halfPoint (getD cs k Silent) ≡ false
-none-leaves [] h k l = absurd (omega arith)
-none-leaves (Data n ∷ cs) h zero l = le-ltb n 1 (h .0)
-none-leaves (Monitored ∷ cs) h zero l = refl
-none-leaves (Silent ∷ cs) h zero l = refl
-none-leaves (c ∷ cs) h (suc k) l = none-leaves cs (h .1) k (omega arith)
-
 module _ (T : Tables) (a : Accepted T) (m : T .mode ≡ Coded) (r start : ℕ) (g : List ℕ) (ok : AcceptedFrame T start g) where
-  c : AcceptedCoded T
-  c = a .coded m
-
   abbrev q : List Point
   q = map negated (writtenPoints T r start g)
-
-  -- the frame's own bits
-  abbrev own : List Bool
-  own = frameBits start (sizeOf T) g
 
   length-q : length q ≡ length (T .tones)
   length-q = length-map (writtenPoints T r start g) negated ∙ length-written T a r start g
 
-  none : (k : ℕ) → k < length (classesOf T) → leaves halfPoint (getD (classesOf T) k Silent) ≡ false
-  none = none-leaves (classesOf T) (loaded-classes (T .bits) (T .gains) (reorderedTonesOf T))
-
-  on-grid : OnGrid (classesOf T) q
-  on-grid k h = off-13 halfPoint T a m r start g ok k h ∙ none k h
-
-  half-reading : readingIn T q ≡ readPairs zeroState (pairsIn T) (halfTurned (pairsIn T) (encodePairs zeroState (pairsIn T) own))
-  half-reading =
-      let n : ℕ = ones (T .bits) (T .tones) in
-      let even : n % 2 ≡ 0 = c .onesEven in
-      turned-reading halfPoint T a m r start g ok none (λ d l. half-ones (n / 2) n d (omega arith) l)
-
-  taken-bits : length own ≡ takenTotal (pairsIn T)
-  taken-bits = length-taken T a m start g (ok .passes)
-
-  parity : nonZero T ≡ length (entries (T .bits) (T .tones))
-  parity = ap (λ (n : Mode). count (ltb 0) (reorderedBits n (T .bits) (T .tones))) m ∙ nonzero-entries (T .bits) (T .tones)
-
-  formed-as : (o : Bool) → isOne (length (entries (T .bits) (T .tones)) % 2) ≡ o → Formed o (pairsIn T)
-  formed-as o e = rw e at (c .formed)
-
-  -- whatever is monitored: N odd breaks the code, and N even gives the bits of another frame
-  odd-reading : nonZero T % 2 ≡ 1 → readingIn T q ≡ breaks (cond (eqb (length (pairsIn T)) 3) 1 2)
-  odd-reading n =
-      half-reading ∙ turned-odd (pairsIn T) own (formed-as true (eq-eqb (length (entries (T .bits) (T .tones)) % 2) 1 (rw (← parity) n))) taken-bits
-
-  even-reading : nonZero T % 2 ≡ 0 → (h : List Bool) × (readingIn T q ≡ frame h) × (h ≢ own)
-  even-reading n =
-      let o = formed-as false (ne-eqb (length (entries (T .bits) (T .tones)) % 2) 1 (λ h. omega (arith, parity))) in
-      let t = turned-even (pairsIn T) own o taken-bits in
-      (t .0, half-reading ∙ t .1, t .2)
-
-  -- which has total 0
-  even-total : (h : List Bool) → readingIn T q ≡ frame h → (length h ≡ sizeOf T) × (frameTotal T q r start (pack start h) ≡ 0)
+  -- bits that the points are read as give a frame of total 0
+  read-total : (h : List Bool) → readingIn T q ≡ frame h → frameTotal T q r start (pack start h) ≡ 0
   unfolding readingIn
-  even-total h e =
+  read-total h e =
+      let on : OnGrid (classesOf T) q = no-13 T a m r start g ok in
       let lq : length q ≡ length (classesOf T) = length-q ∙ sym (length-classes T) in
-      let s = sentOf-read T a (gatherBits (classesOf T) q) h (length-gather (classesOf T) q lq on-grid ∙ loads-sum T) e in (
-        s .0,
-        ap (totalOf (classesOf T) q) (packed-points T start h (s .0) r ∙ ap (writePoints r (classesOf T)) (s .1)) ∙ total-gathered r (classesOf T) q lq on-grid,
-      )
+      let s = sentOf-read T a (gatherBits (classesOf T) q) h (length-gather (classesOf T) q lq on ∙ loads-sum T) e in
+      ap (totalOf (classesOf T) q) (packed-points T start h (s .0) r ∙ ap (writePoints r (classesOf T)) (s .1)) ∙ total-gathered r (classesOf T) q lq on
 
   module _ (f : List ℕ) (n : ℕ) (near : NearestFrame T q r start f n) where
     zero-half : n ≡ 0 → readingIn T q ≡ frame (frameBits start (sizeOf T) f)
@@ -251,22 +173,21 @@ module _ (T : Tables) (a : Accepted T) (m : T .mode ≡ Coded) (r start : ℕ) (
 
     half-even : nonZero T % 2 ≡ 0 → n ≡ 0
     half-even e =
-        let t = even-reading e in
-        let z = even-total (t .0) (t .1) in
-        let p = packed-frame T start (t .0) (z .0) (start-most start (sizeOf T) g (ok .passes)) in
-        omega (arith, near .least (pack start (t .0)) (p .passes), z .1)
+        let t = reading-even T a m r start g ok e in
+        let p = packed-frame T start (t .0) (t .2) (start-most start (sizeOf T) g (ok .passes)) in
+        omega (arith, near .least (pack start (t .0)) (p .passes), read-total (t .0) (t .1))
 
     half-zero : n ≡ 0 → nonZero T % 2 ≡ 0
     half-zero z = go (nonZero T % 2) refl
       where
         go : (o : ℕ) → nonZero T % 2 ≡ o → nonZero T % 2 ≡ 0
         go zero e = e
-        go (suc o) e = absurd (not-both (sym (zero-half z) ∙ odd-reading (omega arith)))
+        go (suc o) e = absurd (not-both (sym (zero-half z) ∙ reading-odd T a m r start g ok (omega arith)))
 
     half-other : n ≡ 0 → f ≢ g
     half-other z same =
-        let t = even-reading (half-zero z) in
-        t .2 (bits-of (sym (t .1) ∙ zero-half z) ∙ ap (frameBits start (sizeOf T)) same)
+        let t = reading-even T a m r start g ok (half-zero z) in
+        t .3 (bits-of (sym (t .1) ∙ zero-half z) ∙ ap (frameBits start (sizeOf T)) same)
 
 -- the turned lists of the page
 module _ (T : Tables) (r start : ℕ) (xs ys : List ℤ) (f₀ : List ℕ) (ready : Ready T r start xs ys f₀) (m : T .mode ≡ Coded)
@@ -277,12 +198,9 @@ module _ (T : Tables) (r start : ℕ) (xs ys : List ℤ) (f₀ : List ℕ) (read
   abbrev turnedPoints : List Point
   turnedPoints = points (turned (X-of T r start xs ys f₀ ready g)) (turned (Y-of T r start xs ys f₀ ready g))
 
-  pub are-points : turnedPoints ≡ map negated (writtenPoints T r start g)
-  are-points = rw (encoded-xs T r start xs ys f₀ ready g ok, encoded-ys T r start xs ys f₀ ready g ok) (points-turned (writtenPoints T r start g))
-
   module _ (f : List ℕ) (n : ℕ) (near : NearestFrame T turnedPoints r start f n) where
     near′ : NearestFrame T (map negated (writtenPoints T r start g)) r start f n
-    near′ = rw are-points at near
+    near′ = rw (are-points T r start xs ys f₀ ready m g ok) at near
 
     pub nearest-half-turn : (n ≡ 0) ↔ (nonZero T % 2 ≡ 0)
     nearest-half-turn = (half-zero T known m r start g ok f n near′, half-even T known m r start g ok f n near′)
