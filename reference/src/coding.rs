@@ -4,7 +4,7 @@
 use crate::reordering::Pair;
 
 /// The encoder state, zero at the start.
-#[derive(Clone, Copy, Debug, Default, PartialEq, Eq)]
+#[derive(Clone, Copy, Debug, Default, PartialEq, Eq, PartialOrd, Ord)]
 pub struct State {
     pub s3: bool,
     pub s2: bool,
@@ -40,6 +40,20 @@ impl State {
             u[k] = bit;
         }
         (self.next(u[1], u[2]), sent_bits(pair, &u))
+    }
+
+    /// Reads one pair: from its labels to the next state and the word u, unless they break the code.
+    pub fn read(
+        self,
+        pair: Pair,
+        last_two: bool,
+        v: &[bool],
+        w: &[bool],
+    ) -> Option<(State, Vec<bool>)> {
+        let u = implied_word(pair, v, w);
+        let forced = u[1] == self.forced_u1() && u[2] == self.forced_u2();
+        let breaks = u[0] != self.s0 || (last_two && !forced);
+        (!breaks).then(|| (self.next(u[1], u[2]), u))
     }
 
     /// The u1 that the last two pairs must have.
@@ -106,7 +120,8 @@ fn implied_word(pair: Pair, v: &[bool], w: &[bool]) -> Vec<bool> {
     u
 }
 
-fn is_last_two(number: usize, pairs: &[Pair]) -> bool {
+/// Whether the pair of this number is one of the last two.
+pub fn is_last_two(number: usize, pairs: &[Pair]) -> bool {
     number + 2 >= pairs.len()
 }
 
@@ -136,13 +151,9 @@ pub fn read_pairs(pairs: &[Pair], sent: &[bool]) -> Result<Vec<bool>, usize> {
         let (v, after) = rest.split_at(pair.x);
         let (w, after) = after.split_at(pair.y);
         rest = after;
-        let u = implied_word(pair, v, w);
-        let forced = u[1] == state.forced_u1() && u[2] == state.forced_u2();
-        if u[0] != state.s0 || (last_two && !forced) {
-            return Err(number);
-        }
+        let (next, u) = state.read(pair, last_two, v, w).ok_or(number)?;
         frame.extend(frame_places(pair, last_two).iter().map(|&k| u[k]));
-        state = state.next(u[1], u[2]);
+        state = next;
     }
     Ok(frame)
 }
