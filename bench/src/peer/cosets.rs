@@ -5,37 +5,42 @@
 //! fill two rectangles, which are the same if the bit count is even and cross each other if it is
 //! odd; so the nearest of them is found by clamping, once for each rectangle.
 
-use super::constellation::label_of;
-
-/// Two rectangles of points: from `first` to `last`, both included, in the coordinates X and Y of the
-/// one and X and Y of the other.
+/// The coordinates of points in a row in each of several rectangles, from `first` to `last`.
 #[derive(Clone, Copy)]
-struct Rectangles {
-    first: [i16; 4],
-    last: [i16; 4],
+struct Rows<const COUNT: usize> {
+    first: [i16; COUNT],
+    last: [i16; COUNT],
 }
 
-/// The rectangles of every coset of a bit count, side by side, so that many are clamped at a time.
-#[repr(align(64))]
-struct Cosets {
-    first: [[i16; 4]; 4],
-    last: [[i16; 4]; 4],
+/// Rectangles of points, X and Y apart.
+#[derive(Clone, Copy)]
+struct Rectangles<const COUNT: usize> {
+    x: Rows<COUNT>,
+    y: Rows<COUNT>,
 }
 
-/// By bit count, those of 0 and 1 unused.
-static COSETS: [Cosets; 16] = cosets();
-/// The rectangles of whole constellations by bit count, those of 0 and 3 unused: the points of 3 bits
-/// fill no two rectangles.
-static WHOLE: [Rectangles; 16] = whole();
+/// By bit count, those of 0 and 1 unused: one rectangle of each coset, by 2·v1 + v0, then the others.
+static COSETS: [Rectangles<8>; 16] = cosets();
+/// Those of whole constellations by bit count, of 0 and 3 unused: the points of 3 bits fill no two
+/// rectangles.
+static WHOLE: [Rectangles<2>; 16] = whole();
 
-/// How far neighbours in a row are apart.
-const IN_A_COSET: i16 = 4;
-const IN_THE_WHOLE: i16 = 2;
-
-/// Half as many points as the sides of the crossing rectangles have, in the whole constellation.
+/// Half as many points as a side of the whole constellation's rectangles has, the short and the long.
 const fn half_sides(b: usize) -> (i16, i16) {
     let short = 1 << (b / 2 - 1);
     (short, short + (b % 2) as i16 * ((short + 1) / 2))
+}
+
+/// Half sides in X and Y of a coset's rectangle; of 3 bits both are one, long in X where v1 and v0 are
+/// alike.
+const fn sides_in_coset(b: usize, other: bool, low: usize) -> (i16, i16) {
+    let (short, long) = half_sides(b);
+    let alike = low == 0 || low == 3;
+    if (b == 3 && alike) || (b != 3 && other) {
+        (long, short)
+    } else {
+        (short, long)
+    }
 }
 
 /// The least and the largest coordinate of a side that has this label bit.
@@ -48,39 +53,22 @@ const fn ends(half_side: i16, bit: i16) -> (i16, i16) {
     )
 }
 
-/// The coset's rectangles; of 3 bits it has but one, long in X where v1 and v0 are alike.
-const fn coset(b: usize, v1: i16, v0: i16) -> Rectangles {
-    let (short, long) = half_sides(b);
-    let (one, other) = match (b, v1 == v0) {
-        (3, true) => ((long, short), (long, short)),
-        (3, false) => ((short, long), (short, long)),
-        _ => ((short, long), (long, short)),
+const fn cosets() -> [Rectangles<8>; 16] {
+    let none = Rows {
+        first: [0; 8],
+        last: [0; 8],
     };
-    let ((x, y), (other_x, other_y)) = (
-        (ends(one.0, v1), ends(one.1, v0)),
-        (ends(other.0, v1), ends(other.1, v0)),
-    );
-    Rectangles {
-        first: [x.0, y.0, other_x.0, other_y.0],
-        last: [x.1, y.1, other_x.1, other_y.1],
-    }
-}
-
-const fn cosets() -> [Cosets; 16] {
-    let mut all = [const {
-        Cosets {
-            first: [[0; 4]; 4],
-            last: [[0; 4]; 4],
-        }
-    }; 16];
+    let mut all = [Rectangles { x: none, y: none }; 16];
     let mut b = 2;
     while b < 16 {
-        let mut low = 0;
-        while low < 4 {
-            let Rectangles { first, last } = coset(b, low as i16 >> 1, low as i16 & 1);
-            all[b].first[low] = first;
-            all[b].last[low] = last;
-            low += 1;
+        let mut k = 0;
+        while k < 8 {
+            let (other, low) = (k >= 4, k % 4);
+            let (half_x, half_y) = sides_in_coset(b, other, low);
+            let Rectangles { x, y } = &mut all[b];
+            (x.first[k], x.last[k]) = ends(half_x, low as i16 >> 1);
+            (y.first[k], y.last[k]) = ends(half_y, low as i16 & 1);
+            k += 1;
         }
         b += 1;
     }
@@ -88,109 +76,99 @@ const fn cosets() -> [Cosets; 16] {
 }
 
 /// Those of 1 bit are a point each.
-const fn whole() -> [Rectangles; 16] {
-    let two_points = [1, 1, -1, -1];
+const fn whole() -> [Rectangles<2>; 16] {
+    let points = Rows {
+        first: [1, -1],
+        last: [1, -1],
+    };
     let mut all = [Rectangles {
-        first: two_points,
-        last: two_points,
+        x: points,
+        y: points,
     }; 16];
     let mut b = 2;
     while b < 16 {
         let (short, long) = half_sides(b);
         let (short, long) = (2 * short - 1, 2 * long - 1);
-        all[b] = Rectangles {
-            first: [-short, -long, -long, -short],
-            last: [short, long, long, short],
+        all[b].x = Rows {
+            first: [-short, -long],
+            last: [short, long],
+        };
+        all[b].y = Rows {
+            first: [-long, -short],
+            last: [long, short],
         };
         b += 1;
     }
     all
 }
 
-/// The nearest to a coordinate of those from first to last that are so far apart.
-#[inline(always)]
-fn nearest_coordinate(at: i16, first: i16, last: i16, apart: i16) -> i16 {
-    let clamped = at.max(first).min(last);
-    clamped - (((clamped - first + apart / 2) & (apart - 1)) - apart / 2)
-}
-
-#[inline(always)]
-fn square(distance: i16) -> u32 {
-    (i32::from(distance) * i32::from(distance)) as u32
-}
-
-/// The least squared distance to each coset, by 2·v1 + v0, b from 2 to 15.
-#[inline(always)]
-pub fn coset_costs(b: u8, x: i16, y: i16) -> [u32; 4] {
-    let Cosets { first, last } = &COSETS[usize::from(b % 16)];
-    let (first, last) = (first.as_flattened(), last.as_flattened());
-    let mut off = [0; 16];
-    for k in 0..16 {
-        let at = if k % 2 == 0 { x } else { y };
-        off[k] = at - nearest_coordinate(at, first[k], last[k], IN_A_COSET);
+impl<const COUNT: usize> Rows<COUNT> {
+    /// The nearest coordinate of each row: among all that are so far apart from `one`, and then not
+    /// beyond an end.
+    #[inline(always)]
+    fn nearest(&self, received: i16, apart: i16, one: [i16; COUNT]) -> [i16; COUNT] {
+        std::array::from_fn(|k| {
+            let endless = ((received - one[k] + apart / 2) & -apart) + one[k];
+            endless.max(self.first[k]).min(self.last[k])
+        })
     }
-    std::array::from_fn(|low| {
-        let off = &off[4 * low..4 * low + 4];
-        let one = square(off[0]) + square(off[1]);
-        let other = square(off[2]) + square(off[3]);
-        one.min(other)
-    })
 }
 
-/// The nearest point of two rectangles, and its squared distance.
+/// A point with its squared distance from the received one.
+type Candidate = (u32, [i16; 2]);
+
 #[inline(always)]
-fn nearest_point(
-    Rectangles { first, last }: &Rectangles,
-    apart: i16,
-    (x, y): (i16, i16),
-) -> (i16, i16, u32) {
-    let near = |k: usize, at: i16| nearest_coordinate(at, first[k], last[k], apart);
-    let one = (near(0, x), near(1, y));
-    let other = (near(2, x), near(3, y));
-    let cost = |point: (i16, i16)| square(x - point.0) + square(y - point.1);
-    let (to_one, to_other) = (cost(one), cost(other));
-    if to_other < to_one {
-        (other.0, other.1, to_other)
+fn candidate(received: [i16; 2], point: [i16; 2]) -> Candidate {
+    let off = |k: usize| i32::from(received[k] - point[k]);
+    ((off(0) * off(0) + off(1) * off(1)) as u32, point)
+}
+
+#[inline(always)]
+fn nearer(one: Candidate, other: Candidate) -> Candidate {
+    if other.0 < one.0 {
+        other
     } else {
-        (one.0, one.1, to_one)
+        one
     }
 }
 
-/// The label of a coset, b from 2 to 15, whose point is nearest.
+/// The least squared distance to each coset, by 2·v1 + v0, and the point there; b from 2 to 15.
 #[inline(always)]
-pub fn nearest_in_coset(b: u8, low: u32, x: i16, y: i16) -> u32 {
-    let Cosets { first, last } = &COSETS[usize::from(b % 16)];
-    let low = low as usize % 4;
-    let rectangles = Rectangles {
-        first: first[low],
-        last: last[low],
-    };
-    let (x, y, _) = nearest_point(&rectangles, IN_A_COSET, (x, y));
-    label_of(b, x, y).unwrap_or(0)
+pub fn nearest_in_cosets(b: u8, received: [i16; 2]) -> ([u32; 4], [[i16; 2]; 4]) {
+    let [x, y] = received;
+    let rectangles = &COSETS[usize::from(b % 16)];
+    let x = rectangles.x.nearest(x, 4, [1, 1, -1, -1, 1, 1, -1, -1]);
+    let y = rectangles.y.nearest(y, 4, [1, -1, 1, -1, 1, -1, 1, -1]);
+    let mut costs = [0; 4];
+    let mut points = [[0; 2]; 4];
+    for low in 0..4 {
+        let one = candidate(received, [x[low], y[low]]);
+        let other = candidate(received, [x[low + 4], y[low + 4]]);
+        (costs[low], points[low]) = nearer(one, other);
+    }
+    (costs, points)
 }
 
-/// The label, b from 1 to 15, whose point is nearest, and its squared distance.
+/// The least squared distance to the constellation, and the point there; b from 1 to 15.
 #[inline(always)]
-pub fn nearest_label(b: u8, x: i16, y: i16) -> (u32, u32) {
+pub fn nearest_of_all(b: u8, received: [i16; 2]) -> Candidate {
     if b == 3 {
-        return nearest_of_three_bits(x, y);
+        let (costs, points) = nearest_in_cosets(3, received);
+        let low = (0..4).min_by_key(|&low| costs[low]).unwrap_or(0);
+        return (costs[low], points[low]);
     }
+    let [x, y] = received;
     let rectangles = &WHOLE[usize::from(b % 16)];
-    let (x, y, cost) = nearest_point(rectangles, IN_THE_WHOLE, (x, y));
-    (label_of(b, x, y).unwrap_or(0), cost)
+    let x = rectangles.x.nearest(x, 2, [1; 2]);
+    let y = rectangles.y.nearest(y, 2, [1; 2]);
+    nearer(
+        candidate(received, [x[0], y[0]]),
+        candidate(received, [x[1], y[1]]),
+    )
 }
 
-fn nearest_of_three_bits(x: i16, y: i16) -> (u32, u32) {
-    let costs = (0..).zip(coset_costs(3, x, y));
-    let (low, cost) = costs.min_by_key(|&(_, cost)| cost).unwrap_or((0, 0));
-    (nearest_in_coset(3, low, x, y), cost)
-}
-
-/// The squared distances of a 1-bit tone to its points, by its bit.
+/// What both points of a 1-bit tone are off, squared, by its bit.
 #[inline(always)]
-pub fn one_bit_costs(x: i16, y: i16) -> [u32; 2] {
-    [
-        square(x - 1) + square(y - 1),
-        square(x + 1) + square(y + 1),
-    ]
+pub fn one_bit_costs(received: [i16; 2]) -> [u32; 2] {
+    [[1, 1], [-1, -1]].map(|point| candidate(received, point).0)
 }

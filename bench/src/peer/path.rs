@@ -9,7 +9,7 @@ pub type Ahead = [u64; 16];
 
 /// The cheaper u3 for each u0, u2 and u1, by 4·u0 + 2·u2 + u1, from the costs of the cosets of v and w.
 #[inline(always)]
-fn branches(v: [u32; 4], w: [u32; 4]) -> [u64; 8] {
+fn branches(v: &[u32; 4], w: &[u32; 4]) -> [u64; 8] {
     std::array::from_fn(|k| {
         let (u0, u2, u1) = (k >> 2, k >> 1 & 1, k & 1);
         let with = |u3: usize| {
@@ -21,36 +21,55 @@ fn branches(v: [u32; 4], w: [u32; 4]) -> [u64; 8] {
     })
 }
 
-/// Goes one pair back. The four states that share S1 and S0 go on to the same four, 4·(2·S1 + S0)
-/// and up: with u1 as forced and u2 as forced to the first of them, and to another by how u2 u1 differs
-/// from that. A pair that is forced leaves the first only.
+/// The least over u2 u1 for each u2 u1 that leads to the first of the states ahead; another leads to
+/// the state that is as far from the first as the two differ.
+#[inline(always)]
+fn select([a0, a1, a2, a3]: [u64; 4], [b0, b1, b2, b3]: [u64; 4]) -> [u64; 4] {
+    [
+        (a0 + b0).min(a1 + b1).min((a2 + b2).min(a3 + b3)),
+        (a1 + b0).min(a0 + b1).min((a3 + b2).min(a2 + b3)),
+        (a2 + b0).min(a3 + b1).min((a0 + b2).min(a1 + b3)),
+        (a3 + b0).min(a2 + b1).min((a1 + b2).min(a0 + b3)),
+    ]
+}
+
+/// Goes one pair back. The four states that share S1 and S0 go on to the same four, 4·(2·S1 + S0) and
+/// up, and to the first of them by u1 = S1 xor S3 and u2 = S2; a pair that is forced goes there only.
 #[inline(always)]
 pub fn step_back(
     ahead: &Ahead,
-    v: [u32; 4],
-    w: [u32; 4],
+    v: &[u32; 4],
+    w: &[u32; 4],
     forced: bool,
     survivors: &mut [u8; 16],
 ) -> Ahead {
     let branches = branches(v, w);
-    let mut back = [0; 16];
-    for shared in 0..4 {
-        let to: [u64; 4] = std::array::from_fn(|k| ahead[4 * shared + k]);
-        let by: [u64; 4] = std::array::from_fn(|k| branches[4 * (shared % 2) + k]);
-        for own in 0..4 {
-            // S3 and S2, and from them u2 u1 as forced.
-            let (s3, s2) = (own >> 1, own & 1);
-            let home = 2 * s2 | s3 ^ shared >> 1;
-            let least = if forced {
-                to[0] + by[home]
-            } else {
-                let over = |k: usize| to[home ^ k] + by[k];
-                over(0).min(over(1)).min(over(2).min(over(3)))
-            };
-            let state = 4 * own + shared;
-            survivors[state] = (least & 7) as u8;
-            back[state] = least & !7;
-        }
-    }
-    back
+    let of_group = |s1: usize, s0: usize| {
+        let to = std::array::from_fn(|k| ahead[4 * (2 * s1 + s0) + k]);
+        let by: [u64; 4] = std::array::from_fn(|k| branches[4 * s0 + k]);
+        let least = if forced {
+            by.map(|by| to[0] + by)
+        } else {
+            select(to, by)
+        };
+        // By 2·S3 + S2.
+        [least[s1], least[2 + s1], least[1 - s1], least[3 - s1]]
+    };
+    let groups = [
+        of_group(0, 0),
+        of_group(0, 1),
+        of_group(1, 0),
+        of_group(1, 1),
+    ];
+    let back: Ahead = std::array::from_fn(|state| groups[state % 4][state / 4]);
+    *survivors = back.map(|least| (least & 7) as u8);
+    back.map(|least| least & !7)
+}
+
+/// The pair whose x is 0, from state 0: u1 and u3 are 0, and u2 leads to state 0 or 2.
+pub fn first_alone(ahead: &Ahead, w: &[u32; 4], survivors: &mut [u8; 16]) -> u64 {
+    let without = ahead[0] + 8 * u64::from(w[0]);
+    let with_u2 = ahead[2] + 8 * u64::from(w[3]);
+    survivors[0] = 2 * u8::from(with_u2 < without);
+    without.min(with_u2)
 }
