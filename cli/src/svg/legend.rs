@@ -1,6 +1,6 @@
 //! What the signs of the picture mean.
 
-use super::pen::{arrow, block, diamond, dot, triangle, Pair, Pen};
+use super::pen::{arrow, block, diamond, dot, ring, stroke, triangle, Pair, Pen};
 
 #[derive(Clone, Copy, Debug, PartialEq, Eq)]
 pub enum Sign {
@@ -10,6 +10,12 @@ pub enum Sign {
     PossiblePoint,
     RefusedPoint,
     OutsidePoint,
+    Received,
+    Decided,
+    FillerPoint,
+    SilentZero,
+    Distance,
+    HalfWay,
     Bits,
     MonitoredTone,
     SilentTone,
@@ -36,6 +42,12 @@ impl Sign {
             Sign::PossiblePoint => "possible point",
             Sign::RefusedPoint => "refused",
             Sign::OutsidePoint => "farther out, at these numbers",
+            Sign::Received => "received, and the line to it",
+            Sign::Decided => "decided",
+            Sign::FillerPoint => "given by the filler bits",
+            Sign::SilentZero => "silent",
+            Sign::Distance => "distance, of neighbours the largest",
+            Sign::HalfWay => "half way to a neighbouring point",
             Sign::Bits => "data",
             Sign::MonitoredTone => "monitored",
             Sign::SilentTone => "silent, point (0, 0)",
@@ -53,6 +65,15 @@ impl Sign {
             Sign::PossiblePoint => pen.path("could", &dot((x, y))),
             Sign::RefusedPoint => refused(pen, (x, y)),
             Sign::OutsidePoint => pen.path("solid", &arrow((x, y), (1.0, 0.0))),
+            Sign::Received => {
+                pen.path("vector", &stroke((x - 7.0, y), (x + 3.0, y)));
+                pen.path("received", &ring((x + 4.0, y), 4.0));
+            }
+            Sign::Decided => pen.path("middling data", &dot((x, y))),
+            Sign::FillerPoint => pen.path("monitored", &diamond((x, y), 3.5)),
+            Sign::SilentZero => pen.path("monitored", &triangle((x, y), 3.5)),
+            Sign::Distance => pen.path("bar", &block(corner, size)),
+            Sign::HalfWay => pen.line((x - 8.0, y), (x + 8.0, y), "mark"),
             Sign::Bits => pen.path("bar", &block(corner, size)),
             Sign::MonitoredTone => pen.path("solid", &block(corner, size)),
             Sign::SilentTone => pen.path("hatched", &block(corner, size)),

@@ -1,6 +1,7 @@
 //! The scale of a panel: where its points lie in the picture. A point far outside lies on the
 //! frame, so that it does not shrink the others to a dot.
 
+use super::layout::Square;
 use super::pen::Pair;
 
 #[derive(Clone, Copy)]
@@ -23,8 +24,7 @@ pub struct Drawn {
 impl Scale {
     /// Twice the size of the constellation at most; within that, as far out as points lie.
     pub fn new(
-        corner: Pair,
-        side: f64,
+        Square { corner, side }: Square,
         constellation: &[(i16, i16)],
         points: impl Iterator<Item = (i16, i16)>,
     ) -> Scale {

@@ -23,7 +23,7 @@ fn tables_refused(set: &str, number: i32, name: &str, place: &str, sentence: &st
     for words in [vec!["check", set], vec!["order", set]] {
         refused(&run(&words), number, name, place, sentence);
     }
-    for command in ["encode", "read", "turn"] {
+    for command in ["encode", "read", "nearest", "turn"] {
         let ran = run_with(b"", &[command, set, "-"]);
         refused(&ran, number, name, place, sentence);
     }
