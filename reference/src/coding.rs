@@ -42,18 +42,11 @@ impl State {
         (self.next(u[1], u[2]), sent_bits(pair, &u))
     }
 
-    /// Reads one pair: from its labels to the next state and the word u, unless they break the code.
-    pub fn read(
-        self,
-        pair: Pair,
-        last_two: bool,
-        v: &[bool],
-        w: &[bool],
-    ) -> Option<(State, Vec<bool>)> {
-        let u = implied_word(pair, v, w);
+    /// The next state after a pair whose labels imply this word u, unless it breaks the code.
+    pub fn read(self, u: &[bool], last_two: bool) -> Option<State> {
         let forced = u[1] == self.forced_u1() && u[2] == self.forced_u2();
         let breaks = u[0] != self.s0 || (last_two && !forced);
-        (!breaks).then(|| (self.next(u[1], u[2]), u))
+        (!breaks).then(|| self.next(u[1], u[2]))
     }
 
     /// The u1 that the last two pairs must have.
@@ -106,7 +99,7 @@ fn sent_bits(pair: Pair, u: &[bool]) -> Vec<bool> {
 }
 
 /// The word u that the labels v and w imply: the four equations solved for u0 to u3.
-fn implied_word(pair: Pair, v: &[bool], w: &[bool]) -> Vec<bool> {
+pub fn implied_word(pair: Pair, v: &[bool], w: &[bool]) -> Vec<bool> {
     let (u1, u3) = if pair.x == 0 {
         (false, false)
     } else {
@@ -151,9 +144,9 @@ pub fn read_pairs(pairs: &[Pair], sent: &[bool]) -> Result<Vec<bool>, usize> {
         let (v, after) = rest.split_at(pair.x);
         let (w, after) = after.split_at(pair.y);
         rest = after;
-        let (next, u) = state.read(pair, last_two, v, w).ok_or(number)?;
+        let u = implied_word(pair, v, w);
+        state = state.read(&u, last_two).ok_or(number)?;
         frame.extend(frame_places(pair, last_two).iter().map(|&k| u[k]));
-        state = next;
     }
     Ok(frame)
 }

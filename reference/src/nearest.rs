@@ -2,7 +2,7 @@
 //! every tone is tried; coded, the states are followed from the first pair to the last, and of the
 //! ways that lead to a state the shortest is kept.
 
-use crate::coding::{is_last_two, read_pairs, State};
+use crate::coding::{implied_word, is_last_two, read_pairs, State};
 use crate::forms::{Class, Mode, Place, Tables};
 use crate::points::{bits_of_number, constellation, Point};
 use crate::refusals::{refuse_if, Refusal};
@@ -44,14 +44,17 @@ pub fn total_distance(tables: &Tables, written: &[Point], received: &[Point]) ->
         .sum()
 }
 
-/// The smallest total of any frame, by writing each of the 2 to the L frames.
-pub fn smallest_of_all(tables: &Tables, received: &[Point], register: u32) -> u64 {
+/// The smallest total of any frame, by writing each of the 2 to the L frames, and how many have it.
+pub fn smallest_of_all(tables: &Tables, received: &[Point], register: u32) -> (u64, usize) {
     let l = frame_size(tables);
-    let totals = (0..1 << l).map(|frame| {
+    let total = |frame| {
         let (written, _) = write_points(tables, &bits_of_number(frame, l), register);
         total_distance(tables, &written, received)
-    });
-    totals.min().expect("there is a frame")
+    };
+    let totals: Vec<u64> = (0..1 << l).map(total).collect();
+    let smallest = *totals.iter().min().expect("there is a frame");
+    let sharing = totals.iter().filter(|&&total| total == smallest).count();
+    (smallest, sharing)
 }
 
 /// The L bits of a frame with the smallest total, and that total.
@@ -125,15 +128,15 @@ fn carriers(tables: &Tables, received: &[Point]) -> Vec<Carrier> {
     single.chain(double).collect()
 }
 
-/// What a pair can send, with the squared distance of both labels.
+/// What a pair can send: the word u, its labels one after the other, and their squared distance.
 struct Choice {
-    v: Vec<bool>,
-    w: Vec<bool>,
+    u: Vec<bool>,
+    sent: Vec<bool>,
     distance: u64,
 }
 
 /// The choices of a pair of one carrier (x = 0) or two.
-fn choices(own: &[Carrier]) -> Vec<Choice> {
+fn choices(pair: Pair, own: &[Carrier]) -> Vec<Choice> {
     let (last, first) = own.split_last().expect("a pair has a carrier");
     let none = || Labelled {
         label: vec![],
@@ -143,8 +146,8 @@ fn choices(own: &[Carrier]) -> Vec<Choice> {
     let of_y = last.nearest_four();
     let both = of_x.iter().flat_map(|v| of_y.iter().map(move |w| (v, w)));
     let choice = |(v, w): (&Labelled, &Labelled)| Choice {
-        v: v.label.clone(),
-        w: w.label.clone(),
+        u: implied_word(pair, &v.label, &w.label),
+        sent: [v.label.as_slice(), &w.label].concat(),
         distance: v.distance + w.distance,
     };
     both.map(choice).collect()
@@ -157,26 +160,26 @@ struct Way {
     sent: Vec<bool>,
 }
 
+type Ways = BTreeMap<State, Way>;
+
 /// The shortest way to each state that a pair can lead to, from the totals before it.
 fn ways_on(before: &BTreeMap<State, u64>, pair: Pair, last_two: bool, own: &[Carrier]) -> Ways {
     let mut ways = Ways::new();
-    let choices = choices(own);
+    let choices = choices(pair, own);
     for (&from, &so_far) in before {
-        for Choice { v, w, distance } in &choices {
-            let Some((state, _)) = from.read(pair, last_two, v, w) else {
+        for Choice { u, sent, distance } in &choices {
+            let Some(state) = from.read(u, last_two) else {
                 continue;
             };
             let total = so_far + distance;
             if ways.get(&state).is_none_or(|known| total < known.total) {
-                let sent = [v.as_slice(), w].concat();
+                let sent = sent.clone();
                 ways.insert(state, Way { total, from, sent });
             }
         }
     }
     ways
 }
-
-type Ways = BTreeMap<State, Way>;
 
 /// The sent bits of the shortest way through all pairs, and its total. It ends in state zero, to which
 /// the last two pairs lead.

@@ -54,7 +54,7 @@ fn no_frame_is_nearer() {
             let answer = decide(&case.tables, &received, case.register, case.start);
             assert_eq!((answer.number, answer.size as usize), (DONE, case.size()));
             let (frame, total) = answer.contents.expect("it is done");
-            let smallest = smallest_of_all(&case.tables, &received, case.register);
+            let (smallest, _) = smallest_of_all(&case.tables, &received, case.register);
             assert_eq!(
                 (total, total_of(&case, &frame, &received)),
                 (smallest, smallest)
