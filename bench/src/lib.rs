@@ -1,6 +1,8 @@
 //! The peer that the static library is measured against, the workloads, and the timing.
 
+pub mod load;
 pub mod peer;
 pub mod report;
+pub mod symbols;
 pub mod timing;
 pub mod workload;

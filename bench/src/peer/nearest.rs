@@ -35,7 +35,7 @@ pub fn test_range(received: Received) -> Result<(), Refusal> {
 }
 
 fn is_outside(coordinate: i16) -> bool {
-    (coordinate > LARGEST) | (coordinate < -LARGEST)
+    !(-LARGEST..=LARGEST).contains(&coordinate)
 }
 
 #[cold]
