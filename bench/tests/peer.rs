@@ -1,7 +1,7 @@
 //! The peer against the reference, on the cases of the differential test.
 
 use bench::peer;
-use clevisroot_sys::{Answer, Drawn, Label, Point, Tables};
+use clevisroot_sys::{Answer, Drawn, Label, Nearest, Point, Tables};
 use difftest::compare::Comparison;
 use difftest::coverage::Coverage;
 use difftest::exhaustive::one_tone;
@@ -56,6 +56,18 @@ impl Core for Peer {
         start: u8,
     ) -> Answer {
         peer::read_at(tables, x, y, reg, frame, start)
+    }
+
+    fn read_nearest(
+        &self,
+        tables: Tables,
+        (x, y): (&[i16], &[i16]),
+        reg: u32,
+        frame: &mut [u8],
+        start: u8,
+        work: &mut [u8],
+    ) -> Nearest {
+        peer::read_nearest(tables, x, y, reg, frame, start, work)
     }
 
     fn map_label(&self, bits: u8, label: u32) -> Point {
