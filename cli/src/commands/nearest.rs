@@ -13,6 +13,7 @@ use crate::options::ALL;
 use crate::output::Output;
 use crate::report::{done_words, symbol_fields, Report, Written};
 use crate::stream::{self, Reports, Task};
+use crate::words::count;
 
 struct Nearest {
     tables: Tables,
@@ -103,8 +104,10 @@ impl Nearest {
         match refusal {
             Some(_) => picture.draw(caption),
             None => {
-                let total = decision.total;
-                picture.draw_compared(&decision.decided, format!("{caption}; total {total}"))
+                let (total, loaded) = (decision.total, decision.loaded.len());
+                let loaded = count(loaded, "loaded tone");
+                let caption = format!("{caption}; total {total} over {loaded}");
+                picture.draw_compared(&decision.decided, caption)
             }
         }
     }

@@ -1,6 +1,7 @@
 //! How far each loaded tone is off, over the sub-carriers.
 
 use super::axis::{Axis, LEFT, NARROWEST, RIGHT};
+use super::legend::Sign;
 use super::pen::{block, Pen};
 use super::symbol::{Compared, MARGIN};
 use crate::files::Class;
@@ -9,8 +10,9 @@ use crate::index::Subcarrier;
 const HEIGHT: f64 = 140.0;
 /// The scale is even up to this distance; beyond, each step doubles.
 const EVEN: f64 = 8.0;
-/// So many of the farthest are named.
+/// So many of the farthest are named, if no more than these are as far off.
 const NAMED: usize = 3;
+const ALIKE: usize = 10;
 
 pub struct Distances {
     axis: Axis,
@@ -49,6 +51,14 @@ impl Distances {
         }
     }
 
+    /// What a bar stands for.
+    pub fn sign(&self) -> Sign {
+        match self.columns() < self.axis.carriers {
+            true => Sign::LargestDistance,
+            false => Sign::Distance,
+        }
+    }
+
     /// Draws the chart and tells where it ends.
     pub fn draw(&self, pen: &mut Pen) -> f64 {
         self.draw_bars(pen);
@@ -83,10 +93,15 @@ impl Distances {
         within.collect()
     }
 
-    /// A bar a tone, or where tones are many a bar for neighbours, as high as the farthest of them.
+    /// A bar a sub-carrier, as long as they are wide enough.
+    fn columns(&self) -> usize {
+        let room = ((RIGHT - LEFT) / NARROWEST) as usize;
+        self.axis.carriers.min(room)
+    }
+
+    /// A bar of neighbours is as high as the farthest of them.
     fn draw_bars(&self, pen: &mut Pen) {
-        let carriers = self.axis.carriers;
-        let columns = carriers.min(((RIGHT - LEFT) / NARROWEST) as usize);
+        let (carriers, columns) = (self.axis.carriers, self.columns());
         let mut farthest = vec![0.0; columns];
         for &(tone, distance) in &self.tones {
             let column = usize::from(tone.0) * columns / carriers;
@@ -109,6 +124,10 @@ impl Distances {
         const ROOM: f64 = 40.0;
         let mut tones: Vec<_> = self.tones.iter().filter(|tone| tone.1 > 0.0).collect();
         tones.sort_by(|one, other| other.1.total_cmp(&one.1));
+        // Where many are as far off as one of them, a name says nothing.
+        if let Some((_, limit)) = tones.get(ALIKE).copied() {
+            tones.retain(|tone| tone.1 > *limit);
+        }
         let mut named: Vec<f64> = Vec::new();
         for (tone, distance) in tones {
             let x = self.axis.x(f64::from(tone.0) + 0.5);

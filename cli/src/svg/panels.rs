@@ -4,7 +4,7 @@ use super::groups::{constellation, Group, Spot};
 use super::layout::{self, Square};
 use super::legend::refused;
 use super::pen::{diamond, dot, triangle, Pen};
-use super::plot::{far_arrow, names, Plot};
+use super::plot::{far_arrow, names, Plot, Side};
 use super::scale::Scale;
 use crate::files::Class;
 use crate::words::count;
@@ -139,7 +139,8 @@ impl<'a> Panel<'a> {
         }
         lines.retain(|line| !line.is_empty());
         let marker = if spot.refused.is_empty() { 7.0 } else { 11.0 };
-        self.plot.write(pen, &lines, drawn.at, marker);
+        self.plot
+            .write(pen, &lines, drawn.at, (Side::Above, marker));
     }
 }
 

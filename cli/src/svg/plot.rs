@@ -8,6 +8,12 @@ pub struct Plot {
     pub scale: Scale,
 }
 
+/// Where words stand beside a marker.
+pub enum Side {
+    Above,
+    Below,
+}
+
 impl Plot {
     /// Draws the frame, its name above it, and the scale with the names of its two directions.
     pub fn draw(&self, pen: &mut Pen, name: &str, directions: [&str; 2]) {
@@ -37,13 +43,23 @@ impl Plot {
         pen.text((left - 8.0, top - 6.0), "tick end", up);
     }
 
-    /// Lines of text above a marker of this half height, below it where the frame is too near, and
-    /// moved aside where they would cross the frame.
-    pub fn write(&self, pen: &mut Pen, lines: &[String], (x, y): Pair, marker: f64) {
+    /// Lines of text beside a marker of this half height, on the other side where the frame is too
+    /// near, and moved aside where they would cross the frame.
+    pub fn write(
+        &self,
+        pen: &mut Pen,
+        lines: &[String],
+        (x, y): Pair,
+        (side_of_it, marker): (Side, f64),
+    ) {
         const LINE: f64 = 12.0;
         let Scale { corner, side, .. } = self.scale;
         let height = LINE * lines.len() as f64;
-        let first = match y - marker - height < corner.1 {
+        let below = match side_of_it {
+            Side::Above => y - marker - height < corner.1,
+            Side::Below => y + marker + height < corner.1 + side,
+        };
+        let first = match below {
             true => y + marker + LINE - 2.0,
             false => y - marker - height + LINE,
         };

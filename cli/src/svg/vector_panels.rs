@@ -2,7 +2,7 @@
 
 use super::layout::{self, Square};
 use super::pen::{diamond, dot, ring, stroke, triangle, Pair, Pen};
-use super::plot::{far_arrow, names, Plot};
+use super::plot::{far_arrow, names, Plot, Side};
 use super::scale::Scale;
 use super::vectors::{Vector, VectorGroup};
 use crate::files::Class;
@@ -10,8 +10,6 @@ use crate::words::count;
 
 /// Up to this many tones, every received point is labelled with its sub-carriers.
 const FEW_TONES: usize = 8;
-/// Up to this many vectors, each is labelled with its count of tones.
-const FEW_VECTORS: usize = 16;
 /// Above this, lines would cover each other, and only the received points are drawn.
 const MANY_VECTORS: usize = 256;
 
@@ -57,6 +55,12 @@ impl<'a> VectorPanel<'a> {
         vectors.any(|vector| self.plot.scale.drawn(vector.received).outside.is_some())
     }
 
+    /// Whether the points that a tone could have stand apart, so that they are drawn.
+    pub fn shows_possible(&self) -> bool {
+        const APART: f64 = 4.0;
+        self.plot.scale.step() >= APART / 2.0
+    }
+
     fn draw(&self, pen: &mut Pen) {
         let class = self.group.class;
         let tones = count(self.group.tone_count(), "tone");
@@ -66,10 +70,12 @@ impl<'a> VectorPanel<'a> {
         };
         self.plot
             .draw(pen, &format!("{class}, {tones}"), directions);
-        let possible = self.group.possible.iter();
-        let inside = possible.filter(|&&point| self.plot.scale.drawn(point).outside.is_none());
-        let could = inside.map(|&point| dot(self.plot.scale.at(point)));
-        pen.path("could", &could.collect::<String>());
+        if self.shows_possible() {
+            let possible = self.group.possible.iter();
+            let inside = possible.filter(|&&point| self.plot.scale.drawn(point).outside.is_none());
+            let could = inside.map(|&point| dot(self.plot.scale.at(point)));
+            pen.path("could", &could.collect::<String>());
+        }
         self.draw_received(pen);
         self.draw_decided(pen);
         for vector in &self.group.vectors {
@@ -97,19 +103,19 @@ impl<'a> VectorPanel<'a> {
         pen.path("solid", &arrows);
     }
 
-    /// The more vectors, the smaller their rings; laid over each other, the more tones, the larger.
+    /// The more tones have a vector, the larger is its ring; rings of neighbours do not touch.
     fn radius(&self, vector: &Vector) -> f64 {
-        let vectors = &self.group.vectors;
-        if !self.group.laid_over {
-            return if vectors.len() <= FEW_VECTORS {
-                4.5
-            } else {
-                3.5
-            };
+        const LEAST: f64 = 1.5;
+        const OF_ONE: f64 = 4.5;
+        let largest = (0.45 * self.plot.scale.step()).clamp(LEAST, 8.0);
+        let tones = self.group.vectors.iter().map(|vector| vector.tones.len());
+        match tones.max() {
+            Some(most @ 2..) => {
+                let part = vector.tones.len() as f64 / most as f64;
+                LEAST + (largest - LEAST) * part.sqrt()
+            }
+            _ => largest.min(OF_ONE),
         }
-        let tones = vectors.iter().map(|vector| vector.tones.len());
-        let most = tones.max().unwrap_or(1).max(1);
-        2.0 + 6.0 * (vector.tones.len() as f64 / most as f64).sqrt()
     }
 
     fn draw_decided(&self, pen: &mut Pen) {
@@ -129,20 +135,22 @@ impl<'a> VectorPanel<'a> {
         pen.path(class, &places.map(marker).collect::<String>());
     }
 
-    /// Whose point it is, or how many tones have it; what lies outside, with its numbers.
+    /// Whose point it is, where tones are few; what lies outside, with its numbers.
     fn label(&self, pen: &mut Pen, vector: &Vector) {
         let drawn = self.plot.scale.drawn(vector.received);
-        let few = self.group.vectors.len() <= FEW_VECTORS;
-        let mut lines = Vec::new();
-        if self.group.tone_count() <= FEW_TONES {
-            lines.push(names(&vector.tones));
-        } else if few && vector.tones.len() > 1 {
-            lines.push(format!("\u{d7}{}", vector.tones.len()));
+        if self.group.tone_count() > FEW_TONES {
+            return;
         }
-        if drawn.outside.is_some() && few {
+        let mut lines = vec![names(&vector.tones)];
+        if drawn.outside.is_some() {
             let (x, y) = vector.received;
             lines.push(format!("({x}, {y})"));
         }
-        self.plot.write(pen, &lines, drawn.at, 7.0);
+        // The line to the decided point stays free.
+        let side = match vector.decided.1 > vector.received.1 {
+            true => Side::Below,
+            false => Side::Above,
+        };
+        self.plot.write(pen, &lines, drawn.at, (side, 7.0));
     }
 }

@@ -1,6 +1,7 @@
 //! Received points and the decided ones they belong to, grouped by what their tones carry.
 
 use super::groups::constellation;
+use super::scale::{is_far, size};
 use super::symbol::Compared;
 use crate::files::Class;
 use crate::index::Subcarrier;
@@ -8,6 +9,8 @@ use std::collections::BTreeMap;
 
 /// Up to this many different vectors are drawn where they lie.
 const FEW_VECTORS: usize = 64;
+/// Up to this many of them may end outside.
+const FEW_FAR: usize = 8;
 /// Up to this many possible points, lines between them are long enough to see.
 const FEW_POINTS: usize = 256;
 
@@ -52,7 +55,9 @@ pub fn groups(compared: &Compared) -> Vec<VectorGroup> {
 impl VectorGroup {
     fn new(class: Class, tones: &[(Point, Point, Subcarrier)]) -> VectorGroup {
         let (vectors, possible) = (vectors(tones), constellation(class));
-        if vectors.len() <= FEW_VECTORS && possible.len() <= FEW_POINTS {
+        let few = vectors.len() <= FEW_VECTORS && possible.len() <= FEW_POINTS;
+        let far = tones.iter().filter(|tone| is_far(&possible, tone.1));
+        if few && far.count() <= FEW_FAR {
             return VectorGroup {
                 class,
                 vectors,
@@ -73,13 +78,17 @@ impl VectorGroup {
         self.vectors.iter().map(|vector| vector.tones.len()).sum()
     }
 
+    /// Whether some vector is that of several tones.
+    pub fn is_shared(&self) -> bool {
+        self.vectors.iter().any(|vector| vector.tones.len() > 1)
+    }
+
     /// What most tones do not go beyond, seen from where the vectors begin.
     pub fn common_size(&self) -> i16 {
         const LEAST: i16 = 3;
         let mut sizes: Vec<i16> = Vec::new();
         for vector in &self.vectors {
-            let (x, y) = vector.received;
-            let size = x.saturating_abs().max(y.saturating_abs());
+            let size = size(vector.received);
             sizes.extend(vector.tones.iter().map(|_| size));
         }
         sizes.sort_unstable();
