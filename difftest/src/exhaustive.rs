@@ -102,10 +102,8 @@ pub fn largest_symbols(comparison: &mut Comparison) -> Result<(), Mismatch> {
     ];
     for (mode, bits) in loads {
         let given = loaded(mode, &[bits; 4096]);
-        for point in [(1023, -1023), (-1023, -1023)] {
-            let received = received(&given.tables, &[point; 4096], 7);
-            comparison.read_nearest(random, &given, &received)?;
-        }
+        let received = received(&given.tables, &[(1023, -1023); 4096], 7);
+        comparison.read_nearest(random, &given, &received)?;
     }
     Ok(())
 }

@@ -88,7 +88,7 @@ fn nearest_case(
         .bits
         .iter()
         .map(|&bits| 1_usize << bits.min(15));
-    if labels.sum::<usize>() > 4096 && !random.one_in(16) {
+    if labels.sum::<usize>() > 4096 && !random.one_in(48) {
         return Ok(());
     }
     let received = random_received(random, &given.tables);
