@@ -178,12 +178,12 @@ fn offgrid(question: &Question, place: Place) -> String {
             format!("{point} is not (0, 0), the only point of a silent tone.")
         }
         Some(Class::Data(bits)) => format!(
-            "{point} is none of the {} points of a tone with {}: only exact points are read.",
+            "{point} is none of the {} points of a tone with {}: only exact points are read (see `nearest`).",
             1u32 << bits.min(15),
             count(bits, "bit")
         ),
         _ => format!(
-            "{point} is none of the 4 points of a monitored tone: only exact points are read."
+            "{point} is none of the 4 points of a monitored tone: only exact points are read (see `nearest`)."
         ),
     }
 }

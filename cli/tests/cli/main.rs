@@ -6,6 +6,8 @@ mod faults;
 mod find;
 mod json;
 mod json_output;
+mod nearest;
+mod nearest_svg;
 mod output;
 mod pages;
 mod readme;
