@@ -43,7 +43,7 @@ pub const START: Opt = Opt {
 pub const OUT: Opt = Opt {
     name: "out",
     kind: Kind::Output,
-    about: "the result into a file: points of encode, frame of read and nearest, lists of order",
+    about: "the result into a file: points of encode, frame of read or nearest, lists of order",
 };
 
 pub const SVG: Opt = Opt {

@@ -66,8 +66,8 @@ prints is a FRAME file. The tones that are farthest off come first, 10 at most; 
 loaded tone in t' order. The picture of --svg has the received points beside the decided ones, with
 a line between them, and how far each tone is off over the sub-carriers.
 
-Only tones with bits count. A turned clip or a wrong register leaves the total as small as it was,
-so that one line says whether the monitored tones are nearest to the points that the register gives
+Only tones with bits count. So the total never shows a wrong register, and often not a turned clip
+either: one line says how many monitored tones are nearest to the points that the register gives
 them. The register goes on as in read and decides neither frame nor total; --start N is as for read.
 Refusals are 1 to 8, 10 to 12, and 23 for a coordinate beyond the range at any tone; with 23 the
 picture is drawn too and shows where.

@@ -7,6 +7,7 @@ mod find;
 mod json;
 mod json_output;
 mod nearest;
+mod nearest_refusals;
 mod nearest_svg;
 mod output;
 mod pages;

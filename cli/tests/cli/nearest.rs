@@ -1,7 +1,6 @@
 //! `nearest`: received points that are off the grid.
 
-use crate::json::{answer, head, object, text, Value};
-use crate::refusals::refused;
+use crate::json::{object, Value};
 use crate::run::{
     at, equal, file, numbers, path, result, run, run_with, symbols_of, tables, turned, written, Ran,
 };
@@ -51,11 +50,14 @@ fn objects(value: &Value) -> Vec<&Object> {
     let Value::List(list) = value else {
         panic!("no list")
     };
-    let inner = |item| match item {
-        &Value::Object(ref object) => object,
-        other => panic!("no object: {other:?}"),
-    };
     list.iter().map(inner).collect()
+}
+
+fn inner(value: &Value) -> &Object {
+    match value {
+        Value::Object(object) => object,
+        other => panic!("no object: {other:?}"),
+    }
 }
 
 fn nearest(set: &str, received: &str, more: &[&str]) -> Ran {
@@ -212,9 +214,8 @@ fn a_stream_adds_up_each_tone() {
             "# 3 symbols: 2 done, 1 refused (10 ROOM 1, first symbol 1), register after 524287",
         ]
     );
-    let Value::Object(totals) = &object(&nearest(A, &stream, &["--json"]))["totals"] else {
-        panic!("no totals")
-    };
+    let told = object(&nearest(A, &stream, &["--json"]));
+    let totals = inner(&told["totals"]);
     assert_eq!(number(totals, "total"), 3);
     let tones = objects(&totals["loaded"]);
     let sums = tones
@@ -258,62 +259,16 @@ fn monitored_tones_are_told_apart_from_the_total() {
         &symbol.replace("-1,-1     # place 3", "1,-1#"),
         &["--json"],
     );
-    let Value::Object(monitored) = &object(&other)["monitored"] else {
-        panic!("no object")
-    };
+    let other = object(&other);
+    let monitored = inner(&other["monitored"]);
     let counts = ["tones", "agree", "opposite"].map(|key| number(monitored, key));
     assert_eq!(counts, [1, 0, 0]);
 }
 
+/// Sub-carrier 5 is nearest to (1, -1), and no frame with that point is as near.
 #[test]
-fn json_of_a_refusal() {
-    let ran = nearest(A, "1,1\n1,1\n1,1\n1,-2000\n1,1\n1,1", &["--json"]);
-    let told = object(&ran);
-    let reset = Value::Number(8_388_607);
-    assert_eq!(head(&told), answer(23, "RANGE", 3, 0, reset));
-    assert_eq!(told["place_is"], text("place in t'"));
-    assert_eq!(
-        [&told["sub_carrier"], &told["line"]],
-        [&Value::Number(4), &Value::Number(4)]
-    );
-    assert!(!told.contains_key("frame") && !told.contains_key("total"));
-}
-
-#[test]
-fn range() {
-    // Silent and monitored tones are looked at too; the first place counts, whichever coordinate.
-    for (points, place, point) in [
-        ("1024,0\n1,1\n1,1\n1,1\n1,1\n0,-9999", 0, "(1024, 0)"),
-        ("1,1\n1,-1024\n1,1\n1,1\n1,1\n1,1", 1, "(1, -1024)"),
-        ("1,1\n1,1\n1,1\n1,32768\n1,1\n1,1", 3, "(1, 32768)"),
-        ("1,1\n1,1\n1,1\n1,1\n1,1\n-99999,7", 5, "(-99999, 7)"),
-    ] {
-        for set in [A, "examples/cannot-tell.txt"] {
-            let ran = run_with(points.as_bytes(), &["nearest", set, "-"]);
-            let tone = [7, 5, 2, 4, 3, 6][place];
-            let line = place + 1;
-            let place = format!(
-                "at place {place} in t', sub-carrier {tone}, line {line} of standard input"
-            );
-            let sentence = format!("The point {point} has a coordinate that is not from -1023");
-            refused(&ran, 23, "RANGE", &place, &sentence);
-        }
-    }
-    let edges = b"1023,-1023\n-1023,1023\n1023,1023\n-1023,-1023\n1,1\n1,1";
-    assert_eq!(run_with(edges, &["nearest", A, "-"]).status, 0);
-}
-
-/// ROOM before FRAME before SEED before RANGE.
-#[test]
-fn the_order_of_refusals_of_nearest() {
-    let (five, far) = ("1,1\n".repeat(5), "2000,1\n".repeat(6));
-    for (points, start, register, number) in [
-        (&five, "8", "0", 10),
-        (&far, "8", "0", 11),
-        (&far, "7", "0", 12),
-        (&far, "7", "1", 23),
-    ] {
-        let words = ["nearest", A, "-", "--start", start, "--register", register];
-        assert_eq!(run_with(points.as_bytes(), &words).status, number);
-    }
+fn coded_the_trellis_decides() {
+    let ran = nearest(A, "-2,4\n1,-3\n-3,2\n-1,-2\n1,0\n0,2\n", &[]);
+    let row = "#           5     2            1  (1, -3)         (-1, -1)                     8";
+    assert_eq!((ran.line(3), result(&ran)), (row, vec!["15"]));
 }
