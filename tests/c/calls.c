@@ -143,10 +143,14 @@ static void nearest_of_noisy(void)
     }
 }
 
-/* 4096 1-bit tones, uncoded and so without a working buffer, as far off as can be. */
-static void largest_total(void)
+/*
+ * 4096 1-bit tones as far off as can be: both points of a tone are as far, so that every frame has the
+ * same total.
+ */
+static void largest_total(uint8_t coded)
 {
     static uint8_t bits[CLEVISROOT_MAX_TONES], frame[CLEVISROOT_MAX_TONES / 8];
+    static uint8_t work[CLEVISROOT_MAX_WORK];
     static uint16_t gains[CLEVISROOT_MAX_TONES], tones[CLEVISROOT_MAX_TONES];
     static int16_t x[CLEVISROOT_MAX_TONES], y[CLEVISROOT_MAX_TONES];
     size_t n = CLEVISROOT_MAX_TONES;
@@ -157,10 +161,13 @@ static void largest_total(void)
         x[k] = 1023;
         y[k] = -1023;
     }
-    table_set set = {0, bits, n, gains, n, tones, n};
-    clevisroot_nearest near = clevisroot_read_nearest(TABLES(&set), x, n, y, n, 1, frame,
-                                                      sizeof frame, 0, NULL, 0);
-    CHECK(near.number == CLEVISROOT_DONE && near.size == n && near.reg == 1);
+    table_set set = {coded, bits, n, gains, n, tones, n};
+    uint32_t size = clevisroot_check(TABLES(&set)).size;
+    CHECK(size == (coded ? n - n / 4 - 4 : n));
+    clevisroot_nearest near = clevisroot_read_nearest(
+        TABLES(&set), x, n, y, n, 1, frame, clevisroot_frame_bytes(size), 0, work,
+        clevisroot_work_bytes(coded, bits, n));
+    CHECK(near.number == CLEVISROOT_DONE && near.size == size && near.reg == 1);
     CHECK(near.total == UINT64_C(4096) * (1022 * 1022 + 1024 * 1024));
 }
 
@@ -302,7 +309,8 @@ int main(void)
     every_frame();
     every_start();
     nearest_of_noisy();
-    largest_total();
+    largest_total(0);
+    largest_total(1);
     for (uint8_t start = 0; start < 8; start++) {
         bits_from(start);
         no_bits(start);
