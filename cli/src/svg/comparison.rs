@@ -51,7 +51,8 @@ fn note(groups: &[VectorGroup]) -> String {
 fn vector_signs(panels: &[VectorPanel]) -> Vec<Sign> {
     let holds = |test: fn(Class) -> bool| panels.iter().any(|panel| test(panel.group.class));
     drawn(&[
-        (Sign::Received, !panels.is_empty()),
+        (Sign::Received, panels.iter().any(|panel| !panel.has_many())),
+        (Sign::ManyReceived, panels.iter().any(VectorPanel::has_many)),
         (
             Sign::Decided,
             holds(|class| matches!(class, Class::Data(_))),

@@ -12,6 +12,7 @@ pub enum Sign {
     OutsidePoint,
     FartherPoint,
     Received,
+    ManyReceived,
     Decided,
     FillerPoint,
     SilentZero,
@@ -46,6 +47,7 @@ impl Sign {
             Sign::OutsidePoint => "farther out, at these numbers",
             Sign::FartherPoint => "farther out",
             Sign::Received => "received, and the line to it",
+            Sign::ManyReceived => "received, without lines",
             Sign::Decided => "decided",
             Sign::FillerPoint => "given by the filler bits",
             Sign::SilentZero => "silent, (0, 0)",
@@ -75,6 +77,7 @@ impl Sign {
                 pen.path("vector", &stroke((x - 7.0, y), (x + 3.0, y)));
                 pen.path("received", &ring((x + 4.0, y), 4.0));
             }
+            Sign::ManyReceived => pen.path("small data", &dot((x, y))),
             Sign::Decided => pen.path("middling data", &dot((x, y))),
             Sign::FillerPoint => pen.path("monitored", &diamond((x, y), 3.5)),
             Sign::SilentZero => pen.path("monitored", &triangle((x, y), 3.5)),

@@ -49,6 +49,11 @@ impl<'a> VectorPanel<'a> {
         }
     }
 
+    /// Whether received points are drawn as dots, without lines.
+    pub fn has_many(&self) -> bool {
+        self.group.vectors.len() > MANY_VECTORS
+    }
+
     /// Whether some received point lies outside the panel.
     pub fn has_outside(&self) -> bool {
         let mut vectors = self.group.vectors.iter();
@@ -84,7 +89,7 @@ impl<'a> VectorPanel<'a> {
     }
 
     fn draw_received(&self, pen: &mut Pen) {
-        let many = self.group.vectors.len() > MANY_VECTORS;
+        let many = self.has_many();
         let (mut lines, mut rings, mut arrows) = (String::new(), String::new(), String::new());
         for vector in &self.group.vectors {
             let drawn = self.plot.scale.drawn(vector.received);

@@ -125,44 +125,49 @@ fn exact_points_are_read_as_by_read() {
 /// No frame has a smaller total, and what is said of the tones adds up to it.
 #[test]
 fn every_frame_of_small_tables_is_tried() {
-    let uncoded = tables(
-        "nearest-uncoded.txt",
-        "uncoded",
-        4,
-        &[(1, 1, 512), (3, 3, 512), (0, 0, 0), (2, 1, 512)],
-    );
+    let tones = [(1, 1, 512), (3, 3, 512), (0, 0, 0), (2, 1, 512)];
+    let uncoded = tables("nearest-uncoded.txt", "uncoded", 4, &tones);
     for (set, loaded) in [(A, &[0, 1, 2, 4, 5][..]), (&uncoded, &[0, 1, 3])] {
         let hex: Vec<String> = (0..32).map(|frame| format!("{frame:02x}")).collect();
         let symbols = symbols_of(set, &hex, "8388607");
         let symbols: Vec<_> = symbols.iter().map(|symbol| points(symbol)).collect();
-        for seed in 0..40 {
-            let size = [1, 3, 9, 1023][seed as usize % 4];
-            let received = noisy(&symbols[seed as usize % 32], size, seed);
-            let distance = |symbol: &Vec<(i64, i64)>| -> i64 {
-                let each = loaded
-                    .iter()
-                    .map(|&k: &usize| squared_distance(symbol[k], received[k]));
-                each.sum()
-            };
-            let told = object(&nearest(set, &csv(&received), &["--json"]));
-            let total = number(&told, "total");
-            assert_eq!(Some(total), symbols.iter().map(distance).min());
-            let Value::Text(frame) = &told["frame"] else {
-                panic!("no frame")
-            };
-            let decided = &symbols[usize::from_str_radix(frame, 16).unwrap()];
-            assert_eq!(distance(decided), total, "{set}: {frame} {received:?}");
-            let tones = objects(&told["loaded"]);
-            assert_eq!(tones.len(), loaded.len());
-            for (tone, &k) in tones.iter().zip(loaded) {
-                assert_eq!(number(tone, "place"), k as i64);
-                let point = |x, y| (number(tone, x), number(tone, y));
-                assert_eq!(point("x", "y"), received[k]);
-                assert_eq!(point("decided_x", "decided_y"), decided[k]);
-                let off = squared_distance(received[k], decided[k]);
-                assert_eq!(number(tone, "squared_distance"), off);
-            }
+        let received = |k: usize| noisy(&symbols[k % 32], [1, 3, 9, 1023][k % 4], k as u64);
+        let received: Vec<_> = (0..128).map(received).collect();
+        let stream: Vec<String> = received.iter().map(|list| csv(list)).collect();
+        let told = object(&nearest(set, &stream.join("\n"), &["--json"]));
+        let told = objects(&told["symbols"]);
+        assert_eq!(told.len(), received.len());
+        for (told, received) in told.iter().zip(&received) {
+            assert_nearest(told, received, &symbols, loaded);
         }
+    }
+}
+
+/// The answer for received points, against the symbols of all frames.
+fn assert_nearest(
+    told: &Object,
+    received: &[(i64, i64)],
+    symbols: &[Vec<(i64, i64)>],
+    loaded: &[usize],
+) {
+    let off = |symbol: &[(i64, i64)], k: usize| squared_distance(symbol[k], received[k]);
+    let total_of =
+        |symbol: &Vec<(i64, i64)>| -> i64 { loaded.iter().map(|&k| off(symbol, k)).sum() };
+    let total = number(told, "total");
+    assert_eq!(Some(total), symbols.iter().map(total_of).min());
+    let Value::Text(frame) = &told["frame"] else {
+        panic!("no frame")
+    };
+    let decided = &symbols[usize::from_str_radix(frame, 16).unwrap()];
+    assert_eq!(total_of(decided), total, "{frame}: {received:?}");
+    let tones = objects(&told["loaded"]);
+    assert_eq!(tones.len(), loaded.len());
+    for (tone, &k) in tones.iter().zip(loaded) {
+        assert_eq!(number(tone, "place"), k as i64);
+        let point = |x, y| (number(tone, x), number(tone, y));
+        assert_eq!(point("x", "y"), received[k]);
+        assert_eq!(point("decided_x", "decided_y"), decided[k]);
+        assert_eq!(number(tone, "squared_distance"), off(decided, k));
     }
 }
 
