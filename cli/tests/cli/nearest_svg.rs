@@ -24,7 +24,7 @@ fn a_line_from_each_decided_point_to_the_received_one() {
         "Received and decided points by bit count",
         "How far off",
         "half way to a neighbour on the grid",
-        "given by the filler bits",
+        "by the filler bits",
     ] {
         assert!(svg.contains(words), "{words}");
     }
