@@ -98,6 +98,8 @@ impl Comparison<'_> {
         let actual = (accepted, measured, told.reg, frame.to_vec());
         let inputs = (given, received);
         self.alike(Operation::ReadNearest, &expected, &actual, inputs)?;
+        let work = clevisroot_sys::work_bytes(given.lent());
+        self.alike(Operation::ReadNearest, &received.work_room, &work, inputs)?;
         self.record_decided(total, exact.number == DONE);
         self.hold_against_all(given, received, total, l)
     }
