@@ -1,6 +1,7 @@
 //! The peer that the static library is measured against, the workloads, and the timing.
 
 pub mod load;
+pub mod noise;
 pub mod peer;
 pub mod report;
 pub mod symbols;

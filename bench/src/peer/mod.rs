@@ -1,12 +1,12 @@
 //! A hand-written fast implementation of the same calls: word-wise bit access, small tables for
 //! the constellations, everything in linear time on the stack. No unsafe code.
 
-mod bits;
+pub(crate) mod bits;
 mod constellation;
 mod cosets;
 mod filler;
 mod nearest;
-mod path;
+pub(crate) mod path;
 mod plan;
 mod read;
 mod tables;
@@ -22,7 +22,7 @@ use plan::Plan;
 /// The largest G.
 const MOST_TONES: usize = 4096;
 /// The bytes of the largest frame, and room for a word past its end.
-const FRAME_ROOM: usize = clevisroot_sys::MAX_FRAME + 8;
+pub(crate) const FRAME_ROOM: usize = clevisroot_sys::MAX_FRAME + 8;
 
 const SIZE: u32 = 1;
 const TONE: u32 = 2;
