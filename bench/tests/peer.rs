@@ -4,7 +4,7 @@ use bench::peer;
 use clevisroot_sys::{Answer, Drawn, Label, Nearest, Point, Tables};
 use difftest::compare::Comparison;
 use difftest::coverage::Coverage;
-use difftest::exhaustive::one_tone;
+use difftest::exhaustive::{few_frames, largest_symbols, one_tone};
 use difftest::run::random_cases;
 use difftest::under_test::Core;
 
@@ -90,6 +90,8 @@ fn peer_answers_as_the_reference() {
         coverage: Coverage::default(),
     };
     one_tone(&mut comparison, 13).unwrap();
+    few_frames(&mut comparison).unwrap();
+    largest_symbols(&mut comparison).unwrap();
     random_cases(&mut comparison, 20_000, 7).unwrap();
     comparison.coverage.verdict().unwrap();
 }
