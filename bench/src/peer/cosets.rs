@@ -114,13 +114,14 @@ impl<const COUNT: usize> Rows<COUNT> {
     }
 }
 
-/// A point with its squared distance from the received one.
-type Candidate = (u32, [i16; 2]);
+/// A point with its squared distance from the received one, signed because the processor compares signed
+/// numbers four at a time.
+type Candidate = (i32, [i16; 2]);
 
 #[inline(always)]
 fn candidate(received: [i16; 2], point: [i16; 2]) -> Candidate {
     let off = |k: usize| i32::from(received[k] - point[k]);
-    ((off(0) * off(0) + off(1) * off(1)) as u32, point)
+    (off(0) * off(0) + off(1) * off(1), point)
 }
 
 #[inline(always)]
@@ -144,14 +145,15 @@ pub fn nearest_in_cosets(b: u8, received: [i16; 2]) -> ([u32; 4], [[i16; 2]; 4])
     for low in 0..4 {
         let one = candidate(received, [x[low], y[low]]);
         let other = candidate(received, [x[low + 4], y[low + 4]]);
-        (costs[low], points[low]) = nearer(one, other);
+        let (cost, point) = nearer(one, other);
+        (costs[low], points[low]) = (cost as u32, point);
     }
     (costs, points)
 }
 
 /// The least squared distance to the constellation, and the point there; b from 1 to 15.
 #[inline(always)]
-pub fn nearest_of_all(b: u8, received: [i16; 2]) -> Candidate {
+pub fn nearest_of_all(b: u8, received: [i16; 2]) -> (u32, [i16; 2]) {
     if b == 3 {
         let (costs, points) = nearest_in_cosets(3, received);
         let low = (0..4).min_by_key(|&low| costs[low]).unwrap_or(0);
@@ -161,14 +163,14 @@ pub fn nearest_of_all(b: u8, received: [i16; 2]) -> Candidate {
     let rectangles = &WHOLE[usize::from(b % 16)];
     let x = rectangles.x.nearest(x, 2, [1; 2]);
     let y = rectangles.y.nearest(y, 2, [1; 2]);
-    nearer(
-        candidate(received, [x[0], y[0]]),
-        candidate(received, [x[1], y[1]]),
-    )
+    let one = candidate(received, [x[0], y[0]]);
+    let other = candidate(received, [x[1], y[1]]);
+    let (cost, point) = nearer(one, other);
+    (cost as u32, point)
 }
 
 /// What both points of a 1-bit tone are off, squared, by its bit.
 #[inline(always)]
 pub fn one_bit_costs(received: [i16; 2]) -> [u32; 2] {
-    [[1, 1], [-1, -1]].map(|point| candidate(received, point).0)
+    [[1, 1], [-1, -1]].map(|point| candidate(received, point).0 as u32)
 }
