@@ -21,7 +21,7 @@ const PEER: usize = 1;
 pub fn print_symbols(effort: Effort) {
     println!("time of a symbol of 4096 tones, and its share of the symbol time of 250 us");
     println!(
-        "{:<33}{:>9}{:>8}{:>12}{:>8}{:>14}{:>15}",
+        "{:<34}{:>9}{:>8}{:>12}{:>8}{:>14}{:>15}",
         "", "library", "", "peer", "", "library/peer", "middle half"
     );
     let mut slowest: f64 = 0.0;
@@ -44,7 +44,7 @@ fn print_symbol(operation: &str, load: Load, measured: &Measured<2>) {
     let (library, peer) = (measured.median(LIBRARY), measured.median(PEER));
     let ratio = measured.ratio(LIBRARY, PEER);
     println!(
-        "{:<33}{:>6.1} us{:>6.1} %{:>9.1} us{:>6.1} %{:>14.2}{:>15}",
+        "{:<34}{:>6.1} us{:>6.1} %{:>9.1} us{:>6.1} %{:>14.2}{:>15}",
         format!("{operation}, {}", load.name),
         1e6 * library,
         share(library),

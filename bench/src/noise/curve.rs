@@ -30,7 +30,7 @@ impl Rate {
 }
 
 impl Curve {
-    /// By half decibels, until less than a tenth of the wrong frames that are wanted are found.
+    /// By half decibels, until less than a fortieth of the wrong frames that are wanted are found.
     pub fn measure(way: Way, effort: Effort) -> Curve {
         let mut line = Line::new(way);
         let levels = (16..).map(|halves| f64::from(halves) / 2.0);
@@ -38,7 +38,7 @@ impl Curve {
         Curve {
             way,
             rates: rates
-                .take_while(|rate| 10 * rate.wrong >= effort.wrong)
+                .take_while(|rate| 40 * rate.wrong >= effort.wrong)
                 .collect(),
         }
     }

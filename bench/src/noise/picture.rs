@@ -5,14 +5,14 @@ use super::line::{Rounding, BITS, TONES};
 use std::fmt::Write;
 
 const WIDTH: f64 = 960.0;
-const HEIGHT: f64 = 576.0;
+const HEIGHT: f64 = 616.0;
 /// The edges of the plot, with what they stand for: decibels, and powers of ten of the share.
 const LEFT: f64 = 88.0;
 const RIGHT: f64 = 936.0;
 const TOP: f64 = 152.0;
-const BOTTOM: f64 = 512.0;
+const BOTTOM: f64 = 552.0;
 const DECIBELS: (f64, f64) = (8.0, 27.0);
-const LOWEST_POWER: f64 = -4.5;
+const LOWEST_POWER: f64 = -5.0;
 
 const STYLE: &str = "<style>
 text{font-family:Helvetica,Arial,sans-serif;font-size:12px;fill:#000}
