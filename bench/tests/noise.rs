@@ -1,4 +1,5 @@
-//! The error rates: the uncoded one is what the formula says, and the code helps.
+//! The error rates: the uncoded one is what the formula says, and the code helps; and how far different
+//! symbols are apart on paper.
 
 use bench::noise::{draw, Curve, Effort, CODED_FINE, CODED_WHOLE, UNCODED, UNCODED_WHOLE, WAYS};
 
@@ -39,4 +40,33 @@ fn the_picture_names_every_way() {
     for way in WAYS {
         assert!(picture.contains(way.name), "{}", way.name);
     }
+}
+
+/// From a state by which two paths differ, and a word by which they do: how the next states differ, and the
+/// least squared distance of the pair's labels, 4 for each of v0, v1, w0 and w1 that differs.
+fn step(state: usize, word: usize) -> (usize, u32) {
+    let [s0, s1, s2, s3] = [0, 1, 2, 3].map(|k| state >> k & 1);
+    let [u1, u2, u3] = [0, 1, 2].map(|k| word >> k & 1);
+    let labels = [u3, u1 ^ u3, u2 ^ u3, s0 ^ u1 ^ u2 ^ u3];
+    let next = s1 << 3 | s0 << 2 | (s2 ^ u2) << 1 | (s1 ^ s3 ^ u1);
+    (next, 4 * labels.iter().sum::<usize>() as u32)
+}
+
+/// What differs in higher label bits alone, or in u3, is at 16 already.
+#[test]
+fn paths_that_part_are_at_20_when_they_meet() {
+    assert_eq!(step(0, 4), (0, 16));
+    let mut least = [u32::MAX; 16];
+    for (next, distance) in (0..8).map(|word| step(0, word)) {
+        if next > 0 {
+            least[next] = least[next].min(distance);
+        }
+    }
+    for _ in 0..16 {
+        for (state, word) in (1..16).flat_map(|state| (0..8).map(move |word| (state, word))) {
+            let (next, distance) = step(state, word);
+            least[next] = least[next].min(least[state].saturating_add(distance));
+        }
+    }
+    assert_eq!(least[0], 20);
 }
