@@ -1,4 +1,4 @@
-//! The peer that the static library is measured against, the workloads, and the timing.
+//! The peer that the static library is measured against, the workloads, the timing, and error rates.
 
 pub mod load;
 pub mod noise;
