@@ -1,5 +1,5 @@
 /*
- * One symbol there and back, then with the clips the wrong way round.
+ * One symbol there and back, then with noise, then with the clips the wrong way round.
  *
  *   gcc -Wall -Wextra -Werror -std=c11 -Iinclude examples/symbol.c \
  *       target/staticlib/libclevisroot.a -o symbol
@@ -27,6 +27,27 @@ static void read_and_tell(const char *clips, const int16_t *x, const int16_t *y,
                clevisroot_refusal_name(a.number), (unsigned)a.place);
 }
 
+/* Points with noise are no grid points: the nearest frame, and the total of squared distances. */
+static void read_noisy(const int16_t *x, const int16_t *y, size_t bytes)
+{
+    static uint8_t work[CLEVISROOT_MAX_WORK];
+    uint8_t frame[1] = {0};
+    int16_t noisy_x[NSC], noisy_y[NSC];
+    for (int p = 0; p < NSC; p++) {
+        noisy_x[p] = (int16_t)(x[p] + p % 2);
+        noisy_y[p] = (int16_t)(y[p] - p % 3);
+    }
+    clevisroot_nearest a =
+        clevisroot_read_nearest(TABLES, noisy_x, NSC, noisy_y, NSC, CLEVISROOT_RESET, frame, bytes,
+                                0, work, clevisroot_work_bytes(1, bits, G));
+    if (a.number == CLEVISROOT_DONE)
+        printf("noisy: nearest is frame %u, total %llu\n", (unsigned)frame[0],
+               (unsigned long long)a.total);
+    else
+        printf("noisy: refused %u %s at place %u\n", (unsigned)a.number,
+               clevisroot_refusal_name(a.number), (unsigned)a.place);
+}
+
 int main(void)
 {
     clevisroot_answer a = clevisroot_check(TABLES);
@@ -49,6 +70,7 @@ int main(void)
     printf("\nregister for the next symbol: %u\n", (unsigned)a.reg);
 
     read_and_tell("straight", x, y, bytes);
+    read_noisy(x, y, bytes);
     for (int p = 0; p < NSC; p++) {
         x[p] = (int16_t)-x[p];
         y[p] = (int16_t)-y[p];

@@ -1,4 +1,5 @@
-// The C example in C++: one symbol there and back, then with the clips the wrong way round.
+// The C example in C++: one symbol there and back, then with noise, then with the clips the wrong way
+// round.
 //
 //   g++ -Wall -Wextra -Werror -std=c++11 -Iinclude examples/symbol.cpp
 //       target/staticlib/libclevisroot.a -o symbol
@@ -48,6 +49,37 @@ void read_and_tell(const char *clips, const Points &points, std::size_t bytes)
                     clevisroot_refusal_name(a.number), unsigned(a.place));
 }
 
+Points noisy(Points points)
+{
+    for (std::size_t p = 0; p < points.x.size(); p++) {
+        points.x[p] = int16_t(points.x[p] + p % 2);
+        points.y[p] = int16_t(points.y[p] - p % 3);
+    }
+    return points;
+}
+
+clevisroot_nearest nearest(const Points &points, uint32_t reg, std::vector<uint8_t> &frame)
+{
+    std::vector<uint8_t> work(clevisroot_work_bytes(1, bits.data(), bits.size()));
+    return clevisroot_read_nearest(1, bits.data(), bits.size(), gains.data(), gains.size(),
+                                   tones.data(), tones.size(), points.x.data(), points.x.size(),
+                                   points.y.data(), points.y.size(), reg, frame.data(),
+                                   frame.size(), 0, work.data(), work.size());
+}
+
+// Points with noise are no grid points: the nearest frame, and the total of squared distances.
+void read_noisy(const Points &points, std::size_t bytes)
+{
+    std::vector<uint8_t> frame(bytes);
+    const clevisroot_nearest a = nearest(points, CLEVISROOT_RESET, frame);
+    if (a.number == CLEVISROOT_DONE)
+        std::printf("noisy: nearest is frame %u, total %llu\n", unsigned(frame[0]),
+                    static_cast<unsigned long long>(a.total));
+    else
+        std::printf("noisy: refused %u %s at place %u\n", unsigned(a.number),
+                    clevisroot_refusal_name(a.number), unsigned(a.place));
+}
+
 Points turned(Points points)
 {
     for (std::size_t p = 0; p < points.x.size(); p++) {
@@ -81,5 +113,6 @@ int main()
     std::printf("\nregister for the next symbol: %u\n", unsigned(a.reg));
 
     read_and_tell("straight", points, bytes);
+    read_noisy(noisy(points), bytes);
     read_and_tell("turned", turned(points), bytes);
 }

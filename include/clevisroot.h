@@ -6,13 +6,14 @@
  * x86-64 host beside it, or write your own from docs/RULES.md and hold it to this one.
  *
  * It checks bit, gain and tone tables, re-orders them, turns a frame of bits into one integer
- * point per tone, and turns points back into the frame: with trellis coding or without.
+ * point per tone, and turns points back into the frame, noisy ones into the nearest: with trellis
+ * coding or without.
  *
  * Link with libclevisroot.a (pkg-config: clevisroot). The archive needs memcpy and memset and no
  * other symbol, at most CLEVISROOT_STACK bytes of stack, no heap and no global state. It is
  * re-entrant: any number of threads may call it at the same time. It keeps no pointer after a call.
- * A pointer may be null where its length is 0. An output must not overlap any other argument. All
- * lengths count entries.
+ * A pointer may be null where its length is 0. An output or a working buffer must not overlap any
+ * other argument. All lengths count entries.
  *
  * The functions that are declared below are proved. Those that are written out in this header and in
  * clevisroot_names.h are plain C, so that the archive holds proved functions only.
@@ -36,16 +37,32 @@
  * given no start, bit k is in byte k / 8, at weight 1 << (k % 8); the frame has exactly (L + 7) / 8
  * bytes (clevisroot_frame_bytes), and its unused high bits are 0.
  *
- * A frame need not begin on a byte. clevisroot_encode_at and clevisroot_read_at are given its start,
- * 0 to 7, which is the bit of the first byte that holds the frame's bit 0: bit k is then in byte
- * (start + k) / 8, at weight 1 << ((start + k) % 8). Such a frame has exactly (start + L + 7) / 8
- * bytes (clevisroot_frame_bytes_at), at most CLEVISROOT_MAX_FRAME, so one byte if L is 0 and the start
- * is not. Its bits before the start and after the end are 0. The same L bits give the same points with
- * any start; clevisroot_encode and clevisroot_read are the calls with start 0.
+ * A frame need not begin on a byte. clevisroot_encode_at, clevisroot_read_at and
+ * clevisroot_read_nearest are given its start, 0 to 7, which is the bit of the first byte that holds
+ * the frame's bit 0: bit k is then in byte (start + k) / 8, at weight 1 << ((start + k) % 8). Such a
+ * frame has exactly (start + L + 7) / 8 bytes (clevisroot_frame_bytes_at), at most
+ * CLEVISROOT_MAX_FRAME, so one byte if L is 0 and the start is not. Its bits before the start and after
+ * the end are 0. The same L bits give the same points with any start; clevisroot_encode and
+ * clevisroot_read are the calls with start 0.
  *
  * The points of a symbol are two lists, x and y, of NSC entries each. They are in the order of the
  * re-ordered tone table t', which clevisroot_reorder writes: x[p] and y[p] belong to tone t'[p].
  * Uncoded, t' is t. Coded, the 1-bit tones go to the end; they and all others keep their order in t.
+ *
+ * NOISE
+ *
+ * clevisroot_read and clevisroot_read_at read points that carry no noise. clevisroot_read_nearest
+ * takes received points that lie anywhere, each coordinate -1023 to 1023, and decides for a frame
+ * whose written points have the smallest total of squared distances to them. The total is the sum of
+ * (X - x)^2 + (Y - y)^2 over the tones with data; monitored and silent tones do not count in it. No
+ * frame has a smaller one. Where several frames share it, which of them is given is free. On points
+ * that clevisroot_read_at reads, the total is 0 and the frame is the same.
+ *
+ * Coded, it follows the 16 states of the code pair by pair in a working buffer that it is lent: 16
+ * bytes a pair, so 16 * ((N + 1) / 2) bytes, where N is the number of non-zero entries in b'
+ * (clevisroot_work_bytes), at most CLEVISROOT_MAX_WORK. Uncoded, it has 0 bytes. The buffer is no
+ * output: what it holds before the call does not matter, and what a call that is done leaves in it is
+ * free.
  *
  * THE REGISTER
  *
@@ -58,9 +75,9 @@
  *
  * Every answer has a number: 0 if the call is done, else the number below. If several refusals
  * apply, the smallest number is given (clevisroot_read_point alone tests 16 before 13). So in
- * reading all places pass 13 before any is tested for 14, and all 14 before any pair is tested for
- * 15. A refused call writes nothing to any buffer, has size 0 and hands the register back as it was
- * given. A call that is done writes the whole of each output.
+ * reading without noise all places pass 13 before any is tested for 14, and all 14 before any pair
+ * is tested for 15. A refused call writes nothing to any buffer, has size and total 0, and hands the
+ * register back as it was given. A call that is done writes the whole of each output.
  *
  *   no.  given exactly when                                              place
  *   1    G is not 1 to 4096, gains_len is not G, NSC is 0 or above G     0
@@ -72,7 +89,8 @@
  *   7    coded: the number of 1-bit tones is odd                         0
  *   8    coded: fewer than 4 non-zero entries in b'                      0
  *   9    unused: no call gives it
- *   10   a lent output or a point list has not its exact length          0
+ *   10   a lent output, a point list or a working buffer has not its     0
+ *        exact length
  *   11   the start is above 7; or, of a frame to be encoded, the length  0
  *        is wrong, or a bit before the start or after the end is 1
  *   12   the register is 0 or above 8388607                              0
@@ -80,18 +98,22 @@
  *   14   a monitored tone's point is not the one its filler bits give    first place in t'
  *   15   a pair of entries breaks the trellis code                       number of the first pair
  *   16   one-tone calls: bits not 1 to 15, or label not below 2^bits     0
+ *   17 to 22 unused: no call gives them
+ *   23   nearest reading: a coordinate is below -1023 or above 1023      first place in t'
  *
  * Places, sub-carriers and pairs count from 0. For 13 a monitored tone can have the points of 2
- * bits, a silent one (0, 0) only. Pairs are cut from the non-zero entries of b' in order; if their
- * count is odd, the first entry makes pair 0 on its own. A pair breaks the trellis code if no frame
- * gives its two labels in the state that the pairs before it leave.
+ * bits, a silent one (0, 0) only. For 23 every place counts, also a monitored or a silent one. Pairs
+ * are cut from the non-zero entries of b' in order; if their count is odd, the first entry makes pair 0
+ * on its own. A pair breaks the trellis code if no frame gives its two labels in the state that the
+ * pairs before it leave.
  *
  * HALF A TURN
  *
  * If the two wires of the pair are exchanged (the clips are the wrong way round), every point
- * (X, Y) arrives as (-X, -Y). Coded, reading refuses such a symbol with 14 if any tone is monitored,
- * and with 15 if none is and the count of non-zero entries in b' is odd. If none is monitored and the
- * count is even, the turned symbol is read as another frame, and nothing tells.
+ * (X, Y) arrives as (-X, -Y). Coded, reading without noise refuses such a symbol with 14 if any tone
+ * is monitored, and with 15 if none is and the count of non-zero entries in b' is odd. If none is
+ * monitored and the count is even, the turned symbol is read as another frame, and nothing tells.
+ * Nearest reading never refuses it: it compares no monitored point.
  */
 #ifndef CLEVISROOT_H
 #define CLEVISROOT_H
@@ -118,6 +140,9 @@ extern "C" {
 /* The most bytes of a frame: 4096 tones of 15 bits, uncoded, from a start of 1 to 7. */
 #define CLEVISROOT_MAX_FRAME 7681
 
+/* The most bytes of a working buffer: 4096 entries, so 2048 pairs. */
+#define CLEVISROOT_MAX_WORK 32768
+
 /* The most bytes of stack that a call takes, its own frame and those below. Measured, not proved. */
 #define CLEVISROOT_STACK 57344
 
@@ -138,19 +163,26 @@ enum {
     CLEVISROOT_OFFGRID = 13,
     CLEVISROOT_MONITOR = 14,
     CLEVISROOT_TRELLIS = 15,
-    CLEVISROOT_LABEL = 16
+    CLEVISROOT_LABEL = 16,
+    CLEVISROOT_RANGE = 23
 };
 
 /* The register at reset. */
 #define CLEVISROOT_RESET UINT32_C(8388607)
 
-/* What the calls with tables answer. */
+/* What the calls with tables answer, but for clevisroot_read_nearest. */
 typedef struct {
     uint32_t number; /* 0 or the refusal */
     uint32_t place;  /* where the refusal applies, 0 if done */
     uint32_t size;   /* L, 0 on refusal */
     uint32_t reg;    /* the register after the draws; as given on refusal; 0 if none was given */
 } clevisroot_answer;
+
+/* What clevisroot_read_nearest answers: the same, and the total of squared distances. */
+typedef struct {
+    uint32_t number, place, size, reg;
+    uint64_t total; /* 0 on refusal */
+} clevisroot_nearest;
 
 typedef struct {
     uint32_t number;
@@ -184,6 +216,20 @@ static inline size_t clevisroot_frame_bytes_at(uint32_t size, uint8_t start)
 static inline size_t clevisroot_frame_bytes(uint32_t size)
 {
     return clevisroot_frame_bytes_at(size, 0);
+}
+
+/*
+ * The bytes of the working buffer, for tables that clevisroot_check accepts. The tone table is not
+ * needed: sub-carriers outside it have 0 bits.
+ */
+static inline size_t clevisroot_work_bytes(uint8_t coded, const uint8_t *bits, size_t bits_len)
+{
+    size_t ones = 0, others = 0;
+    for (size_t k = 0; k < bits_len; k++) {
+        ones += bits[k] == 1;
+        others += bits[k] > 1;
+    }
+    return coded ? 16 * ((others + ones / 2 + 1) / 2) : 0;
 }
 
 /* Checks the tables and tells L. Refusals 1 to 8. */
@@ -251,6 +297,21 @@ clevisroot_answer clevisroot_read_at(
     const uint16_t *gains, size_t gains_len, const uint16_t *tones, size_t tones_len,
     const int16_t *x, size_t x_len, const int16_t *y, size_t y_len, uint32_t reg,
     uint8_t *frame, size_t frame_len, uint8_t start);
+
+/*
+ * Decides received points to the nearest frame and writes it so that it starts at this bit of its
+ * first byte: (start + L + 7) / 8 bytes, zeros before the start and after the end. Of all frames with
+ * this start, none has points, as clevisroot_encode_at writes them, with a smaller total of squared
+ * distances to x and y; the answer has that total. The register moves as in clevisroot_read_at.
+ * Refusals 1 to 8; then 10 if x or y has not NSC entries, the frame not (start + L + 7) / 8 bytes,
+ * whatever the start, or work not the bytes of clevisroot_work_bytes; 11 if the start is above 7; 12
+ * for the register; then 23 at every place. There are no others: 13 to 15 do not apply.
+ */
+clevisroot_nearest clevisroot_read_nearest(
+    uint8_t coded, const uint8_t *bits, size_t bits_len,
+    const uint16_t *gains, size_t gains_len, const uint16_t *tones, size_t tones_len,
+    const int16_t *x, size_t x_len, const int16_t *y, size_t y_len, uint32_t reg,
+    uint8_t *frame, size_t frame_len, uint8_t start, uint8_t *work, size_t work_len);
 
 /* The point of one label. Refusal 16 if bits is not 1 to 15, or label not below 2^bits. */
 clevisroot_point clevisroot_map_label(uint8_t bits, uint32_t label);

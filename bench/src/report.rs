@@ -1,8 +1,10 @@
 //! The three tables that a run prints.
 
+use crate::load::{Load, LOADS, MIXED, UNCODED};
 use crate::peer;
+use crate::symbols::STARTS;
 use crate::timing::{measure, Effort, Measured, Ratio};
-use crate::workload::{Encode, Load, Read, Workload, LOADS, MIXED, STARTS, UNCODED};
+use crate::workload::{Encode, Read, ReadNearest, Workload};
 
 /// Seconds from one symbol to the next.
 const SYMBOL_TIME: f64 = 250e-6;
@@ -14,18 +16,27 @@ const MOST_SLOWER: f64 = 1.05;
 const LIBRARY: usize = 0;
 const PEER: usize = 1;
 
-/// Encoding and reading of every load at 4,096 tones.
+/// Encoding, reading and nearest reading of every load at 4,096 tones, and whether the library's nearest
+/// reading is always done within the symbol time.
 pub fn print_symbols(effort: Effort) {
     println!("time of a symbol of 4096 tones, and its share of the symbol time of 250 us");
     println!(
-        "{:<33}{:>9}{:>8}{:>12}{:>8}{:>14}{:>15}",
+        "{:<34}{:>9}{:>8}{:>12}{:>8}{:>14}{:>15}",
         "", "library", "", "peer", "", "library/peer", "middle half"
     );
+    let mut slowest: f64 = 0.0;
     for load in LOADS {
-        let (encode, read) = measure_load(effort, load, 4096);
-        print_symbol("encode", load, &encode);
-        print_symbol("read", load, &read);
+        let measured = measure_load(effort, load, 4096);
+        print_symbol("encode", load, &measured.encode);
+        print_symbol("read", load, &measured.read);
+        print_symbol("nearest", load, &measured.nearest);
+        slowest = slowest.max(measured.nearest.median(LIBRARY));
     }
+    let within = if slowest <= SYMBOL_TIME { "" } else { "NOT " };
+    println!(
+        "nearest reading by the library takes {:.1} us at most: {within}within the symbol time",
+        1e6 * slowest
+    );
 }
 
 fn print_symbol(operation: &str, load: Load, measured: &Measured<2>) {
@@ -33,7 +44,7 @@ fn print_symbol(operation: &str, load: Load, measured: &Measured<2>) {
     let (library, peer) = (measured.median(LIBRARY), measured.median(PEER));
     let ratio = measured.ratio(LIBRARY, PEER);
     println!(
-        "{:<33}{:>6.1} us{:>6.1} %{:>9.1} us{:>6.1} %{:>14.2}{:>15}",
+        "{:<34}{:>6.1} us{:>6.1} %{:>9.1} us{:>6.1} %{:>14.2}{:>15}",
         format!("{operation}, {}", load.name),
         1e6 * library,
         share(library),
@@ -83,34 +94,47 @@ fn print_start(operation: &str, load: Load, measured: &ByStart) -> f64 {
 /// The cost of a tone against NSC, which is level where the cost is linear.
 pub fn print_scaling(effort: Effort) {
     println!("time of a tone against NSC, {}", MIXED.name);
-    println!(
-        "{:>6}{:>18}{:>15}{:>16}{:>13}",
-        "NSC", "encode, library", "encode, peer", "read, library", "read, peer"
-    );
-    for nsc in [16, 64, 256, 1024, 2048, 4096] {
-        let (encode, read) = measure_load(effort, MIXED, nsc);
+    println!("{:>6}{:>20}{:>22}{:>22}", "", "encode", "read", "nearest");
+    print!("{:>6}", "NSC");
+    (0..3).for_each(|_| print!("{:>12}{:>10}", "library", "peer"));
+    println!();
+    for nsc in [16, 64, 256, 512, 1024, 2048, 4096] {
+        let PerCall {
+            encode,
+            read,
+            nearest,
+        } = measure_load(effort, MIXED, nsc);
         let per_tone = |seconds: f64| format!("{:.1} ns", 1e9 * seconds / nsc as f64);
-        println!(
-            "{nsc:>6}{:>18}{:>15}{:>16}{:>13}",
-            per_tone(encode.median(LIBRARY)),
-            per_tone(encode.median(PEER)),
-            per_tone(read.median(LIBRARY)),
-            per_tone(read.median(PEER)),
-        );
+        print!("{nsc:>6}");
+        for call in [encode, read, nearest] {
+            let (library, peer) = (call.median(LIBRARY), call.median(PEER));
+            print!("{:>12}{:>10}", per_tone(library), per_tone(peer));
+        }
+        println!();
     }
 }
 
-/// Encoding and reading of one workload by both sides, once they are seen to agree.
-fn measure_load(effort: Effort, load: Load, nsc: usize) -> (Measured<2>, Measured<2>) {
+/// The calls that run once a symbol, each by both sides.
+struct PerCall {
+    encode: Measured<2>,
+    read: Measured<2>,
+    nearest: Measured<2>,
+}
+
+/// All calls on one workload by both sides, once they are seen to agree.
+fn measure_load(effort: Effort, load: Load, nsc: usize) -> PerCall {
     let encoders: [Encode; 2] = [clevisroot_sys::encode, peer::encode];
     let readers: [Read; 2] = [clevisroot_sys::read, peer::read];
+    let deciders: [ReadNearest; 2] = [clevisroot_sys::read_nearest, peer::read_nearest];
     let mut workload = Workload::new(load, nsc);
-    let alike = workload.agrees(encoders[0], readers[0]);
+    let alike = workload.agrees(encoders[0], readers[0]) && workload.agree_nearest(deciders);
     assert!(alike, "the library and the peer differ: {}", load.name);
     let cycle = workload.cycle();
-    let encode = measure(effort, cycle, encoders, |encode| workload.encode(encode));
-    let read = measure(effort, cycle, readers, |read| workload.read(read));
-    (encode, read)
+    PerCall {
+        encode: measure(effort, cycle, encoders, |encode| workload.encode(encode)),
+        read: measure(effort, cycle, readers, |read| workload.read(read)),
+        nearest: measure(effort, cycle, deciders, |read| workload.read_nearest(read)),
+    }
 }
 
 /// Measurements whose sides are the starts.

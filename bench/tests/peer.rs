@@ -1,10 +1,10 @@
 //! The peer against the reference, on the cases of the differential test.
 
 use bench::peer;
-use clevisroot_sys::{Answer, Drawn, Label, Point, Tables};
+use clevisroot_sys::{Answer, Drawn, Label, Nearest, Point, Tables};
 use difftest::compare::Comparison;
 use difftest::coverage::Coverage;
-use difftest::exhaustive::one_tone;
+use difftest::exhaustive::{few_frames, largest_symbols, one_tone};
 use difftest::run::random_cases;
 use difftest::under_test::Core;
 
@@ -58,6 +58,18 @@ impl Core for Peer {
         peer::read_at(tables, x, y, reg, frame, start)
     }
 
+    fn read_nearest(
+        &self,
+        tables: Tables,
+        (x, y): (&[i16], &[i16]),
+        reg: u32,
+        frame: &mut [u8],
+        start: u8,
+        work: &mut [u8],
+    ) -> Nearest {
+        peer::read_nearest(tables, x, y, reg, frame, start, work)
+    }
+
     fn map_label(&self, bits: u8, label: u32) -> Point {
         peer::map_label(bits, label)
     }
@@ -78,6 +90,8 @@ fn peer_answers_as_the_reference() {
         coverage: Coverage::default(),
     };
     one_tone(&mut comparison, 13).unwrap();
+    few_frames(&mut comparison).unwrap();
+    largest_symbols(&mut comparison).unwrap();
     random_cases(&mut comparison, 20_000, 7).unwrap();
     comparison.coverage.verdict().unwrap();
 }

@@ -1,8 +1,10 @@
 //! The load of many table sets: no two are alike, and library and peer agree on each. They agree too
-//! where one tone in two is silent, and from every start.
+//! where one tone in two is silent, from every start, and on what noisy points are nearest to.
 
+use bench::load::{HALF_SILENT, LOADS, MIXED, ROTATING, UNCODED};
 use bench::peer;
-use bench::workload::{Workload, HALF_SILENT, MIXED, ROTATING, STARTS, UNCODED};
+use bench::symbols::STARTS;
+use bench::workload::Workload;
 use std::collections::BTreeSet;
 
 #[test]
@@ -27,5 +29,13 @@ fn library_and_peer_agree_from_every_start() {
             assert!(workload.agrees_at(clevisroot_sys::encode_at, clevisroot_sys::read_at, start));
             assert!(workload.agrees_at(peer::encode_at, peer::read_at, start));
         }
+    }
+}
+
+#[test]
+fn library_and_peer_agree_on_noisy_points() {
+    for load in LOADS {
+        let mut workload = Workload::new(load, 64);
+        assert!(workload.agree_nearest([clevisroot_sys::read_nearest, peer::read_nearest]));
     }
 }

@@ -51,6 +51,35 @@ pub fn read(
     (answer, frame)
 }
 
+/// What was decided for received points.
+pub struct Nearest {
+    pub answer: Answer,
+    /// The squared distances of all loaded tones, added up.
+    pub total: u64,
+    pub frame: Vec<u8>,
+}
+
+/// The frame whose points are nearest to the received ones, with its start at this bit of its first
+/// byte.
+pub fn nearest(set: &TableSet, (x, y): (&[i16], &[i16]), register: u32, start: u8) -> Nearest {
+    let tables = set.lent();
+    let mut frame = vec![0; frame_bytes(set, start)];
+    let mut work = vec![0; library::work_bytes(tables)];
+    let told = library::read_nearest(tables, x, y, register, &mut frame, start, &mut work);
+    let answer = Answer {
+        number: told.number,
+        place: told.place,
+        size: told.size,
+        reg: told.reg,
+    };
+    let total = told.total;
+    Nearest {
+        answer,
+        total,
+        frame,
+    }
+}
+
 /// N is odd in coded mode: then the trellis code refuses every symbol that is turned by half a turn,
 /// whatever the register.
 pub fn trellis_tells(set: &TableSet, order: &Order) -> bool {
@@ -66,6 +95,12 @@ pub fn span(set: &TableSet, start: u8) -> Span {
 /// The bytes of a frame of these tables.
 pub fn frame_bytes(set: &TableSet, start: u8) -> usize {
     span(set, start).bytes()
+}
+
+impl Points {
+    pub fn at(&self, place: Place) -> Option<(i16, i16)> {
+        Some((*self.x.get(place.0)?, *self.y.get(place.0)?))
+    }
 }
 
 impl Order {

@@ -28,7 +28,7 @@ files (# begins a comment; - is standard input, for one of the files)
 
 const STATUS: [(&str, &str); 10] = [
     ("0", "done; of turn: straight"),
-    ("1 to 8, 10 to 16", "the refusal's number"),
+    ("1 to 8, 10 to 16, 23", "the refusal's number"),
     ("32", "turn: turned"),
     (
         "33",

@@ -43,13 +43,19 @@ pub const START: Opt = Opt {
 pub const OUT: Opt = Opt {
     name: "out",
     kind: Kind::Output,
-    about: "the result into a file: points of encode, frame of read, lists of order",
+    about: "the result into a file: points of encode, frame of read or nearest, lists of order",
 };
 
 pub const SVG: Opt = Opt {
     name: "svg",
     kind: Kind::Output,
     about: "a picture of the points and the bit loading",
+};
+
+pub const ALL: Opt = Opt {
+    name: "all",
+    kind: Kind::Flag,
+    about: "every loaded tone in t' order, not only those that are farthest off",
 };
 
 pub const STOP: Opt = Opt {
@@ -65,12 +71,13 @@ pub const JSON: Opt = Opt {
 };
 
 /// All of them, in the order of the help.
-pub const OPTIONS: [&Opt; 7] = [
+pub const OPTIONS: [&Opt; 8] = [
     &REGISTER,
     &REGISTER_OR_FIND,
     &START,
     &OUT,
     &SVG,
+    &ALL,
     &STOP,
     &JSON,
 ];

@@ -171,7 +171,8 @@ impl Comparison<'_> {
         }
     }
 
-    fn hold<A: PartialEq + Debug>(
+    /// Counts the number that a call gave, and holds its answer to the reference's.
+    pub fn hold<A: PartialEq + Debug>(
         &mut self,
         operation: Operation,
         number: u32,
@@ -180,6 +181,16 @@ impl Comparison<'_> {
         inputs: impl Debug,
     ) -> Result<(), Mismatch> {
         self.coverage.record(operation, number);
+        self.alike(operation, expected, actual, inputs)
+    }
+
+    pub fn alike<A: PartialEq + Debug>(
+        &self,
+        operation: Operation,
+        expected: &A,
+        actual: &A,
+        inputs: impl Debug,
+    ) -> Result<(), Mismatch> {
         if expected == actual {
             return Ok(());
         }
@@ -191,7 +202,7 @@ impl Comparison<'_> {
     }
 }
 
-fn answer<C>(told: &reference::Answer<C>) -> Answer {
+pub fn answer<C>(told: &reference::Answer<C>) -> Answer {
     Answer {
         number: told.number,
         place: told.place,

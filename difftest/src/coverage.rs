@@ -1,5 +1,6 @@
 //! Which numbers came from which operation, and whether all that must come did.
 
+use crate::decisions::Decisions;
 use crate::starts::{Causes, Starts};
 use clevisroot_sys::refusals::*;
 use std::fmt;
@@ -12,6 +13,7 @@ pub enum Operation {
     EncodeAt,
     Read,
     ReadAt,
+    ReadNearest,
     MapLabel,
     ReadPoint,
     Draw,
@@ -19,12 +21,21 @@ pub enum Operation {
 
 use Operation::*;
 
-const OPERATIONS: [Operation; 9] = [
-    Check, Reorder, Encode, EncodeAt, Read, ReadAt, MapLabel, ReadPoint, Draw,
+const OPERATIONS: [Operation; 10] = [
+    Check,
+    Reorder,
+    Encode,
+    EncodeAt,
+    Read,
+    ReadAt,
+    ReadNearest,
+    MapLabel,
+    ReadPoint,
+    Draw,
 ];
 
 /// How many numbers there are from DONE to the largest, unused ones included.
-const NUMBERS: usize = LABEL as usize + 1;
+const NUMBERS: usize = RANGE as usize + 1;
 
 impl Operation {
     /// The name after `clevisroot_`.
@@ -36,6 +47,7 @@ impl Operation {
             EncodeAt => "encode_at",
             Read => "read",
             ReadAt => "read_at",
+            ReadNearest => "read_nearest",
             MapLabel => "map_label",
             ReadPoint => "read_point",
             Draw => "draw",
@@ -50,6 +62,7 @@ impl Operation {
             Encode | EncodeAt => (DONE..=FEW).chain(ROOM..=SEED).collect(),
             Read => (DONE..=FEW).chain([ROOM]).chain(SEED..=TRELLIS).collect(),
             ReadAt => (DONE..=FEW).chain(ROOM..=TRELLIS).collect(),
+            ReadNearest => (DONE..=FEW).chain(ROOM..=SEED).chain([RANGE]).collect(),
             MapLabel => vec![DONE, LABEL],
             ReadPoint => vec![DONE, OFFGRID, LABEL],
             Draw => vec![DONE, SEED],
@@ -65,8 +78,10 @@ pub struct Coverage {
     /// Of symbols that were done.
     pub encoded: Starts,
     pub read: Starts,
+    pub nearest: Starts,
     /// Of frames that encoding refused.
     pub refused: Causes,
+    pub decisions: Decisions,
 }
 
 type Counts = [[u64; NUMBERS]; OPERATIONS.len()];
@@ -93,7 +108,8 @@ impl Coverage {
     }
 
     /// Every number an operation can give turned up, and no other, and so did every outcome for a
-    /// monitored tone behind a silent one, every start, and every cause to refuse a frame.
+    /// monitored tone behind a silent one, every start, every cause to refuse a frame, and every
+    /// outcome of nearest reading.
     pub fn verdict(&self) -> Result<(), String> {
         for operation in OPERATIONS {
             for (number, &count) in (DONE..).zip(&self.counts[operation as usize]) {
@@ -118,7 +134,9 @@ impl Coverage {
         }
         self.encoded.verdict("encoded")?;
         self.read.verdict("read")?;
-        self.refused.verdict()
+        self.nearest.verdict("read as the nearest")?;
+        self.refused.verdict()?;
+        self.decisions.verdict()
     }
 }
 
@@ -126,16 +144,16 @@ impl fmt::Display for Coverage {
     fn fmt(&self, f: &mut fmt::Formatter) -> fmt::Result {
         write!(f, "{:<11}", "")?;
         for operation in OPERATIONS {
-            write!(f, "{:>11}", operation.name())?;
+            write!(f, "{:>13}", operation.name())?;
         }
         for &(number, name) in ALL {
             write!(f, "\n{number:>2} {name:<8}")?;
             for operation in OPERATIONS {
                 let count = self.counts[operation as usize][number as usize];
                 if count > 0 || operation.numbers().contains(&number) {
-                    write!(f, "{count:>11}")?;
+                    write!(f, "{count:>13}")?;
                 } else {
-                    write!(f, "{:>11}", "-")?;
+                    write!(f, "{:>13}", "-")?;
                 }
             }
         }
@@ -147,9 +165,10 @@ impl fmt::Display for Coverage {
         write!(
             f,
             "\neach start with each remainder of L by 8, and with L = 0: \
-             encoded {} times at least, read {}",
-            self.encoded, self.read
+             encoded {} times at least, read {}, read as the nearest {}",
+            self.encoded, self.read, self.nearest
         )?;
-        write!(f, "\nframes refused for their {}", self.refused)
+        write!(f, "\nframes refused for their {}", self.refused)?;
+        write!(f, "\nnearest reading: {}", self.decisions)
     }
 }

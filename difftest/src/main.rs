@@ -1,9 +1,10 @@
 //! `difftest [CASES] [SEED]`: the static library against the reference. Exit 1 on a mismatch, or
-//! if a number that an operation can give never came, or a start, or a fault of a frame.
+//! if a number that an operation can give never came, or a start, a fault of a frame, or an outcome of
+//! nearest reading.
 
 use difftest::compare::Comparison;
 use difftest::coverage::Coverage;
-use difftest::exhaustive::one_tone;
+use difftest::exhaustive::{few_frames, largest_symbols, one_tone};
 use difftest::run::random_cases;
 use difftest::under_test::Library;
 use std::process::ExitCode;
@@ -42,7 +43,10 @@ fn run(cases: u64, seed: u64) -> Result<(), String> {
         core: &Library,
         coverage: Coverage::default(),
     };
-    one_tone(&mut comparison, 15).map_err(|told| format!("MISMATCH, exhaustive: {told}"))?;
+    let exhaustive = one_tone(&mut comparison, 15)
+        .and_then(|()| few_frames(&mut comparison))
+        .and_then(|()| largest_symbols(&mut comparison));
+    exhaustive.map_err(|told| format!("MISMATCH, exhaustive: {told}"))?;
     random_cases(&mut comparison, cases, seed)
         .map_err(|(case, told)| format!("MISMATCH, seed {seed} case {case}: {told}"))?;
     println!("{}", comparison.coverage);

@@ -5,6 +5,7 @@ use crate::inputs::{random_bits, random_frame, random_label, random_point};
 use crate::inputs::{random_register, random_room, random_start};
 use crate::points::{any_points, points_to_read};
 use crate::random::Random;
+use crate::received::random_received;
 use crate::tables::{random_tables, GivenTables};
 use reference::forms::frame_bytes;
 use reference::words::lists_of;
@@ -32,6 +33,7 @@ fn run_case(comparison: &mut Comparison, random: &mut Random) -> Result<(), Mism
     for _ in 0..2 {
         read_case(comparison, random, &given)?;
     }
+    nearest_case(comparison, random, &given)?;
     one_tone_case(comparison, random)
 }
 
@@ -73,6 +75,24 @@ fn read_case(
     };
     let room = random_room(random, frame_bytes(room_from, l));
     comparison.read(random, given, (&x, &y), register, (room, start))
+}
+
+/// The reference tries every label, so tables with many are read once in a while only.
+fn nearest_case(
+    comparison: &mut Comparison,
+    random: &mut Random,
+    given: &GivenTables,
+) -> Result<(), Mismatch> {
+    let labels = given
+        .tables
+        .bits
+        .iter()
+        .map(|&bits| 1_usize << bits.min(15));
+    if labels.sum::<usize>() > 4096 && !random.one_in(48) {
+        return Ok(());
+    }
+    let received = random_received(random, &given.tables);
+    comparison.read_nearest(random, given, &received)
 }
 
 fn one_tone_case(comparison: &mut Comparison, random: &mut Random) -> Result<(), Mismatch> {

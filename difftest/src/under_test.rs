@@ -1,8 +1,8 @@
 //! What is held against the reference.
 
-use clevisroot_sys::{Answer, Drawn, Label, Point, Tables};
+use clevisroot_sys::{Answer, Drawn, Label, Nearest, Point, Tables};
 
-/// The nine calls of include/clevisroot.h.
+/// The ten calls of include/clevisroot.h.
 pub trait Core {
     fn check(&self, tables: Tables) -> Answer;
     fn reorder(&self, tables: Tables, tones_out: &mut [u16], bits_out: &mut [u8]) -> Answer;
@@ -33,6 +33,16 @@ pub trait Core {
         frame: &mut [u8],
         start: u8,
     ) -> Answer;
+    /// X and Y come as one argument.
+    fn read_nearest(
+        &self,
+        tables: Tables,
+        points: (&[i16], &[i16]),
+        reg: u32,
+        frame: &mut [u8],
+        start: u8,
+        work: &mut [u8],
+    ) -> Nearest;
     fn map_label(&self, bits: u8, label: u32) -> Point;
     fn read_point(&self, bits: u8, x: i16, y: i16) -> Label;
     fn draw(&self, reg: u32) -> Drawn;
@@ -87,6 +97,18 @@ impl Core for Library {
         start: u8,
     ) -> Answer {
         clevisroot_sys::read_at(tables, x, y, reg, frame, start)
+    }
+
+    fn read_nearest(
+        &self,
+        tables: Tables,
+        (x, y): (&[i16], &[i16]),
+        reg: u32,
+        frame: &mut [u8],
+        start: u8,
+        work: &mut [u8],
+    ) -> Nearest {
+        clevisroot_sys::read_nearest(tables, x, y, reg, frame, start, work)
     }
 
     fn map_label(&self, bits: u8, label: u32) -> Point {

@@ -8,9 +8,11 @@ pub mod refusals;
 /// The register at reset.
 pub const RESET: u32 = 8_388_607;
 
-/// The longest tables, in sub-carriers, and the longest frame, in bytes, from any start.
+/// The longest tables, in sub-carriers; the longest frame, in bytes, from any start; and the longest
+/// working buffer, in bytes.
 pub const MAX_TONES: usize = 4096;
 pub const MAX_FRAME: usize = 7681;
+pub const MAX_WORK: usize = 32768;
 
 /// Number and place of the refusal (0 and 0 if done), frame size L, register.
 #[repr(C)]
@@ -20,6 +22,17 @@ pub struct Answer {
     pub place: u32,
     pub size: u32,
     pub reg: u32,
+}
+
+/// The same, and the total of squared distances.
+#[repr(C)]
+#[derive(Clone, Copy, Debug, PartialEq, Eq)]
+pub struct Nearest {
+    pub number: u32,
+    pub place: u32,
+    pub size: u32,
+    pub reg: u32,
+    pub total: u64,
 }
 
 #[repr(C)]
@@ -165,6 +178,43 @@ pub fn read_at(
         frame.as_mut_ptr(),
         frame.len(),
         start
+    )
+}
+
+/// The bytes of the working buffer, for tables that [`check`] accepts.
+pub fn work_bytes(tables: Tables) -> usize {
+    let ones = tables.bits.iter().filter(|&&bits| bits == 1).count();
+    let others = tables.bits.iter().filter(|&&bits| bits > 1).count();
+    match tables.coded {
+        0 => 0,
+        _ => 16 * (others + ones / 2).div_ceil(2),
+    }
+}
+
+/// Writes a frame whose points have the smallest total of squared distances to the received ones, so
+/// that it starts at this bit of its first byte.
+pub fn read_nearest(
+    tables: Tables,
+    x: &[i16],
+    y: &[i16],
+    reg: u32,
+    frame: &mut [u8],
+    start: u8,
+    work: &mut [u8],
+) -> Nearest {
+    call_with_tables!(
+        clevisroot_read_nearest,
+        tables,
+        x.as_ptr(),
+        x.len(),
+        y.as_ptr(),
+        y.len(),
+        reg,
+        frame.as_mut_ptr(),
+        frame.len(),
+        start,
+        work.as_mut_ptr(),
+        work.len()
     )
 }
 

@@ -29,6 +29,8 @@ refusals! {
     MONITOR = 14,
     TRELLIS = 15,
     LABEL = 16,
+    // 17 to 22 are unused
+    RANGE = 23,
 }
 
 /// The name of a number, as `clevisroot_refusal_name` gives it.

@@ -1,7 +1,7 @@
 //! The C headers say what the Rust side says: version, numbers, names, sizes, and each function's
 //! arguments.
 
-use clevisroot_sys::{refusals, MAX_FRAME, MAX_TONES, RESET};
+use clevisroot_sys::{refusals, MAX_FRAME, MAX_TONES, MAX_WORK, RESET};
 use std::collections::BTreeMap;
 
 const HEADER: &str = include_str!("../../include/clevisroot.h");
@@ -30,6 +30,8 @@ fn the_sizes_and_the_reset_are_the_same() {
     assert_eq!(defined("CLEVISROOT_MAX_TONES"), MAX_TONES.to_string());
     assert_eq!(defined("CLEVISROOT_MAX_FRAME"), MAX_FRAME.to_string());
     assert_eq!(MAX_FRAME, (7 + 15 * MAX_TONES).div_ceil(8));
+    assert_eq!(defined("CLEVISROOT_MAX_WORK"), MAX_WORK.to_string());
+    assert_eq!(MAX_WORK, 16 * MAX_TONES.div_ceil(2));
     let reset = format!("UINT32_C({RESET})");
     assert_eq!(defined("CLEVISROOT_RESET"), reset);
 }
@@ -61,7 +63,9 @@ fn every_number_has_its_name_for_logs() {
 #[test]
 fn a_number_that_is_none_is_unknown() {
     assert_eq!(refusals::name(refusals::TRELLIS), "TRELLIS");
+    assert_eq!(refusals::name(refusals::RANGE), "RANGE");
     assert_eq!(refusals::name(9), "UNKNOWN");
+    assert_eq!(refusals::name(17), "UNKNOWN");
     assert_eq!(refusals::name(99), "UNKNOWN");
     assert!(NAMES.contains("default: return \"UNKNOWN\";"));
 }
@@ -109,11 +113,11 @@ fn every_function_has_the_header_s_arguments() {
         let before = format!("\nclevisroot_{answer} clevisroot_");
         declared(HEADER, &before, ");", in_rust)
     };
-    let header: BTreeMap<_, _> = ["answer", "point", "label", "drawn"]
+    let header: BTreeMap<_, _> = ["answer", "nearest", "point", "label", "drawn"]
         .into_iter()
         .flat_map(of)
         .collect();
     let raw = declared(RAW, "pub fn clevisroot_", ") ->", str::to_string);
-    assert_eq!(header.len(), 9);
+    assert_eq!(header.len(), 10);
     assert_eq!(header, raw);
 }

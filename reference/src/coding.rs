@@ -4,7 +4,7 @@
 use crate::reordering::Pair;
 
 /// The encoder state, zero at the start.
-#[derive(Clone, Copy, Debug, Default, PartialEq, Eq)]
+#[derive(Clone, Copy, Debug, Default, PartialEq, Eq, PartialOrd, Ord)]
 pub struct State {
     pub s3: bool,
     pub s2: bool,
@@ -40,6 +40,13 @@ impl State {
             u[k] = bit;
         }
         (self.next(u[1], u[2]), sent_bits(pair, &u))
+    }
+
+    /// The next state after a pair whose labels imply this word u, unless it breaks the code.
+    pub fn read(self, u: &[bool], last_two: bool) -> Option<State> {
+        let forced = u[1] == self.forced_u1() && u[2] == self.forced_u2();
+        let breaks = u[0] != self.s0 || (last_two && !forced);
+        (!breaks).then(|| self.next(u[1], u[2]))
     }
 
     /// The u1 that the last two pairs must have.
@@ -92,7 +99,7 @@ fn sent_bits(pair: Pair, u: &[bool]) -> Vec<bool> {
 }
 
 /// The word u that the labels v and w imply: the four equations solved for u0 to u3.
-fn implied_word(pair: Pair, v: &[bool], w: &[bool]) -> Vec<bool> {
+pub fn implied_word(pair: Pair, v: &[bool], w: &[bool]) -> Vec<bool> {
     let (u1, u3) = if pair.x == 0 {
         (false, false)
     } else {
@@ -106,7 +113,8 @@ fn implied_word(pair: Pair, v: &[bool], w: &[bool]) -> Vec<bool> {
     u
 }
 
-fn is_last_two(number: usize, pairs: &[Pair]) -> bool {
+/// Whether the pair of this number is one of the last two.
+pub fn is_last_two(number: usize, pairs: &[Pair]) -> bool {
     number + 2 >= pairs.len()
 }
 
@@ -137,12 +145,8 @@ pub fn read_pairs(pairs: &[Pair], sent: &[bool]) -> Result<Vec<bool>, usize> {
         let (w, after) = after.split_at(pair.y);
         rest = after;
         let u = implied_word(pair, v, w);
-        let forced = u[1] == state.forced_u1() && u[2] == state.forced_u2();
-        if u[0] != state.s0 || (last_two && !forced) {
-            return Err(number);
-        }
+        state = state.read(&u, last_two).ok_or(number)?;
         frame.extend(frame_places(pair, last_two).iter().map(|&k| u[k]));
-        state = state.next(u[1], u[2]);
     }
     Ok(frame)
 }

@@ -1,12 +1,13 @@
 //! A second implementation of document 01, as amended, written from its text alone: lists of bits
 //! and plain loops, with one module for each section and the section's letters.
 //!
-//! The nine calls are in [`operations`]. Each answers for all inputs.
+//! The ten calls are in [`operations`]. Each answers for all inputs.
 
 pub mod coding;
 pub mod figures;
 pub mod filler;
 pub mod forms;
+pub mod nearest;
 pub mod operations;
 pub mod points;
 pub mod refusals;
@@ -15,5 +16,5 @@ pub mod symbol;
 pub mod words;
 
 pub use forms::{Mode, Tables};
-pub use operations::{check, draw, encode, encode_at, map_label, read, read_at, read_point};
-pub use operations::{reorder, Answer};
+pub use operations::{check, draw, encode, encode_at, map_label, read, read_at, read_nearest};
+pub use operations::{read_point, reorder, Answer};

@@ -1,8 +1,9 @@
-//! The nine calls: which refusals each uses, in the order of their numbers, and what each answers.
+//! The ten calls: which refusals each uses, in the order of their numbers, and what each answers.
 
 use crate::filler::{register_valid, Filler};
 use crate::forms::{bits_of_frame, frame_accepted, frame_bytes, frame_of_bits};
 use crate::forms::{start_accepted, Tables};
+use crate::nearest::{nearest_bits, test_range, work_bytes};
 use crate::points::{constellation, label_of, Point};
 use crate::refusals::{refuse_if, test_tables, Refusal};
 use crate::reordering::{frame_size, reordered_bits, reordered_tones};
@@ -134,6 +135,33 @@ pub fn read_at(
         let points: Vec<Point> = x.iter().copied().zip(y.iter().copied()).collect();
         let (bits, after) = read_points(tables, &points, register)?;
         Ok((l, after, frame_of_bits(&bits, start)))
+    };
+    answer(register, outcome())
+}
+
+/// A frame from this start whose points are nearest to the received ones, and the total of its squared
+/// distances, for a lent frame and a working buffer of these lengths: 1 to 8, 10 to 12 and 23.
+pub fn read_nearest(
+    tables: &Tables,
+    x: &[i16],
+    y: &[i16],
+    register: u32,
+    frame_room: usize,
+    start: u8,
+    work_room: usize,
+) -> Answer<(Vec<u8>, u64)> {
+    let outcome = || {
+        test_tables(tables)?;
+        let (nsc, l) = (tables.nsc(), frame_size(tables));
+        let exact = x.len() == nsc && y.len() == nsc && frame_room == frame_bytes(start, l);
+        refuse_if(!exact || work_room != work_bytes(tables), Refusal::Room)?;
+        refuse_if(!start_accepted(start), Refusal::Frame)?;
+        refuse_if(!register_valid(register), Refusal::Seed)?;
+        let received: Vec<Point> = x.iter().copied().zip(y.iter().copied()).collect();
+        test_range(&received)?;
+        let (bits, total) = nearest_bits(tables, &received);
+        let (_, after) = write_points(tables, &bits, register);
+        Ok((l, after, (frame_of_bits(&bits, start), total)))
     };
     answer(register, outcome())
 }

@@ -3,7 +3,7 @@
 use crate::forms::{Mode, Place, Subcarrier, Tables};
 use crate::reordering::{nonzero_entries, reordered_bits};
 
-/// One case for each number, carrying the place where it has one. Number 9 is unused.
+/// One case for each number, carrying the place where it has one. Numbers 9 and 17 to 22 are unused.
 #[derive(Clone, Copy, Debug, PartialEq, Eq)]
 pub enum Refusal {
     Size,
@@ -21,6 +21,7 @@ pub enum Refusal {
     Monitor(Place),
     Trellis(usize),
     Label,
+    Range(Place),
 }
 
 use Refusal::*;
@@ -43,12 +44,14 @@ impl Refusal {
             Monitor(_) => 14,
             Trellis(_) => 15,
             Label => 16,
+            Range(_) => 23,
         }
     }
 
     pub fn place(self) -> u32 {
         let place = match self {
             Tone(Place(p)) | Twice(Place(p)) | Offgrid(Place(p)) | Monitor(Place(p)) => p,
+            Range(Place(p)) => p,
             Bits(Subcarrier(i)) | Stray(Subcarrier(i)) | Gain(Subcarrier(i)) => i,
             Trellis(number) => number,
             Size | Odd | Few | Room | Frame | Seed | Label => 0,
@@ -57,13 +60,17 @@ impl Refusal {
     }
 }
 
-/// The name that the page gives a number; 9 has none.
+/// The name that the page gives a number; 9 and 17 to 22 have none.
 pub fn name(number: u32) -> &'static str {
     const NAMES: [&str; 17] = [
         "DONE", "SIZE", "TONE", "TWICE", "BITS", "STRAY", "GAIN", "ODD", "FEW", "UNKNOWN", "ROOM",
         "FRAME", "SEED", "OFFGRID", "MONITOR", "TRELLIS", "LABEL",
     ];
-    NAMES[number as usize]
+    match number {
+        23 => "RANGE",
+        17..=22 => "UNKNOWN",
+        _ => NAMES[number as usize],
+    }
 }
 
 /// The smallest of 1 to 8 that applies. Each test may rely on the ones before it.

@@ -8,7 +8,7 @@ use crate::refusals::{refuse_if, Refusal};
 use crate::reordering::{pairs, reordered_bits, reordered_tones};
 
 /// The class of each place in t'.
-fn classes(tables: &Tables) -> Vec<Class> {
+pub fn classes(tables: &Tables) -> Vec<Class> {
     reordered_tones(tables)
         .iter()
         .map(|&tone| tables.class_of(tone))

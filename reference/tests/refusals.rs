@@ -5,7 +5,8 @@ use reference::figures::{equal_tones, table_a};
 use reference::filler::RESET;
 use reference::points::Point;
 use reference::words::lists_of;
-use reference::{check, draw, encode, map_label, read, read_point, reorder, Mode, Tables};
+use reference::{check, draw, encode, map_label, read, read_nearest, read_point, reorder};
+use reference::{Mode, Tables};
 
 /// Number and place for bench table A after a change.
 fn changed(change: impl Fn(&mut Tables)) -> (u32, u32) {
@@ -188,6 +189,28 @@ fn label_16_then_offgrid_13() {
         (offgrid.number, offgrid.place, offgrid.contents),
         (OFFGRID, 0, None)
     );
+}
+
+/// At every place, loaded (0 and 5) or not (3), and of several the first.
+#[test]
+fn range_23() {
+    let told = |changes: &[(usize, Point)]| {
+        let mut received = [(0, 0); 6];
+        changes.iter().for_each(|&(p, point)| received[p] = point);
+        let (x, y) = lists_of(&received);
+        let answer = read_nearest(&table_a(), &x, &y, RESET, 1, 0, 32);
+        assert_eq!(answer.contents.is_none(), answer.number != DONE);
+        (answer.number, answer.place)
+    };
+    for p in [0, 3, 5] {
+        for far in [1024, -1024, i16::MAX, i16::MIN] {
+            assert_eq!(told(&[(p, (far, 0))]), (RANGE, p as u32));
+            assert_eq!(told(&[(p, (0, far))]), (RANGE, p as u32));
+        }
+        assert_eq!(told(&[(p, (1023, -1023))]), (DONE, 0));
+        assert_eq!(told(&[(p, (-1023, 1023))]), (DONE, 0));
+    }
+    assert_eq!(told(&[(4, (1024, 0)), (3, (0, -1024))]), (RANGE, 3));
 }
 
 #[test]

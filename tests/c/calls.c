@@ -59,9 +59,23 @@ static void every_frame(void)
     }
 }
 
+/* A written symbol of bench table A: its own frame with total 0, and the register of exact reading. */
+static void nearest_of_written(const int16_t *x, const int16_t *y, const uint8_t *frame,
+                               size_t bytes, uint8_t start)
+{
+    table_set a = table_a();
+    uint8_t back[2] = {255, 255}, work[A_WORK];
+    clevisroot_nearest near =
+        clevisroot_read_nearest(TABLES(&a), x, A_TONES, y, A_TONES, CLEVISROOT_RESET, back, bytes,
+                                start, work, A_WORK);
+    CHECK(near.number == CLEVISROOT_DONE && near.place == 0 && near.size == 5);
+    CHECK(near.reg == 2097151 && near.total == 0);
+    CHECK(memcmp(back, frame, bytes) == 0 && (bytes == 2 || back[1] == 255));
+}
+
 /*
  * All 32 frames of bench table A from every start: the points are those of start 0, and they are read
- * back with zeros around the frame.
+ * back with zeros around the frame, exactly and as the nearest.
  */
 static void every_start(void)
 {
@@ -83,7 +97,78 @@ static void every_start(void)
                                                     CLEVISROOT_RESET, back, bytes, start);
         CHECK(memcmp(&read, &written, sizeof read) == 0);
         CHECK(memcmp(back, moved, bytes) == 0 && (bytes == 2 || back[1] == 255));
+        nearest_of_written(x, y, moved, bytes, start);
     }
+}
+
+/* A random coordinate from -most to most. */
+static int16_t coordinate(uint32_t *random, uint32_t most)
+{
+    return (int16_t)((int32_t)(next_random(random) % (2 * most + 1)) - (int32_t)most);
+}
+
+/* The total of one of bench table A's frames against received points; place 3 is monitored. */
+static uint64_t total_of(uint8_t frame, const int16_t *x, const int16_t *y)
+{
+    table_set a = table_a();
+    int16_t own_x[A_TONES], own_y[A_TONES];
+    clevisroot_encode(TABLES(&a), &frame, 1, CLEVISROOT_RESET, own_x, A_TONES, own_y, A_TONES);
+    uint64_t total = 0;
+    for (size_t p = 0; p < A_TONES; p++)
+        if (p != 3)
+            total += squared_distance(x[p], y[p], own_x[p], own_y[p]);
+    return total;
+}
+
+/* Random points, near the grid and up to the range: none of the 32 frames is nearer than the answer. */
+static void nearest_of_noisy(void)
+{
+    static const uint32_t most[3] = {3, 6, 1023};
+    table_set a = table_a();
+    int16_t x[A_TONES], y[A_TONES];
+    uint8_t work[A_WORK];
+    uint32_t random = 2463534242u;
+    for (unsigned k = 0; k < 3 * 500; k++) {
+        uint8_t frame = 255;
+        for (size_t p = 0; p < A_TONES; p++) {
+            x[p] = coordinate(&random, most[k % 3]);
+            y[p] = coordinate(&random, most[k % 3]);
+        }
+        clevisroot_nearest near = clevisroot_read_nearest(
+            TABLES(&a), x, A_TONES, y, A_TONES, CLEVISROOT_RESET, &frame, 1, 0, work, A_WORK);
+        CHECK(near.number == CLEVISROOT_DONE && near.place == 0 && near.size == 5);
+        CHECK(near.reg == 2097151 && frame < 32 && near.total == total_of(frame, x, y));
+        for (uint8_t other = 0; other < 32; other++)
+            CHECK(total_of(other, x, y) >= near.total);
+    }
+}
+
+/*
+ * 4096 1-bit tones as far off as can be: both points of a tone are as far, so that every frame has the
+ * same total.
+ */
+static void largest_total(uint8_t coded)
+{
+    static uint8_t bits[CLEVISROOT_MAX_TONES], frame[CLEVISROOT_MAX_TONES / 8];
+    static uint8_t work[CLEVISROOT_MAX_WORK];
+    static uint16_t gains[CLEVISROOT_MAX_TONES], tones[CLEVISROOT_MAX_TONES];
+    static int16_t x[CLEVISROOT_MAX_TONES], y[CLEVISROOT_MAX_TONES];
+    size_t n = CLEVISROOT_MAX_TONES;
+    for (size_t k = 0; k < n; k++) {
+        bits[k] = 1;
+        gains[k] = 512;
+        tones[k] = (uint16_t)k;
+        x[k] = 1023;
+        y[k] = -1023;
+    }
+    table_set set = {coded, bits, n, gains, n, tones, n};
+    uint32_t size = clevisroot_check(TABLES(&set)).size;
+    CHECK(size == (coded ? n - n / 4 - 4 : n));
+    clevisroot_nearest near = clevisroot_read_nearest(
+        TABLES(&set), x, n, y, n, 1, frame, clevisroot_frame_bytes(size), 0, work,
+        clevisroot_work_bytes(coded, bits, n));
+    CHECK(near.number == CLEVISROOT_DONE && near.size == size && near.reg == 1);
+    CHECK(near.total == UINT64_C(4096) * (1022 * 1022 + 1024 * 1024));
 }
 
 /* Of table A's frame each of the 5 bits may be 1, and none before the start or after the end. */
@@ -183,6 +268,20 @@ static void version(void)
     CHECK(CLEVISROOT_VERSION == 10000 * major + 100 * minor + patch);
 }
 
+/* 4095 and 4096 entries make 2048 pairs. */
+static void work_bytes(void)
+{
+    static uint8_t bits[CLEVISROOT_MAX_TONES];
+    size_t n = CLEVISROOT_MAX_TONES;
+    memset(bits, 2, n);
+    CHECK(clevisroot_work_bytes(1, bits, n) == CLEVISROOT_MAX_WORK);
+    CHECK(clevisroot_work_bytes(1, bits, n - 1) == CLEVISROOT_MAX_WORK);
+    CHECK(clevisroot_work_bytes(1, bits, 4) == 32 && clevisroot_work_bytes(1, bits, 5) == 48);
+    memset(bits, 1, n);
+    CHECK(clevisroot_work_bytes(1, bits, n) == CLEVISROOT_MAX_WORK / 2);
+    CHECK(clevisroot_work_bytes(1, bits, 10) == 48 && clevisroot_work_bytes(0, bits, n) == 0);
+}
+
 static void header(void)
 {
     CHECK(clevisroot_frame_bytes(0) == 0 && clevisroot_frame_bytes(1) == 1);
@@ -191,10 +290,15 @@ static void header(void)
     CHECK(clevisroot_frame_bytes_at(CLEVISROOT_MAX_TONES * 15, 7) == CLEVISROOT_MAX_FRAME);
     CHECK(clevisroot_frame_bytes_at(0, 1) == 1 && clevisroot_frame_bytes_at(0, 255) == 32);
     CHECK(clevisroot_frame_bytes_at(1, 7) == 1 && clevisroot_frame_bytes_at(2, 7) == 2);
+    CHECK(clevisroot_work_bytes(1, a_bits, A_CARRIERS) == A_WORK);
+    CHECK(clevisroot_work_bytes(255, a_bits, A_CARRIERS) == A_WORK);
+    CHECK(clevisroot_work_bytes(0, a_bits, A_CARRIERS) == 0);
     CHECK(strcmp(clevisroot_refusal_name(CLEVISROOT_DONE), "DONE") == 0);
     CHECK(strcmp(clevisroot_refusal_name(CLEVISROOT_LABEL), "LABEL") == 0);
     CHECK(strcmp(clevisroot_refusal_name(9), "UNKNOWN") == 0);
     CHECK(strcmp(clevisroot_refusal_name(17), "UNKNOWN") == 0);
+    CHECK(strcmp(clevisroot_refusal_name(CLEVISROOT_RANGE), "RANGE") == 0);
+    CHECK(strcmp(clevisroot_refusal_name(24), "UNKNOWN") == 0);
     CHECK(strcmp(clevisroot_refusal_name(UINT32_MAX), "UNKNOWN") == 0);
 }
 
@@ -204,6 +308,9 @@ int main(void)
     encode_and_read();
     every_frame();
     every_start();
+    nearest_of_noisy();
+    largest_total(0);
+    largest_total(1);
     for (uint8_t start = 0; start < 8; start++) {
         bits_from(start);
         no_bits(start);
@@ -214,5 +321,6 @@ int main(void)
     filler_bits();
     version();
     header();
+    work_bytes();
     return verdict("calls");
 }

@@ -37,6 +37,7 @@ static void *lend(pages of, size_t bytes)
 }
 
 static pages p_bits, p_gains, p_tones, p_frame, p_back, p_x, p_y, p_tones_out, p_bits_out;
+static pages p_work;
 
 static void make_pages(void)
 {
@@ -50,6 +51,7 @@ static void make_pages(void)
     p_y = new_pages(2 * most);
     p_tones_out = new_pages(2 * most);
     p_bits_out = new_pages(most);
+    p_work = new_pages(CLEVISROOT_MAX_WORK);
 }
 
 /* All carriers in t, backwards, with bits 0 to 15 below a bound; an even count of 1-bit tones. */
@@ -107,6 +109,40 @@ static void frame_at(uint32_t *random, const table_set *set, uint32_t size, uint
     CHECK(written.reg == read.reg && memcmp(frame, back, bytes) == 0);
 }
 
+/* Moves each of n coordinates by at most 2. */
+static void add_noise(uint32_t *random, int16_t *list, size_t n)
+{
+    for (size_t k = 0; k < n; k++)
+        list[k] = (int16_t)(list[k] + (int)(next_random(random) % 5) - 2);
+}
+
+/* With noise, to the nearest frame: what was written is not nearer. */
+static void nearest_at(uint32_t *random, const table_set *set, uint32_t size, uint8_t start)
+{
+    static int16_t sent_x[CLEVISROOT_MAX_TONES], sent_y[CLEVISROOT_MAX_TONES];
+    size_t n = set->tones_len, bytes = clevisroot_frame_bytes_at(size, start);
+    size_t work_len = clevisroot_work_bytes(set->coded, set->bits, set->bits_len);
+    uint8_t *frame = (uint8_t *)lend(p_frame, bytes), *back = (uint8_t *)lend(p_back, bytes);
+    uint8_t *work = (uint8_t *)lend(p_work, work_len);
+    int16_t *x = (int16_t *)lend(p_x, 2 * n), *y = (int16_t *)lend(p_y, 2 * n);
+    uint32_t reg = 1 + next_random(random) % CLEVISROOT_RESET;
+    random_frame(random, frame, size, start);
+    clevisroot_answer written =
+        clevisroot_encode_at(TABLES(set), frame, bytes, start, reg, sent_x, n, sent_y, n);
+    memcpy(x, sent_x, 2 * n);
+    memcpy(y, sent_y, 2 * n);
+    add_noise(random, x, n);
+    add_noise(random, y, n);
+    clevisroot_nearest near = clevisroot_read_nearest(TABLES(set), x, n, y, n, reg, back, bytes,
+                                                      start, work, work_len);
+    CHECK(written.number == CLEVISROOT_DONE && near.number == CLEVISROOT_DONE);
+    CHECK(near.reg == written.reg && near.size == size);
+    uint64_t total = 0;
+    for (size_t p = 0; p < n; p++)
+        total += squared_distance(x[p], y[p], sent_x[p], sent_y[p]);
+    CHECK(near.total <= total);
+}
+
 /* One symbol there and back; false if the tables are refused, as too few. */
 static int symbol(uint32_t *random, uint8_t coded, size_t n)
 {
@@ -117,6 +153,7 @@ static int symbol(uint32_t *random, uint8_t coded, size_t n)
         return 0;
     frame_of(random, &set, checked.size);
     frame_at(random, &set, checked.size, (uint8_t)(next_random(random) % 8));
+    nearest_at(random, &set, checked.size, (uint8_t)(next_random(random) % 8));
     clevisroot_answer ordered =
         clevisroot_reorder(TABLES(&set), (uint16_t *)lend(p_tones_out, 2 * n), n,
                            (uint8_t *)lend(p_bits_out, n), n);

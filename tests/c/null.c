@@ -88,6 +88,26 @@ static void read_points(const table_set *set, unsigned nulls)
     CHECK(a.number == expected(nulls, CLEVISROOT_ROOM));
 }
 
+/* Uncoded, the working buffer has 0 bytes, so that a null one is right. */
+static void read_nearest(const table_set *set, unsigned nulls)
+{
+    static const int16_t zeros[A_TONES];
+    uint8_t frame[2], work[A_WORK];
+    unsigned first = nulls & FIRST, second = nulls & SECOND;
+    const int16_t *x = first ? NULL : zeros, *y = second ? NULL : zeros;
+    size_t bytes = set->coded ? 1 : 2, work_len = set->coded ? A_WORK : 0;
+    clevisroot_nearest a =
+        clevisroot_read_nearest(TABLES(set), x, room(first), y, room(second), 1, frame, bytes,
+                                START, work, work_len);
+    CHECK(a.number == expected(nulls, CLEVISROOT_DONE));
+    a = clevisroot_read_nearest(TABLES(set), x, room(first), y, room(second), 1, NULL, 0, START,
+                                work, work_len);
+    CHECK(a.number == expected(nulls, CLEVISROOT_ROOM));
+    a = clevisroot_read_nearest(TABLES(set), x, room(first), y, room(second), 1, frame, bytes,
+                                START, NULL, 0);
+    CHECK(a.number == expected(nulls, set->coded ? CLEVISROOT_ROOM : CLEVISROOT_DONE));
+}
+
 static void every_way(uint8_t coded)
 {
     for (unsigned nulls = 0; nulls < WAYS; nulls++) {
@@ -95,6 +115,7 @@ static void every_way(uint8_t coded)
         check_and_reorder(&set, nulls);
         encode(&set, nulls);
         read_points(&set, nulls);
+        read_nearest(&set, nulls);
     }
 }
 
@@ -117,6 +138,9 @@ static void empty_frame(void)
     CHECK(a.number == CLEVISROOT_DONE && a.size == 0 && b.reg == a.reg);
     b = clevisroot_read_at(TABLES(&set), x, 2, y, 2, 4, NULL, 0, 0);
     CHECK(b.number == CLEVISROOT_DONE && b.size == 0 && b.reg == a.reg);
+    clevisroot_nearest c =
+        clevisroot_read_nearest(TABLES(&set), x, 2, y, 2, 4, NULL, 0, 0, NULL, 0);
+    CHECK(c.number == CLEVISROOT_DONE && c.size == 0 && c.reg == a.reg && c.total == 0);
 }
 
 int main(void)

@@ -13,6 +13,7 @@ static const uint32_t can_give[FUNCTIONS] = {
     UP_TO_8 | 1u << 10 | 1u << 11 | 1u << 12,
     UP_TO_8 | 1u << 10 | 1u << 12 | 1u << 13 | 1u << 14 | 1u << 15,
     UP_TO_8 | 1u << 10 | 1u << 11 | 1u << 12 | 1u << 13 | 1u << 14 | 1u << 15,
+    UP_TO_8 | 1u << 10 | 1u << 11 | 1u << 12 | 1u << 23,
     1u | 1u << 16,
     1u | 1u << 13 | 1u << 16,
     1u | 1u << 12,
@@ -60,9 +61,10 @@ static void read_points(const table_set *set, const int16_t *x, size_t x_len, co
 }
 
 static const int16_t zeros[A_TONES + 1];
+static const int16_t far[A_TONES + 1] = {1024, 1024, 1024, 1024, 1024, 1024, 1024};
 static const uint8_t frame_0[MOST_LENT];
 
-/* All six calls with tables refuse these alike, whatever else is wrong. */
+/* All seven calls with tables refuse these alike, whatever else is wrong. */
 static void tables(const table_set *set, uint32_t number, uint32_t place)
 {
     hold(CHECKING, clevisroot_check(TABLES(set)), number, place, 0);
@@ -71,6 +73,7 @@ static void tables(const table_set *set, uint32_t number, uint32_t place)
     hold_encode_at(set, frame_0, 2, 8, 0, 1, 1, number, place);
     read_points(set, zeros, 1, zeros, 1, 0, 2, number, place);
     hold_read_at(set, zeros, 1, zeros, 1, 0, 2, 8, number, place);
+    hold_read_nearest(set, far, 1, far, 1, 0, 2, 8, 1, number, place);
 }
 
 static void sizes(void)
@@ -200,6 +203,48 @@ static void lengths_from(uint8_t start)
         hold_encode_at(&a, frame_0, len, start, 0, 6, 6, exact ? otherwise : CLEVISROOT_FRAME, 0);
         hold_read_at(&a, zeros, 6, zeros, 7, 0, len, start, CLEVISROOT_ROOM, 0);
         hold_read_at(&a, zeros, 6, zeros, 6, 0, len, start, exact ? otherwise : CLEVISROOT_ROOM, 0);
+        hold_read_nearest(&a, far, 6, far, 5, 0, len, start, A_WORK, CLEVISROOT_ROOM, 0);
+        hold_read_nearest(&a, far, 6, far, 6, 0, len, start, A_WORK - 1, CLEVISROOT_ROOM, 0);
+        hold_read_nearest(&a, far, 6, far, 6, 0, len, start, A_WORK,
+                          exact ? otherwise : CLEVISROOT_ROOM, 0);
+    }
+}
+
+/* Every length of the working buffer, coded and uncoded; all else is right. */
+static void work_lengths(void)
+{
+    table_set a = table_a();
+    for (unsigned k = 0; k < 2 * (MOST_WORK + 1); k++) {
+        size_t len = k / 2;
+        a.coded = k % 2;
+        uint32_t number = len == (a.coded ? A_WORK : 0) ? CLEVISROOT_DONE : CLEVISROOT_ROOM;
+        hold_read_nearest(&a, zeros, 6, zeros, 6, 1, a.coded ? 1 : 2, 0, len, number, 0);
+    }
+}
+
+/*
+ * A coordinate outside the range at one place, of data, monitored (3) or silent: refused there, if not
+ * at an earlier place, and not refused at the range's ends.
+ */
+static void ranges(uint16_t gain)
+{
+    static const int16_t outside[] = {1024, -1024, INT16_MAX, INT16_MIN};
+    table_set a = table_a();
+    uint16_t gains[A_CARRIERS];
+    memcpy(gains, a_gains, sizeof gains);
+    gains[4] = gain;
+    a.gains = gains;
+    for (uint32_t k = 0; k < 4 * A_TONES; k++) {
+        int16_t x[A_TONES] = {0}, y[A_TONES] = {0};
+        uint32_t place = k / 4;
+        x[place] = outside[k % 4];
+        hold_read_nearest(&a, x, 6, zeros, 6, 1, 1, 0, A_WORK, CLEVISROOT_RANGE, place);
+        hold_read_nearest(&a, zeros, 6, x, 6, 1, 1, 0, A_WORK, CLEVISROOT_RANGE, place);
+        y[A_TONES - 1] = -1024;
+        hold_read_nearest(&a, x, 6, y, 6, 1, 1, 0, A_WORK, CLEVISROOT_RANGE, place);
+        hold_read_nearest(&a, x, 6, y, 6, 0, 1, 0, A_WORK, CLEVISROOT_SEED, 0);
+        x[place] = (int16_t)(k % 2 ? -1023 : 1023);
+        hold_read_nearest(&a, x, 6, x, 6, 1, 1, 0, A_WORK, CLEVISROOT_DONE, 0);
     }
 }
 
@@ -282,6 +327,9 @@ int main(void)
     rooms();
     frames_and_registers();
     starts();
+    work_lengths();
+    ranges(512);
+    ranges(0);
     points();
     one_tone();
     done();

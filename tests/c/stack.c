@@ -13,6 +13,7 @@
 #define START 7
 
 static uint8_t bits[TONES], frame[CLEVISROOT_MAX_FRAME], bits_out[TONES];
+static uint8_t work[CLEVISROOT_MAX_WORK];
 static uint16_t gains[TONES], tones[TONES], tones_out[TONES];
 static int16_t x[TONES], y[TONES];
 static table_set set = {1, bits, TONES, gains, TONES, tones, TONES};
@@ -51,6 +52,14 @@ static void read_at(void)
 static void read_points(void)
 {
     number = clevisroot_read(TABLES(&set), x, TONES, y, TONES, 1, frame, bytes).number;
+}
+
+static void nearest(void)
+{
+    size_t work_len = clevisroot_work_bytes(set.coded, bits, TONES);
+    number = clevisroot_read_nearest(TABLES(&set), x, TONES, y, TONES, 1, frame, bytes_at, START,
+                                     work, work_len)
+                 .number;
 }
 
 static void one_tone(void)
@@ -117,6 +126,7 @@ static void measure_all(uint8_t coded)
     measure("encode_at", encode_at);
     measure("read", read_points);
     measure("read_at", read_at);
+    measure("nearest", nearest);
     measure("one tone", one_tone);
 }
 

@@ -84,6 +84,7 @@ enum {
     ENCODING_AT,
     READING,
     READING_AT,
+    READING_NEAREST,
     MAPPING,
     LABELLING,
     DRAWING,
@@ -145,6 +146,36 @@ static inline void hold_read_at(const table_set *set, const int16_t *x, size_t x
          place, reg);
     if (number != CLEVISROOT_DONE)
         CHECK(untouched(frame, sizeof frame));
+}
+
+/* The bytes of bench table A's working buffer, coded, and the most that it is lent. */
+#define A_WORK 32
+#define MOST_WORK 64
+
+/* Reading to the nearest frame; where it refuses it writes nothing, and tells total 0. */
+static inline void hold_read_nearest(const table_set *set, const int16_t *x, size_t x_len,
+                                     const int16_t *y, size_t y_len, uint32_t reg,
+                                     size_t frame_len, uint8_t start, size_t work_len,
+                                     uint32_t number, uint32_t place)
+{
+    uint8_t frame[MOST_LENT], work[MOST_WORK];
+    memset(frame, 0x5a, sizeof frame);
+    memset(work, 0x5a, sizeof work);
+    clevisroot_nearest nearest =
+        clevisroot_read_nearest(TABLES(set), x, x_len, y, y_len, reg, frame, frame_len, start,
+                                work, work_len);
+    clevisroot_answer a = {nearest.number, nearest.place, nearest.size, nearest.reg};
+    hold(READING_NEAREST, a, number, place, reg);
+    if (number != CLEVISROOT_DONE)
+        CHECK(nearest.total == 0 && untouched(frame, sizeof frame) &&
+              untouched(work, sizeof work));
+}
+
+/* The squared distance of two points. */
+static inline uint64_t squared_distance(int16_t x, int16_t y, int16_t to_x, int16_t to_y)
+{
+    int64_t dx = (int64_t)x - to_x, dy = (int64_t)y - to_y;
+    return (uint64_t)(dx * dx + dy * dy);
 }
 
 #endif

@@ -15,7 +15,7 @@ typedef struct {
     uint32_t seed;
     uint32_t digest;
     int wrong;
-    uint8_t bits[TONES], frame[TONES * 2], back[TONES * 2], moved[TONES * 2];
+    uint8_t bits[TONES], frame[TONES * 2], back[TONES * 2], moved[TONES * 2], work[TONES * 8];
     uint16_t gains[TONES], tones[TONES];
     int16_t x[TONES], y[TONES], x_at[TONES], y_at[TONES];
 } stream;
@@ -49,6 +49,28 @@ static void one_start(stream *s, const table_set *set, uint32_t size, uint32_t r
         digest(s, s->moved[k]);
 }
 
+/* The points with noise: an answer as near as what was written. */
+static void one_nearest(stream *s, const table_set *set, uint32_t size, uint32_t reg, uint8_t start)
+{
+    size_t bytes = clevisroot_frame_bytes_at(size, start);
+    size_t work_len = clevisroot_work_bytes(s->coded, s->bits, TONES);
+    uint64_t total = 0;
+    for (size_t p = 0; p < TONES; p++) {
+        s->x_at[p] = (int16_t)(s->x[p] + (int)(next_random(&s->seed) % 5) - 2);
+        s->y_at[p] = (int16_t)(s->y[p] + (int)(next_random(&s->seed) % 5) - 2);
+        total += squared_distance(s->x_at[p], s->y_at[p], s->x[p], s->y[p]);
+    }
+    clevisroot_nearest near =
+        clevisroot_read_nearest(TABLES(set), s->x_at, TONES, s->y_at, TONES, reg, s->moved, bytes,
+                                start, s->work, work_len);
+    if (near.number != CLEVISROOT_DONE || near.size != size || near.total > total)
+        s->wrong++;
+    for (size_t k = 0; k < bytes; k++)
+        digest(s, s->moved[k]);
+    digest(s, (uint32_t)near.total);
+    digest(s, near.reg);
+}
+
 static uint32_t one_symbol(stream *s, const table_set *set, uint32_t size, uint32_t reg)
 {
     size_t bytes = clevisroot_frame_bytes(size);
@@ -76,6 +98,7 @@ static void *run(void *argument)
     for (int k = 0; k < SYMBOLS; k++) {
         uint32_t after = one_symbol(s, &set, checked.size, reg);
         one_start(s, &set, checked.size, reg, (uint8_t)(k % 8));
+        one_nearest(s, &set, checked.size, reg, (uint8_t)(k % 8));
         reg = after;
     }
     return NULL;

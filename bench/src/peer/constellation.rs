@@ -202,11 +202,24 @@ pub fn point_of(b: u8, label: u32) -> (i16, i16) {
 }
 
 /// The label that has the point, b from 1 to 15.
+#[inline(always)]
+pub fn label_of(b: u8, x: i16, y: i16) -> Option<u32> {
+    let (label, on_grid) = look_up(b, x, y);
+    on_grid.then_some(label)
+}
+
+/// The label of a point of the constellation.
+#[inline(always)]
+pub fn label_on_grid(b: u8, x: i16, y: i16) -> u32 {
+    look_up(b, x, y).0
+}
+
+/// The label that has the point if any has, and whether one has.
 ///
 /// Coordinates are scaled to the blocks of 14 and 15 bits, so that until the last shift every
 /// bit is at the same place for all bit counts.
 #[inline(always)]
-pub fn label_of(b: u8, x: i16, y: i16) -> Option<u32> {
+fn look_up(b: u8, x: i16, y: i16) -> (u32, bool) {
     let shape = &SHAPES[usize::from(b % 16)];
     let scale = i32::from(shape.scale);
     let x64 = (i32::from(x) >> 1) * scale + 128;
@@ -215,5 +228,6 @@ pub fn label_of(b: u8, x: i16, y: i16) -> Option<u32> {
     let top = TOPS[usize::from(shape.row % 4)][cell as usize];
     let low = SPREAD[(x64 & 63) as usize] << 1 | SPREAD[(y64 & 63) as usize];
     let outside = (x64 | y64) & !255 != 0 || x & y & 1 == 0 || top == NO_TOP;
-    (!outside).then_some((u32::from(top) << MOST_LOW | u32::from(low)) >> shape.unused)
+    let label = (u32::from(top) << MOST_LOW | u32::from(low)) >> shape.unused;
+    (label, !outside)
 }

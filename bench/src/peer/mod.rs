@@ -1,24 +1,28 @@
 //! A hand-written fast implementation of the same calls: word-wise bit access, small tables for
 //! the constellations, everything in linear time on the stack. No unsafe code.
 
-mod bits;
+pub(crate) mod bits;
 mod constellation;
+mod cosets;
 mod filler;
+mod nearest;
+pub(crate) mod path;
 mod plan;
 mod read;
 mod tables;
 mod trellis;
 mod write;
 
-use clevisroot_sys::{Answer, Drawn, Label, Point, Tables};
+use clevisroot_sys::{Answer, Drawn, Label, Nearest, Point, Tables};
 use constellation::{label_of, point_of};
 use filler::{register_valid, Filler};
+use nearest::Received;
 use plan::Plan;
 
 /// The largest G.
 const MOST_TONES: usize = 4096;
 /// The bytes of the largest frame, and room for a word past its end.
-const FRAME_ROOM: usize = clevisroot_sys::MAX_FRAME + 8;
+pub(crate) const FRAME_ROOM: usize = clevisroot_sys::MAX_FRAME + 8;
 
 const SIZE: u32 = 1;
 const TONE: u32 = 2;
@@ -35,6 +39,7 @@ const OFFGRID: u32 = 13;
 const MONITOR: u32 = 14;
 const TRELLIS: u32 = 15;
 const LABEL: u32 = 16;
+const RANGE: u32 = 23;
 
 /// A number and its place.
 #[derive(Clone, Copy)]
@@ -106,6 +111,32 @@ pub fn read_at(
     answer(reg, try_read(&tables, x, y, reg, frame, start))
 }
 
+pub fn read_nearest(
+    tables: Tables,
+    x: &[i16],
+    y: &[i16],
+    reg: u32,
+    frame: &mut [u8],
+    start: u8,
+    work: &mut [u8],
+) -> Nearest {
+    let outcome = try_nearest(&tables, Received { x, y }, reg, (frame, start), work);
+    let total = outcome.as_ref().map_or(0, |&(_, _, total)| total);
+    let Answer {
+        number,
+        place,
+        size,
+        reg,
+    } = answer(reg, outcome.map(|(l, reg, _)| (l, reg)));
+    Nearest {
+        number,
+        place,
+        size,
+        reg,
+        total,
+    }
+}
+
 fn try_reorder(tables: &Tables, tones_out: &mut [u16], bits_out: &mut [u8]) -> Outcome {
     let counts = tables::check(tables)?;
     let nsc = tables.tones.len();
@@ -150,6 +181,28 @@ fn try_read(
     let plan = Plan::new(tables, &counts);
     let after = read::symbol(&plan, x, y, Filler(reg), (frame, start))?;
     Ok((counts.l, after.0))
+}
+
+/// L, the register after the draws, and the total.
+fn try_nearest(
+    tables: &Tables,
+    received: Received,
+    reg: u32,
+    (frame, start): (&mut [u8], u8),
+    work: &mut [u8],
+) -> Result<(usize, u32, u64), Refusal> {
+    let counts = tables::check(tables)?;
+    let nsc = tables.tones.len();
+    let bytes = (usize::from(start) + counts.l).div_ceil(8);
+    let points_exact = received.x.len() == nsc && received.y.len() == nsc;
+    let exact = points_exact && frame.len() == bytes && work.len() == 16 * counts.pairs;
+    refuse_if(!exact, ROOM)?;
+    refuse_if(start > 7, FRAME)?;
+    refuse_if(!register_valid(reg), SEED)?;
+    nearest::test_range(received)?;
+    let plan = Plan::new(tables, &counts);
+    let (total, after) = nearest::symbol(&plan, received, Filler(reg), (frame, start), work);
+    Ok((counts.l, after.0, total))
 }
 
 pub fn map_label(bits: u8, label: u32) -> Point {

@@ -10,6 +10,8 @@ use clevisroot_sys::Tables;
 pub struct Counts {
     pub loaded: usize,
     pub ones: usize,
+    /// P; 0 where nothing is coded.
+    pub pairs: usize,
     pub l: usize,
 }
 
@@ -92,7 +94,12 @@ fn count(bits: &[u8], coded: bool) -> Result<Counts, Refusal> {
     let loaded = count_where(bits, |b| b > 0);
     let ones = count_where(bits, |b| b == 1);
     if !coded {
-        return Ok(Counts { loaded, ones, l });
+        return Ok(Counts {
+            loaded,
+            ones,
+            pairs: 0,
+            l,
+        });
     }
     let n = loaded - ones / 2;
     if ones % 2 == 1 {
@@ -101,8 +108,13 @@ fn count(bits: &[u8], coded: bool) -> Result<Counts, Refusal> {
     if n < 4 {
         return Err(Refusal(FEW, 0));
     }
-    let l = l - n.div_ceil(2) - 4;
-    Ok(Counts { loaded, ones, l })
+    let pairs = n.div_ceil(2);
+    Ok(Counts {
+        loaded,
+        ones,
+        pairs,
+        l: l - pairs - 4,
+    })
 }
 
 /// Counts in bytes as far as a byte can count.

@@ -4,7 +4,7 @@ use super::bits::{Sink, Source};
 
 /// S3 S2 S1 S0 as a number.
 #[derive(Clone, Copy)]
-struct State(u32);
+pub struct State(pub u32);
 
 impl State {
     /// u2 u1 as the last two pairs must have them: S2 and S1 xor S3.
@@ -15,19 +15,19 @@ impl State {
     }
 
     #[inline(always)]
-    fn s0(self) -> u32 {
+    pub fn s0(self) -> u32 {
         self.0 & 1
     }
 
     /// T3 and T2 are S1 and S0, T1 and T0 tell how u2 and u1 differ from the forced ones.
     #[inline(always)]
-    fn next(self, u2_u1: u32) -> State {
+    pub fn next(self, u2_u1: u32) -> State {
         State(self.0 << 2 & 12 | self.forced() ^ u2_u1)
     }
 }
 
 /// w1 w0 v1 v0 for u3 u2 u1 u0.
-static LABEL_BITS: [u8; 16] = label_bits();
+pub static LABEL_BITS: [u8; 16] = label_bits();
 /// The inverse: u3 u2 u1 u0 for w1 w0 v1 v0.
 static WORD_BITS: [u8; 16] = word_bits();
 

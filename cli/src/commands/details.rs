@@ -58,6 +58,28 @@ examples
   clevisroot read examples/bench-a.txt examples/bench-a.csv --start 6
 ";
 
+pub const NEAREST: &str = "\
+Reads received points, whole numbers from -1023 to 1023 that may be off the grid: gives the frame
+whose points are nearest, hex, and tells the total of the squared distances and how far each tone
+is off. No frame has a smaller total; where several have the same, this is one of them. What it
+prints is a FRAME file. The tones that are farthest off come first, 10 at most; --all shows every
+loaded tone in t' order. The picture of --svg has the received points beside the decided ones, with
+a line between them, and how far each tone is off over the sub-carriers.
+
+Only tones with bits count. So the total never shows a wrong register, and often not a turned clip
+either: one line says how many monitored tones are nearest to the points that the register gives
+them. The register goes on as in read and decides neither frame nor total; --start N is as for read.
+Refusals are 1 to 8, 10 to 12, and 23 for a coordinate beyond the range at any tone; with 23 the
+picture is drawn too and shows where.
+
+The file may hold many symbols, as for read. Totals come last, with the squared distances of each
+tone added up over all symbols. The exit status is that of the first symbol that is refused.
+
+examples
+  clevisroot nearest examples/bench-a.txt examples/bench-a-stream.csv --svg nearest.svg
+  clevisroot nearest examples/vdsl2-4096.txt received.csv --out frame.hex
+";
+
 pub const TURN: &str = "\
 Reads the points as they came and turned by half a turn (every x,y as -x,-y), and says in one
 sentence what to tell the jointer, and what that rests on.

@@ -1,10 +1,14 @@
 //! The commands: what each one takes, and the function that answers it. Parsing, `--help`, the
 //! manual page and the completions are made from this table.
 
+mod decision;
 mod details;
+mod distance_totals;
+mod distance_words;
 mod encode;
 mod figures;
 mod judge;
+mod nearest;
 mod pages;
 mod picture;
 mod read;
@@ -19,13 +23,13 @@ mod verdict_totals;
 mod verdict_words;
 
 use crate::call::{Command, Operand};
-use crate::options::{JSON, OUT, REGISTER, REGISTER_OR_FIND, START, STOP, SVG};
+use crate::options::{ALL, JSON, OUT, REGISTER, REGISTER_OR_FIND, START, STOP, SVG};
 
 const TABLES: Operand = Operand::Input("TABLES");
 const FRAME: Operand = Operand::Input("FRAME");
 const POINTS: Operand = Operand::Input("POINTS");
 
-pub const COMMANDS: [Command; 10] = [
+pub const COMMANDS: [Command; 11] = [
     Command {
         name: "check",
         operands: &[TABLES],
@@ -57,6 +61,14 @@ pub const COMMANDS: [Command; 10] = [
         about: "read points back to the frame, one symbol or many",
         details: details::READ,
         run: read::read,
+    },
+    Command {
+        name: "nearest",
+        operands: &[TABLES, POINTS],
+        options: &[&REGISTER, &START, &OUT, &SVG, &ALL, &STOP, &JSON],
+        about: "read points that are off the grid, and tell how far each tone is off",
+        details: details::NEAREST,
+        run: nearest::nearest,
     },
     Command {
         name: "turn",

@@ -1,9 +1,11 @@
 //! The picture of a symbol, as `--svg` wants it.
 
 use super::reading::Tables;
+use crate::ask::Points;
 use crate::files::PointList;
+use crate::index::Place;
 use crate::refusal::{refused_places, Refusal};
-use crate::svg::{self, Symbol};
+use crate::svg::{self, Compared, Symbol};
 use clevisroot_sys::Answer;
 
 /// What a picture is made of.
@@ -20,15 +22,28 @@ impl Picture<'_> {
     /// The picture of the points, with the places that were refused.
     pub fn draw(&self, caption: String) -> String {
         let Tables { set, order, .. } = self.tables;
-        svg::draw(&Symbol {
-            set,
-            order,
+        let refused = refused_places(set, order, self.answer);
+        svg::draw(&self.symbol(&refused, caption))
+    }
+
+    /// The picture of received points beside the decided ones.
+    pub fn draw_compared(&self, decided: &Points, caption: String) -> String {
+        svg::draw_compared(&Compared {
+            symbol: self.symbol(&[], caption),
+            decided,
+        })
+    }
+
+    fn symbol<'b>(&'b self, refused: &'b [Place], caption: String) -> Symbol<'b> {
+        Symbol {
+            set: &self.tables.set,
+            order: &self.tables.order,
             x: self.x,
             y: self.y,
             typed: self.typed,
-            refused: &refused_places(set, order, self.answer),
+            refused,
             caption,
-        })
+        }
     }
 
     /// The line under a picture's title.

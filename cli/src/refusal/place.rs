@@ -8,7 +8,7 @@ use crate::index::{Place, Subcarrier};
 use crate::json::{Fields, Json};
 use crate::span::LAST_START;
 use clevisroot_sys::refusals::{
-    BITS, FRAME, GAIN, MONITOR, OFFGRID, ROOM, SEED, STRAY, TONE, TRELLIS, TWICE,
+    BITS, FRAME, GAIN, MONITOR, OFFGRID, RANGE, ROOM, SEED, STRAY, TONE, TRELLIS, TWICE,
 };
 use clevisroot_sys::Answer;
 
@@ -28,7 +28,7 @@ pub fn of(question: &Question, answer: &Answer) -> Found {
     match answer.number {
         TONE | TWICE => at_place_in_t(question.set, place),
         BITS | STRAY | GAIN => at_subcarrier(question.set, subcarrier_of(answer)),
-        OFFGRID | MONITOR => at_point(question, place),
+        OFFGRID | MONITOR | RANGE => at_point(question, place),
         TRELLIS => at_pair(question, answer),
         ROOM => whole("the list of points as a whole"),
         FRAME if question.start > LAST_START => whole("the start of the frame"),
@@ -40,13 +40,13 @@ pub fn of(question: &Question, answer: &Answer) -> Found {
 
 /// Whether the refusal is about the points themselves: such points can be drawn, and turned.
 pub fn is_of_points(number: u32) -> bool {
-    matches!(number, OFFGRID | MONITOR | TRELLIS)
+    matches!(number, OFFGRID | MONITOR | TRELLIS | RANGE)
 }
 
 /// The places in t' that a reader refused.
 pub fn refused_places(set: &TableSet, order: &Order, answer: &Answer) -> Vec<Place> {
     match answer.number {
-        OFFGRID | MONITOR => vec![place_of(answer)],
+        OFFGRID | MONITOR | RANGE => vec![place_of(answer)],
         TRELLIS => places_of_pair(set, order, answer),
         _ => Vec::new(),
     }

@@ -9,7 +9,8 @@ use crate::register::{or_a_few_more, ENOUGH_TONES};
 use crate::span::{Span, LAST_START};
 use crate::words::{count, shown};
 use clevisroot_sys::refusals::{
-    BITS, FEW, FRAME, GAIN, MONITOR, ODD, OFFGRID, ROOM, SEED, SIZE, STRAY, TONE, TRELLIS, TWICE,
+    BITS, FEW, FRAME, GAIN, MONITOR, ODD, OFFGRID, RANGE, ROOM, SEED, SIZE, STRAY, TONE, TRELLIS,
+    TWICE,
 };
 use clevisroot_sys::Answer;
 
@@ -38,6 +39,7 @@ pub fn sentence(question: &Question, answer: &Answer) -> String {
                     are not the tables it was written with, or the clips are the wrong way round \
                     (see `turn`)."
             .to_string(),
+        RANGE => range(question, place_of(answer)),
         _ => "The library refuses this with a number that this tool does not know.".to_string(),
     }
 }
@@ -176,12 +178,12 @@ fn offgrid(question: &Question, place: Place) -> String {
             format!("{point} is not (0, 0), the only point of a silent tone.")
         }
         Some(Class::Data(bits)) => format!(
-            "{point} is none of the {} points of a tone with {}: only exact points are read.",
+            "{point} is none of the {} points of a tone with {}: only exact points are read (see `nearest`).",
             1u32 << bits.min(15),
             count(bits, "bit")
         ),
         _ => format!(
-            "{point} is none of the 4 points of a monitored tone: only exact points are read."
+            "{point} is none of the 4 points of a monitored tone: only exact points are read (see `nearest`)."
         ),
     }
 }
@@ -214,6 +216,16 @@ fn monitor(question: &Question, place: Place) -> String {
     };
     format!(
         "{point} is not ({x}, {y}), which the filler bits of register {register} give: {advice}."
+    )
+}
+
+/// A coordinate that is far outside says that the points were not scaled.
+fn range(question: &Question, place: Place) -> String {
+    format!(
+        "{} has a coordinate that is not from -1023 to 1023: give received points in steps of the \
+         grid, with the gain taken off, where neighbours are 2 apart and no constellation goes \
+         beyond 191.",
+        point_words(question, place)
     )
 }
 

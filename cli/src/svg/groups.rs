@@ -55,16 +55,16 @@ impl Group {
     pub fn tone_count(&self) -> usize {
         self.spots.iter().map(|spot| spot.tones.len()).sum()
     }
+}
 
-    /// Every point that a tone of this group can have.
-    pub fn constellation(&self) -> Vec<(i16, i16)> {
-        let bits = match self.class {
-            Class::Data(bits) => bits,
-            Class::Monitored => 2,
-            Class::Silent => return vec![(0, 0)],
-        };
-        let labels = 0..1u32 << bits.min(15);
-        let points = labels.map(|label| library::map_label(bits, label));
-        points.map(|point| (point.x, point.y)).collect()
-    }
+/// Every point that a tone of this class can have.
+pub fn constellation(class: Class) -> Vec<(i16, i16)> {
+    let bits = match class {
+        Class::Data(bits) => bits,
+        Class::Monitored => 2,
+        Class::Silent => return vec![(0, 0)],
+    };
+    let labels = 0..1u32 << bits.min(15);
+    let points = labels.map(|label| library::map_label(bits, label));
+    points.map(|point| (point.x, point.y)).collect()
 }

@@ -1,6 +1,6 @@
 //! What the signs of the picture mean.
 
-use super::pen::{arrow, block, diamond, dot, triangle, Pair, Pen};
+use super::pen::{arrow, block, diamond, dot, ring, stroke, triangle, Pair, Pen};
 
 #[derive(Clone, Copy, Debug, PartialEq, Eq)]
 pub enum Sign {
@@ -10,6 +10,15 @@ pub enum Sign {
     PossiblePoint,
     RefusedPoint,
     OutsidePoint,
+    FartherPoint,
+    Received,
+    ManyReceived,
+    Decided,
+    FillerPoint,
+    SilentZero,
+    Distance,
+    LargestDistance,
+    HalfWay,
     Bits,
     MonitoredTone,
     SilentTone,
@@ -36,6 +45,15 @@ impl Sign {
             Sign::PossiblePoint => "possible point",
             Sign::RefusedPoint => "refused",
             Sign::OutsidePoint => "farther out, at these numbers",
+            Sign::FartherPoint => "farther out",
+            Sign::Received => "received",
+            Sign::ManyReceived => "received, of many",
+            Sign::Decided => "decided",
+            Sign::FillerPoint => "by the filler bits",
+            Sign::SilentZero => "silent, (0, 0)",
+            Sign::Distance => "from decided to received point",
+            Sign::LargestDistance => "from decided to received point, the largest of neighbours",
+            Sign::HalfWay => "half way to a neighbour on the grid",
             Sign::Bits => "data",
             Sign::MonitoredTone => "monitored",
             Sign::SilentTone => "silent, point (0, 0)",
@@ -52,8 +70,21 @@ impl Sign {
             Sign::SilentPoint => pen.path("monitored", &triangle((x, y), 5.5)),
             Sign::PossiblePoint => pen.path("could", &dot((x, y))),
             Sign::RefusedPoint => refused(pen, (x, y)),
-            Sign::OutsidePoint => pen.path("solid", &arrow((x, y), (1.0, 0.0))),
-            Sign::Bits => pen.path("bar", &block(corner, size)),
+            Sign::OutsidePoint | Sign::FartherPoint => {
+                pen.path("solid", &arrow((x, y), (1.0, 0.0)))
+            }
+            Sign::Received => {
+                pen.path("vector", &stroke((x - 7.0, y), (x + 3.0, y)));
+                pen.path("received", &ring((x + 4.0, y), 4.0));
+            }
+            Sign::ManyReceived => pen.path("small data", &dot((x, y))),
+            Sign::Decided => pen.path("middling data", &dot((x, y))),
+            Sign::FillerPoint => pen.path("monitored", &diamond((x, y), 3.5)),
+            Sign::SilentZero => pen.path("monitored", &triangle((x, y), 3.5)),
+            Sign::HalfWay => pen.line((x - 8.0, y), (x + 8.0, y), "mark"),
+            Sign::Bits | Sign::Distance | Sign::LargestDistance => {
+                pen.path("bar", &block(corner, size));
+            }
             Sign::MonitoredTone => pen.path("solid", &block(corner, size)),
             Sign::SilentTone => pen.path("hatched", &block(corner, size)),
             Sign::AbsentTone => pen.path("axis", &block(corner, size)),

@@ -1,22 +1,18 @@
 //! The bit loading over the sub-carriers, and below it where tones are monitored or silent.
 
+use super::axis::{Axis, LEFT, RIGHT};
 use super::pen::{block, Pen};
-use super::symbol::{Symbol, MARGIN, WIDTH};
+use super::symbol::{Symbol, MARGIN};
 use crate::files::Class;
 use crate::index::Subcarrier;
 use std::ops::Range;
 
-const LEFT: f64 = MARGIN + 62.0;
-const RIGHT: f64 = WIDTH - MARGIN - 8.0;
 const HEIGHT: f64 = 180.0;
 const STRIP: f64 = 12.0;
 const GAP: f64 = 6.0;
-/// A lone tone among many is still seen, beside the frame too.
-const NARROWEST: f64 = 2.0;
-/// Up to this many sub-carriers, bars stand apart.
-const FEW: usize = 64;
 
 pub struct Chart {
+    axis: Axis,
     /// The class of each sub-carrier, none if it is not in the tone table.
     classes: Vec<Option<Class>>,
     top: f64,
@@ -40,6 +36,9 @@ impl Chart {
         let scales = [4, 8, 15];
         let most = scales.into_iter().find(|&scale| scale >= most);
         Chart {
+            axis: Axis {
+                carriers: classes.len(),
+            },
             classes,
             top,
             most: most.unwrap_or(15),
@@ -61,20 +60,6 @@ impl Chart {
         end
     }
 
-    fn x(&self, carrier: f64) -> f64 {
-        LEFT + (RIGHT - LEFT) * carrier / self.classes.len() as f64
-    }
-
-    /// Left end and width of a run of sub-carriers, widened about its middle if it is narrow.
-    fn span(&self, start: f64, end: f64) -> (f64, f64) {
-        let (left, right) = (self.x(start), self.x(end));
-        if right - left >= NARROWEST {
-            return (left, right - left);
-        }
-        let left = (left + right - NARROWEST) / 2.0;
-        (left.clamp(LEFT + 1.0, RIGHT - 1.0 - NARROWEST), NARROWEST)
-    }
-
     fn y(&self, bits: u8) -> f64 {
         self.top + HEIGHT * (1.0 - f64::from(bits) / f64::from(self.most))
     }
@@ -88,7 +73,7 @@ impl Chart {
             };
             match runs.last_mut() {
                 Some((last, run))
-                    if *last == class && run.end == carrier && self.classes.len() > FEW =>
+                    if *last == class && run.end == carrier && !self.axis.is_apart() =>
                 {
                     run.end = carrier + 1;
                 }
@@ -99,15 +84,14 @@ impl Chart {
     }
 
     fn draw_bits(&self, pen: &mut Pen) {
-        let apart = self.classes.len() <= FEW;
-        let inset = if apart { 0.12 } else { 0.0 };
         let mut bars = String::new();
         for (class, run) in self.runs(|class| matches!(class, Class::Data(_))) {
             let Class::Data(bits) = class else { continue };
-            let (left, width) = self.span(run.start as f64 + inset, run.end as f64 - inset);
+            let (left, width) = self.axis.bars(run.start, run.end);
             let (top, bottom) = (self.y(bits), self.y(0));
             bars.push_str(&block((left, top), (width, bottom - top)));
         }
+        let apart = self.axis.is_apart();
         pen.path(if apart { "bar" } else { "area" }, &bars);
     }
 
@@ -120,7 +104,7 @@ impl Chart {
         };
         let runs = self.runs(|other| other == class);
         let blocks = runs.into_iter().map(|(_, run)| {
-            let (left, width) = self.span(run.start as f64, run.end as f64);
+            let (left, width) = self.axis.span(run.start as f64, run.end as f64);
             block((left, top), (width, STRIP))
         });
         pen.path(fill, &blocks.collect::<String>());
@@ -136,7 +120,7 @@ impl Chart {
     fn draw_refused(&self, pen: &mut Pen) {
         let bottom = self.y(0) + 2.0 * (STRIP + GAP);
         for (row, tone) in self.refused.iter().enumerate() {
-            let x = self.x(f64::from(tone.0) + 0.5);
+            let x = self.axis.x(f64::from(tone.0) + 0.5);
             pen.line((x, self.top), (x, bottom), "mark");
             // Neighbours' numbers stand below each other.
             let y = self.top + 12.0 + 12.0 * (row % 4) as f64;
@@ -161,14 +145,6 @@ impl Chart {
         }
         pen.text((MARGIN, self.top + HEIGHT / 2.0), "tick", "bits");
         let bottom = self.y(0) + GAP + 2.0 * (STRIP + GAP) - GAP;
-        let carriers = self.classes.len();
-        for carrier in (0..carriers).step_by(carriers.div_ceil(8).next_power_of_two()) {
-            let x = self.x(carrier as f64 + 0.5);
-            pen.line((x, bottom), (x, bottom + 4.0), "axis");
-            pen.text((x, bottom + 16.0), "tick middle", &carrier.to_string());
-        }
-        let middle = (LEFT + RIGHT) / 2.0;
-        pen.text((middle, bottom + 32.0), "tick middle", "sub-carrier index");
-        bottom + 48.0
+        self.axis.draw(pen, bottom)
     }
 }

@@ -28,15 +28,20 @@ pub fn draw(symbol: &Symbol) -> String {
     let signs = tone_signs(symbol);
     legend::draw(&mut pen, &signs, (MARGIN + 165.0, end + 20.0));
     let end = Chart::new(symbol, end + 36.0).draw(&mut pen);
-    let (title, body) = (escaped(&title), pen.finish());
+    document(&title, "", pen, end)
+}
+
+/// What was drawn, down to `end`, as a picture of its own, with styles besides those of all pages.
+pub fn document(title: &str, styles: &str, pen: Pen, end: f64) -> String {
+    let (title, body) = (escaped(title), pen.finish());
     format!(
         "<svg xmlns=\"http://www.w3.org/2000/svg\" viewBox=\"0 0 {WIDTH} {end}\" \
-         width=\"{WIDTH}\" height=\"{end}\" role=\"img\">\n<title>{title}</title>\n{STYLE}\
+         width=\"{WIDTH}\" height=\"{end}\" role=\"img\">\n<title>{title}</title>\n{STYLE}{styles}\
          <rect width=\"100%\" height=\"100%\" style=\"fill:#fff\"/>\n{body}</svg>\n"
     )
 }
 
-fn title(set: &TableSet) -> String {
+pub fn title(set: &TableSet) -> String {
     format!(
         "{}: {}, {} of {}",
         short_name(&set.name),
@@ -94,7 +99,7 @@ fn point_signs(groups: &[Group], panels: &[Panel]) -> Vec<Sign> {
 }
 
 /// What is drawn of the bit loading.
-fn tone_signs(symbol: &Symbol) -> Vec<Sign> {
+pub fn tone_signs(symbol: &Symbol) -> Vec<Sign> {
     let set = symbol.set;
     let holds = |test: fn(Class) -> bool| set.count(test) > 0;
     let signs = [
@@ -110,7 +115,7 @@ fn tone_signs(symbol: &Symbol) -> Vec<Sign> {
     drawn(&signs)
 }
 
-fn drawn(signs: &[(Sign, bool)]) -> Vec<Sign> {
+pub fn drawn(signs: &[(Sign, bool)]) -> Vec<Sign> {
     let drawn = signs.iter().filter(|(_, drawn)| *drawn);
     drawn.map(|(sign, _)| *sign).collect()
 }

@@ -19,10 +19,7 @@ impl Pen {
     }
 
     pub fn line(&mut self, from: Pair, to: Pair, class: &str) {
-        let (x1, y1, x2, y2) = (number(from.0), number(from.1), number(to.0), number(to.1));
-        self.put(&format!(
-            "<path class=\"{class}\" d=\"M{x1} {y1}L{x2} {y2}\"/>"
-        ));
+        self.path(class, &stroke(from, to));
     }
 
     pub fn rect(&mut self, (x, y): Pair, (width, height): Pair, class: &str) {
@@ -52,6 +49,19 @@ impl Pen {
 /// Part of a path: a dot, which a round line end makes of a line of no length to speak of.
 pub fn dot((x, y): Pair) -> String {
     format!("M{} {}h.01", number(x), number(y))
+}
+
+/// Part of a path: a line.
+pub fn stroke(from: Pair, to: Pair) -> String {
+    let (x1, y1, x2, y2) = (number(from.0), number(from.1), number(to.0), number(to.1));
+    format!("M{x1} {y1}L{x2} {y2}")
+}
+
+/// Part of a path: a circle of this radius.
+pub fn ring((x, y): Pair, radius: f64) -> String {
+    let (left, y) = (number(x - radius), number(y));
+    let (r, d) = (number(radius), number(2.0 * radius));
+    format!("M{left} {y}a{r} {r} 0 1 0 {d} 0a{r} {r} 0 1 0-{d} 0z")
 }
 
 /// Part of a path: a diamond of this half width.

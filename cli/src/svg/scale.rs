@@ -1,6 +1,7 @@
 //! The scale of a panel: where its points lie in the picture. A point far outside lies on the
 //! frame, so that it does not shrink the others to a dot.
 
+use super::layout::Square;
 use super::pen::Pair;
 
 #[derive(Clone, Copy)]
@@ -23,15 +24,11 @@ pub struct Drawn {
 impl Scale {
     /// Twice the size of the constellation at most; within that, as far out as points lie.
     pub fn new(
-        corner: Pair,
-        side: f64,
+        Square { corner, side }: Square,
         constellation: &[(i16, i16)],
         points: impl Iterator<Item = (i16, i16)>,
     ) -> Scale {
-        const LEAST: i16 = 6;
-        let own = constellation.iter().map(|&point| size(point)).max();
-        let own = own.unwrap_or(1).max(1);
-        let limit = own.saturating_mul(2).max(LEAST);
+        let (own, limit) = limits(constellation);
         let near = points.map(size).filter(|&size| size <= limit);
         Scale {
             corner,
@@ -45,10 +42,14 @@ impl Scale {
         extent + (0.12 * extent).max(1.3)
     }
 
+    /// How far apart neighbouring numbers lie.
+    pub fn step(&self) -> f64 {
+        self.side / (2.0 * self.reach())
+    }
+
     /// Where a point within the scale lies.
     pub fn at(&self, (x, y): (i16, i16)) -> Pair {
-        let reach = self.reach();
-        let step = self.side / (2.0 * reach);
+        let (reach, step) = (self.reach(), self.step());
         let (left, top) = self.corner;
         (
             left + (reach + f64::from(x)) * step,
@@ -78,6 +79,20 @@ impl Scale {
     }
 }
 
-fn size((x, y): (i16, i16)) -> i16 {
+/// Whether a point would be drawn on the frame, too far out for the scale of a constellation.
+pub fn is_far(constellation: &[(i16, i16)], point: (i16, i16)) -> bool {
+    size(point) > limits(constellation).1
+}
+
+/// The size of a constellation, and how far out its scale may go.
+fn limits(constellation: &[(i16, i16)]) -> (i16, i16) {
+    const LEAST: i16 = 6;
+    let own = constellation.iter().map(|&point| size(point)).max();
+    let own = own.unwrap_or(1).max(1);
+    (own, own.saturating_mul(2).max(LEAST))
+}
+
+/// The larger coordinate.
+pub fn size((x, y): (i16, i16)) -> i16 {
     x.saturating_abs().max(y.saturating_abs())
 }

@@ -1,6 +1,6 @@
 //! What is drawn, and the size of the page.
 
-use crate::ask::Order;
+use crate::ask::{Order, Points};
 use crate::files::{PointList, TableSet};
 use crate::index::Place;
 
@@ -30,4 +30,11 @@ impl Symbol<'_> {
         };
         typed.unwrap_or_else(held)
     }
+}
+
+/// A symbol as it was received, and what was decided.
+pub struct Compared<'a> {
+    pub symbol: Symbol<'a>,
+    /// The points of the frame that was decided on.
+    pub decided: &'a Points,
 }

@@ -4,11 +4,12 @@ use crate::run::{equal, file, path, run, run_with, tables};
 use std::fs;
 
 const A: &str = "examples/bench-a.txt";
-const COMMANDS: [&str; 10] = [
+const COMMANDS: [&str; 11] = [
     "check",
     "order",
     "encode",
     "read",
+    "nearest",
     "turn",
     "map",
     "point",

@@ -19,7 +19,7 @@ fn faulty(ran: &Ran, status: i32, message: &str) {
 const STARTS: &str = "--start takes a whole number from 0 to 7\nusage: ";
 
 /// Words, and what the message says.
-const CALLS: [(&[&str], &str); 42] = [
+const CALLS: [(&[&str], &str); 44] = [
     (&[], "usage: "),
     (&["chek", A], "no command \"chek\""),
     (&["check"], "not the operands it takes"),
@@ -55,6 +55,11 @@ const CALLS: [(&[&str], &str); 42] = [
         &["encode", A, "-", "--register=find"],
         "takes a whole number from 1\n",
     ),
+    (
+        &["nearest", A, "-", "--register=find"],
+        "takes a whole number from 1\n",
+    ),
+    (&["read", A, "-", "--all"], "no option --all here"),
     (&["read", A, "-", "--start"], "--start takes a value"),
     (&["encode", A, "-", "--start", "256"], STARTS),
     (&["read", A, "-", "--start", "-1"], STARTS),
@@ -193,7 +198,7 @@ fn bytes_that_are_no_text() {
         65,
         &format!("{set}:2: this is not UTF-8"),
     );
-    for command in ["encode", "read", "turn"] {
+    for command in ["encode", "read", "nearest", "turn"] {
         let ran = run_with(b"\xc3\x28", &[command, A, "-"]);
         faulty(&ran, 65, "standard input:1: this is not UTF-8");
     }

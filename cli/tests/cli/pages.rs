@@ -5,11 +5,12 @@ use crate::run::{run, tool};
 use std::io::Write;
 use std::process::{Command, Stdio};
 
-const COMMANDS: [&str; 10] = [
+const COMMANDS: [&str; 11] = [
     "check",
     "order",
     "encode",
     "read",
+    "nearest",
     "turn",
     "map",
     "point",
@@ -17,7 +18,7 @@ const COMMANDS: [&str; 10] = [
     "man",
     "completions",
 ];
-const OPTIONS: [&str; 6] = ["register", "start", "out", "svg", "stop", "json"];
+const OPTIONS: [&str; 7] = ["register", "start", "out", "svg", "all", "stop", "json"];
 
 /// What a program answers to a text, if it is installed: its status, and all it prints.
 fn fed(program: &str, words: &[&str], text: &str) -> Option<(bool, String)> {
@@ -94,12 +95,13 @@ fn completed(words: &[&str]) -> Option<Vec<String>> {
 
 #[test]
 fn bash_completes() {
-    let cases: [(&[&str], &[&str]); 8] = [
+    let cases: [(&[&str], &[&str]); 9] = [
         (&["clevisroot", "en"], &["encode"]),
         (&["clevisroot", "--json", "tu"], &["turn"]),
         (&["clevisroot", "encode", "--re"], &["--register"]),
         (&["clevisroot", "turn", "--o"], &[]),
         (&["clevisroot", "read", "--register", "f"], &["find"]),
+        (&["clevisroot", "nearest", "--a"], &["--all"]),
         (&["clevisroot", "turn", "--sta"], &["--start"]),
         (&["clevisroot", "read", "--start", "6"], &["6"]),
         (&["clevisroot", "completions", "z"], &["zsh"]),

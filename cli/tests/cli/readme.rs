@@ -36,6 +36,11 @@ fn calls_in(block: &str, begins: &str) -> Vec<Shown> {
         .collect()
 }
 
+/// The files that a page shows, each under a `$ cat` of its name.
+fn files_on(page: &str) -> Vec<Shown> {
+    calls_on(page, "cat ")
+}
+
 /// A folder with the examples, because the calls write files.
 fn folder(name: &str) -> PathBuf {
     let folder = path(name);
@@ -53,22 +58,25 @@ fn run_in(folder: &Path, call: &str) -> Ran {
     Ran::of(&command.stdin(Stdio::null()).output().unwrap())
 }
 
-/// The picture that both pages show is what their call of `encode` draws.
-fn assert_picture(folder: &Path) {
+/// A picture that a page shows is what the page's call draws.
+fn assert_picture(folder: &Path, drawn: &str, kept: &str) {
     let read = |path: &Path| fs::read_to_string(path).unwrap();
-    let kept = root().join("docs/bench-a.svg");
-    assert_eq!(read(&folder.join("bench-a.svg")), read(&kept));
+    assert_eq!(read(&folder.join(drawn)), read(&root().join(kept)));
 }
 
 #[test]
 fn the_tool_s_page_shows_what_is_printed() {
     let folder = folder("readme-tool");
+    for Shown { call, output } in files_on("cli/README.md") {
+        fs::write(folder.join(call), output).unwrap();
+    }
     let shown = calls_on("cli/README.md", "clevisroot ");
     assert!(shown.len() >= 5);
     for Shown { call, output } in shown {
         assert_eq!(run_in(&folder, &call).out, output, "clevisroot {call}");
     }
-    assert_picture(&folder);
+    assert_picture(&folder, "bench-a.svg", "docs/bench-a.svg");
+    assert_picture(&folder, "nearest.svg", "cli/nearest.svg");
 }
 
 /// What the front page has for `clevisroot`.
@@ -99,5 +107,5 @@ fn the_front_page_s_calls_in_its_text_work() {
     for call in calls {
         assert_eq!(run_in(&folder, call).status, 0, "clevisroot {call}");
     }
-    assert_picture(&folder);
+    assert_picture(&folder, "bench-a.svg", "docs/bench-a.svg");
 }

@@ -5,7 +5,7 @@ use crate::run::{equal, file, run, run_with, tables, Ran};
 const A: &str = "examples/bench-a.txt";
 
 /// The call is refused with this number and name, at this place.
-fn refused(ran: &Ran, number: i32, name: &str, place: &str, sentence: &str) {
+pub fn refused(ran: &Ran, number: i32, name: &str, place: &str, sentence: &str) {
     assert_eq!(ran.status, number, "{}{}", ran.out, ran.err);
     assert_eq!(ran.line(0), format!("refused: {number} {name}"));
     assert!(ran.line(1).starts_with(place), "{}", ran.out);
@@ -23,7 +23,7 @@ fn tables_refused(set: &str, number: i32, name: &str, place: &str, sentence: &st
     for words in [vec!["check", set], vec!["order", set]] {
         refused(&run(&words), number, name, place, sentence);
     }
-    for command in ["encode", "read", "turn"] {
+    for command in ["encode", "read", "nearest", "turn"] {
         let ran = run_with(b"", &[command, set, "-"]);
         refused(&ran, number, name, place, sentence);
     }
@@ -130,7 +130,7 @@ fn room() {
         "1,1\n1,1\n1,1\n-1,-1\n1,1\n1,1\n1,1",
     ] {
         let count = points.lines().filter(|line| *line != "x,y").count();
-        for command in ["read", "turn"] {
+        for command in ["read", "nearest", "turn"] {
             // SEED applies too, but ROOM is smaller.
             let ran = run_with(points.as_bytes(), &[command, A, "-", "--register=0"]);
             let plural = if count == 1 { "" } else { "s" };
@@ -182,7 +182,7 @@ fn seed() {
             "at place 0: the register",
             "1 to 8388607",
         );
-        for command in ["read", "turn"] {
+        for command in ["read", "nearest", "turn"] {
             let words = [command, A, "examples/bench-a.csv", "--register", register];
             refused(
                 &run(&words),

@@ -7,7 +7,7 @@ use std::process::Stdio;
 
 /// Every status that the tool documents.
 fn is_documented(status: i32) -> bool {
-    matches!(status, 0..=8 | 10..=16 | 32..=34 | 36 | 64..=66)
+    matches!(status, 0..=8 | 10..=16 | 23 | 32..=34 | 36 | 64..=66)
 }
 
 /// Numbers that look random and are the same in each run.
@@ -65,6 +65,7 @@ fn damaged_files() {
                 &["read", "examples/bench-a.txt", "-", "--svg", svg],
             ),
             run_with(&points, &["turn", &damaged, "-", "--json"]),
+            run_with(&points, &["nearest", &damaged, "-", "--svg", svg]),
         ] {
             assert!(is_documented(ran.status), "{}{}", ran.out, ran.err);
             statuses[ran.status as usize] += 1;
@@ -84,6 +85,7 @@ fn noise() {
             vec!["order", "-"],
             vec!["encode", "examples/bench-a.txt", "-"],
             vec!["read", "examples/bench-a.txt", "-"],
+            vec!["nearest", "examples/bench-a.txt", "-"],
         ] {
             let ran = run_with(&bytes, &words);
             assert!(matches!(ran.status, 10 | 11 | 65), "{}{}", ran.out, ran.err);

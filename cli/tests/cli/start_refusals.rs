@@ -69,6 +69,7 @@ fn a_start_that_no_byte_has() {
         for (command, input) in [
             ("encode", "examples/bench-a.hex"),
             ("read", "examples/bench-a.csv"),
+            ("nearest", "examples/bench-a.csv"),
             ("turn", "examples/bench-a-turned.csv"),
         ] {
             for register in [&[][..], &["--register=0"], &["--register=1"]] {
@@ -95,7 +96,7 @@ fn a_start_that_no_byte_has() {
 fn the_start_is_refused_in_its_turn() {
     let few = tables("start-few.txt", "coded", 8, &[(0, 2, 512)]);
     let points = "1,1\n1,1\n1,1\n1,1\n1,1\n1,1";
-    for command in ["read", "turn"] {
+    for command in ["read", "nearest", "turn"] {
         for (set, points, start, status) in [
             (few.as_str(), "1,1", "8", 8),
             (A, "1,1", "8", 10),

@@ -44,7 +44,7 @@ fn python_agrees(svg: &str) {
 }
 
 /// Runs a call with `--svg` and hands back the picture.
-fn picture(name: &str, status: i32, words: &[&str], input: &[u8]) -> String {
+pub fn picture(name: &str, status: i32, words: &[&str], input: &[u8]) -> String {
     let svg = path(name);
     let words = [words, &["--svg", svg.to_str().unwrap()]].concat();
     let ran = run_with(input, &words);
