@@ -18,7 +18,7 @@ use Rattle.g9932.specs.declared.Checked.{Checked}
 use Rattle.g9932.specs.declared.Answer.{Answer}
 use Rattle.g9932.specs.declared.Nearest.{Nearest}
 use Rattle.g9932.specs.declared.Nearest.the-variants.{Done, Refused}
-use Rattle.clevisroot.specs.CAnswers.{modeOf, answerOf, reported, nearestAnswer, Small, ReorderAnswered, EncodeAnswered, ReadAnswered, EncodeAtAnswered, ReadAtAnswered, NearestAnswered}
+use Rattle.clevisroot.specs.CAnswers.{modeOf, answerOf, reported, withTotal, nearestAnswer, Small, ReorderAnswered, EncodeAnswered, ReadAnswered, EncodeAtAnswered, ReadAtAnswered, NearestAnswered}
 use Rattle.clevisroot.specs.declared.SymbolAnswer.{SymbolAnswer}
 use Rattle.clevisroot.specs.declared.NearestAnswer.{NearestAnswer}
 use Rattle.clevisroot.specs.declared.PointAnswer.{PointAnswer}
@@ -30,9 +30,6 @@ coded-mode (suc n) h = refl
 
 pub fields : {n n' p p' : ℕ} (reg : ℕ) → n ≡ n' → p ≡ p' → _≡_ {A = SymbolAnswer} (record { number = n; place = p; size = 0; reg = reg }) (record { number = n'; place = p'; size = 0; reg = reg })
 fields reg e f = rw (e, f)
-
-pub nearest-fields : {n n' p p' : ℕ} (reg : ℕ) → n ≡ n' → p ≡ p' → _≡_ {A = NearestAnswer} (record { number = n; place = p; size = 0; reg = reg; total = 0 }) (record { number = n'; place = p'; size = 0; reg = reg; total = 0 })
-nearest-fields reg e f = rw (e, f)
 
 -- an answer, and the case of it that a match has found
 pub small-checked : {a b : Checked} → a ≡ b → Small (verdictOf a) → Small (verdictOf b)
@@ -50,8 +47,8 @@ checked-as e t = rw e t
 pub reported-as : {a b : Answer} {v : SymbolAnswer} → a ≡ b → v ≡ reported (reportOf b) → v ≡ reported (reportOf a)
 reported-as e t = rw e t
 
-pub nearest-as : {a b : Nearest} {v : NearestAnswer} → a ≡ b → v ≡ nearestAnswer (nearestOf b) (totalIn b) → v ≡ nearestAnswer (nearestOf a) (totalIn a)
-nearest-as e t = rw e t
+pub nearest-as : {a b : Nearest} {s : SymbolAnswer} {v : NearestAnswer} → a ≡ b → s ≡ reported (nearestOf b) → v ≡ withTotal s (totalIn b) → v ≡ nearestAnswer (nearestOf a) (totalIn a)
+nearest-as {b = b} e k t = rw e (t ∙ ap (λ (x : SymbolAnswer). withTotal x (totalIn b)) k)
 
 pub point-fields : {x x' y y' : ℤ} → x ≡ x' → y ≡ y' → _≡_ {A = PointAnswer} (record { number = 0; x = x; y = y }) (record { number = 0; x = x'; y = y' })
 point-fields e f = rw (e, f)

@@ -65,8 +65,11 @@ pub record ReadAtAnswered (T : Tables) (xs ys : List ℤ) (r start : ℕ) (f : L
 
 -- ---- reading received points: a refused one has the total 0
 
+abbrev pub withTotal : SymbolAnswer → ℕ → NearestAnswer
+withTotal a total = record { number = a .number; place = a .place; size = a .size; reg = a .reg; total = total }
+
 abbrev pub nearestAnswer : Report → ℕ → NearestAnswer
-nearestAnswer a total = record { number = a .verdict .number; place = a .verdict .place; size = a .verdict .size; reg = a .register; total = total }
+nearestAnswer a total = withTotal (reported a) total
 
 -- Number, place, L and register are an equation; the total is that of the frame's own written points, and no frame has less. Which frame it
 -- is, where several have that total, is free, and so is what `work` holds afterwards. On a refusal neither buffer is changed.

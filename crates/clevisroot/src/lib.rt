@@ -5,7 +5,7 @@ ghost use Rattle.g9932.specs.Sizes.{tables, mostTones, point};
 ghost use Rattle.g9932.specs.Refusals.{numberOf, placeOf, refused, tableVerdict};
 ghost use Rattle.g9932.specs.Answers.{verdictOf, reportOf, mapLabel, readPoint, drawAnswer};
 ghost use Rattle.g9932.specs.Nearest.{nearestOf, totalIn};
-ghost use Rattle.clevisroot.specs.CAnswers.{modeOf, answerOf, reported, nearestAnswer, pointAnswered, labelAnswered, drawAnswered, Small, ReorderAnswered, EncodeAnswered, ReadAnswered, EncodeAtAnswered, ReadAtAnswered, NearestAnswered};
+ghost use Rattle.clevisroot.specs.CAnswers.{modeOf, answerOf, reported, withTotal, nearestAnswer, pointAnswered, labelAnswered, drawAnswered, Small, ReorderAnswered, EncodeAnswered, ReadAnswered, EncodeAtAnswered, ReadAtAnswered, NearestAnswered};
 use g9932::Answer;
 use g9932::Checked;
 use g9932::Drawn;
@@ -114,6 +114,18 @@ fn answered(answer: Answer) -> SymbolAnswer
     }
 }
 
+fn with_total(answer: SymbolAnswer, total: u64) -> NearestAnswer
+    ensures { λ r. ⌜ r ≡ withTotal answer total ⌝ }
+{
+    NearestAnswer {
+        number: answer.number,
+        place: answer.place,
+        size: answer.size,
+        reg: answer.reg,
+        total,
+    }
+}
+
 // The answer of reading received points; a refusal has the total 0.
 fn nearest_answered(answer: Nearest) -> NearestAnswer
     requires { ⌜ Small (nearestOf answer .verdict) ⌝ }
@@ -124,20 +136,11 @@ fn nearest_answered(answer: Nearest) -> NearestAnswer
             size,
             register,
             total,
-        } => NearestAnswer {
-            number: 0,
-            place: 0,
-            size: size as u32,
-            reg: register,
-            total,
-        },
-        Nearest::Refused { refusal, register } => NearestAnswer {
-            number: number_of(refusal),
-            place: place_of(refusal) as u32,
-            size: 0,
-            reg: register,
-            total: 0,
-        },
+        } => with_total(answered(Answer::Done { size, register }), total),
+        Nearest::Refused { refusal, register } => with_total(
+            answered(Answer::Refused { refusal, register }),
+            0,
+        ),
     }
 }
 
