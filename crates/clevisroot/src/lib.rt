@@ -137,10 +137,7 @@ fn nearest_answered(answer: Nearest) -> NearestAnswer
             register,
             total,
         } => with_total(answered(Answer::Done { size, register }), total),
-        Nearest::Refused { refusal, register } => with_total(
-            answered(Answer::Refused { refusal, register }),
-            0,
-        ),
+        Nearest::Refused { refusal, register } => with_total(refuse(refusal, register), 0),
     }
 }
 
@@ -258,18 +255,8 @@ pub extern "C" fn clevisroot_read_nearest(
 ) -> NearestAnswer
     ensures { λ r. ⌜ NearestAnswered (tables (modeOf coded) (now (bits .entry)) (now (gains .entry)) (now (tones .entry))) (now (x .entry)) (now (y .entry)) reg start (now (frame .entry)) (now (work .entry)) r (now (frame .exit)) (now (work .exit)) ⌝ }
 {
-    nearest_answered(nearest::read(
-        mode_of(coded),
-        bits,
-        gains,
-        tones,
-        x,
-        y,
-        reg,
-        frame,
-        start,
-        work,
-    ))
+    let mode = mode_of(coded);
+    nearest_answered(nearest::read(mode, bits, gains, tones, x, y, reg, frame, start, work))
 }
 
 #[no_mangle]

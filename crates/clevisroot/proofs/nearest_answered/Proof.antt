@@ -1,4 +1,4 @@
--- `nearest_answered` meets its contract, by the cases of an answer: what `answered` makes of it, and the total.
+-- `nearest_answered` meets its contract, by the cases of an answer: the other calls' answer, and the total.
 use Rattle.clevisroot.proofs.Calls.{small-near, nearest-as}
 use borrow.Author.Needs.{needs}
 use Rattle.clevisroot.proofs.nearest_answered.Statement.{statement}
@@ -7,14 +7,14 @@ use Rattle.clevisroot.proofs.nearest_answered.Tie as tie
 answered-requires : tie.Need-answered-requires
 answered-requires c κs = small-near (c .before .answer .given .1) (c .before .before .before .pre)
 
-answered-requires-2 : tie.Need-answered-requires-2
-answered-requires-2 c κs = small-near (c .before .answer2 .given .1) (c .before .before .before .pre)
+refuse-requires : tie.Need-refuse-requires
+refuse-requires c κs = small-near (c .before .answer2 .given .1) (c .before .before .before .pre) .placeMost
 
 returns : tie.Need-returns
 returns c = nearest-as (c .before .before .before .answer .given .1) (c .before .answered .ensures) (c .with-total .ensures)
 
 returns-2 : tie.Need-returns-2
-returns-2 c = nearest-as (c .before .before .before .answer2 .given .1) (c .before .answered2 .ensures) (c .with-total2 .ensures)
+returns-2 c = nearest-as (c .before .before .before .answer2 .given .1) (c .before .refuse .ensures) (c .with-total2 .ensures)
 
 pub nearest-answered-spec : {M : Type 1} → statement M
 nearest-answered-spec =
@@ -24,7 +24,7 @@ nearest-answered-spec =
     answered-requires
     (λ c κs. search needs)
     (λ c. search needs)
-    answered-requires-2
+    refuse-requires
     (λ c κs. search needs)
     returns
     returns-2)
