@@ -2,23 +2,27 @@
 use Prim.Native.Nat.{ℕ, zero, suc}
 use mathlib.Core.Bool.{Bool, true, false}
 use mir.Val.{boolByte}
-use mathlib.Core.Path.{_≡_, refl, sym, ap, _∙_}
+use mathlib.Core.Path.{_≡_, refl, sym, ap, _∙_, subst}
 use lib.IntN.{ℤ}
 use mathlib.Core.List.{List}
 use lib.ListN.{length}
 use Rattle.g9932.specs.Bits.{weight}
 use Rattle.g9932.proofs.Aligned.{start-zero-encoding, start-zero-reading}
-use Rattle.g9932.specs.Sizes.{Tables, tables}
+use Rattle.g9932.specs.Sizes.{Tables, tables, points}
 use Rattle.g9932.specs.Refusals.{Verdict, tableVerdict}
-use Rattle.g9932.specs.Answers.{verdictOf, reportOf, reportBy, Reorders, Encoded, Encodes, Read, Reads}
+use Rattle.g9932.specs.Answers.{verdictOf, Report, reportOf, reportBy, Reorders, Encoded, Encodes, Read, Reads}
+use Rattle.g9932.specs.Nearest.{NearestFrame, nearestReport, nearestOf, totalIn, ReadsNearest}
 use Rattle.g9932.specs.declared.Mode.{Mode}
 use Rattle.g9932.specs.declared.Mode.the-variants.{Coded}
 use Rattle.g9932.specs.declared.Checked.{Checked}
 use Rattle.g9932.specs.declared.Answer.{Answer}
-use Rattle.clevisroot.specs.CAnswers.{modeOf, answerOf, reported, Small, ReorderAnswered, EncodeAnswered, ReadAnswered, EncodeAtAnswered, ReadAtAnswered}
+use Rattle.g9932.specs.declared.Nearest.{Nearest}
+use Rattle.g9932.specs.declared.Nearest.the-variants.{Done, Refused}
+use Rattle.clevisroot.specs.CAnswers.{modeOf, answerOf, reported, withTotal, nearestAnswer, Small, ReorderAnswered, EncodeAnswered, ReadAnswered, EncodeAtAnswered, ReadAtAnswered, NearestAnswered}
 use Rattle.clevisroot.specs.declared.SymbolAnswer.{SymbolAnswer}
+use Rattle.clevisroot.specs.declared.NearestAnswer.{NearestAnswer}
 use Rattle.clevisroot.specs.declared.PointAnswer.{PointAnswer}
-use Rattle.clevisroot.proofs.Places.{small-table, small-order, small-encode, small-read}
+use Rattle.clevisroot.proofs.Places.{small-table, small-order, small-encode, small-read, small-nearest}
 
 pub coded-mode : (n : ℕ) → (n ≡ 0 → ⊥) → Coded ≡ modeOf n
 coded-mode zero h = absurd (h refl)
@@ -34,11 +38,17 @@ small-checked e s = rw e at s
 pub small-answer : {a b : Answer} → a ≡ b → Small (reportOf a .verdict) → Small (reportOf b .verdict)
 small-answer e s = rw e at s
 
+pub small-near : {a b : Nearest} → a ≡ b → Small (nearestOf a .verdict) → Small (nearestOf b .verdict)
+small-near e s = rw e at s
+
 pub checked-as : {a b : Checked} {v : SymbolAnswer} → a ≡ b → v ≡ answerOf (verdictOf b) 0 → v ≡ answerOf (verdictOf a) 0
 checked-as e t = rw e t
 
 pub reported-as : {a b : Answer} {v : SymbolAnswer} → a ≡ b → v ≡ reported (reportOf b) → v ≡ reported (reportOf a)
 reported-as e t = rw e t
+
+pub nearest-as : {a b : Nearest} {s : SymbolAnswer} {v : NearestAnswer} → a ≡ b → s ≡ reported (nearestOf b) → v ≡ withTotal s (totalIn b) → v ≡ nearestAnswer (nearestOf a) (totalIn a)
+nearest-as {b = b} e k t = rw e (t ∙ ap (λ (x : SymbolAnswer). withTotal x (totalIn b)) k)
 
 pub point-fields : {x x' y y' : ℤ} → x ≡ x' → y ≡ y' → _≡_ {A = PointAnswer} (record { number = 0; x = x; y = y }) (record { number = 0; x = x'; y = y' })
 point-fields e f = rw (e, f)
@@ -47,6 +57,11 @@ pub byte-weight : (b : Bool) → boolByte b ≡ weight b
 unfolding weight
 byte-weight true = refl
 byte-weight false = refl
+
+-- a refused answer carries no total
+refused-total : (a : Nearest) → (nearestOf a .verdict .number ≡ 0 → ⊥) → totalIn a ≡ 0
+refused-total (Done l r n) h = absurd (h refl)
+refused-total (Refused x r) h = refl
 
 -- ---- the calls: the core is asked in the mode that `coded` names
 
@@ -79,6 +94,27 @@ module _ {m n : Mode} (b g t : List ℕ) (e : m ≡ n) where
 
     pub read-at : {v : SymbolAnswer} → v ≡ reported (reportOf a) → ReadAtAnswered (tables n b g t) xs ys r start f v fAfter
     read-at k = rw (sym e) (record { answer = k ∙ ap reported (h .answer); frameHolds = h .frameHolds })
+
+  module _ {start : ℕ} {f work fAfter workAfter : List ℕ} {r : ℕ} {xs ys : List ℤ} {a : Nearest} (h : ReadsNearest (tables m b g t) xs ys r start f work a fAfter workAfter) where
+    pub nearest-small : Small (nearestOf a .verdict)
+    unfolding reportBy
+    nearest-small = rw (h .answer) (small-nearest (tables m b g t) xs ys r start (length f) (length work))
+
+    pub nearest-answered : {v : NearestAnswer} → v ≡ nearestAnswer (nearestOf a) (totalIn a) → NearestAnswered (tables n b g t) xs ys r start f work v fAfter workAfter
+    unfolding reportBy
+    nearest-answered k =
+        let T = tables m b g t in
+        let report = nearestReport T xs ys r start (length f) (length work) in
+        let same = ap (λ (x : NearestAnswer). x .total) k in
+        let number = ap (λ (x : Report). x .verdict .number) (h .answer) in
+        rw (sym e) (record {
+          answer = k ∙ ap (λ (x : Report). nearestAnswer x (totalIn a)) (h .answer) ∙ ap (nearestAnswer report) (sym same);
+          noTotal = λ z. same ∙ refused-total a (λ p. z (sym number ∙ p));
+          nearest = λ z. subst (NearestFrame T (points xs ys) r start fAfter) (sym same) (h .nearest z);
+          frameKept = h .frameKept;
+          workKept = h .workKept;
+          workLength = h .workLength;
+        })
 
 -- a call without a start is that with start 0
 pub encode-answered : {T : Tables} {f : List ℕ} {r : ℕ} {xs ys xsAfter ysAfter : List ℤ} {v : SymbolAnswer} → EncodeAtAnswered T 0 f r xs ys v xsAfter ysAfter

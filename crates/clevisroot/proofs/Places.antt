@@ -15,6 +15,7 @@ use Rattle.g9932.specs.Order.{Pair, bitsOf, codedPairs}
 use Rattle.g9932.specs.Trellis.{Reading, frame, breaks, after, zeroState, readPairs, readingOf, obeysCode, lastTwo, decodedAt, nextOf, takenBits, width}
 use Rattle.g9932.specs.Symbol.{classesOf, pairsIn, sizeOf, gatherBits, readingIn}
 use Rattle.g9932.specs.Answers.{breakIn, orderVerdict, encodeInputs, encodeVerdict, placesVerdict, pointsVerdict, readInputs, readVerdict}
+use Rattle.g9932.specs.Nearest.{workBytes, nearestInputs, rangeVerdict, nearestVerdict}
 use Rattle.g9932.specs.declared.Found.{Found}
 use Rattle.g9932.specs.declared.Found.the-variants.{At, Nothing}
 use Rattle.g9932.specs.declared.Mode.{Mode}
@@ -190,3 +191,19 @@ small-read T xs ys r start a =
     (size-then inputs (pointsVerdict T q r) (sizeOf T)
     (size-then (placesVerdict (classesOf T) q r) _ (sizeOf T)
     (size-at 14 _ _ (sizeOf T) (λ _. refl))))
+
+-- 23 is found among the NSC places
+pub small-nearest : (T : Tables) (xs ys : List ℤ) (r start a w : ℕ) → Small (nearestVerdict T xs ys r start a w)
+unfolding nearestVerdict nearestInputs rangeVerdict
+small-nearest T xs ys r start a w =
+    let q = points xs ys in
+    let inputs = nearestInputs start (sizeOf T) (length (T .tones)) (workBytes T) (length xs) (length ys) a w r in
+    small-then T (andThen inputs (rangeVerdict T q))
+    (λ e.
+    let k = accepted-tables T e in
+    let n : length (T .tones) ≤ mostTones = omega (arith, k .tonesMost, k .tableMost) in
+    place-and mostTones inputs (rangeVerdict T q)
+    (place-if mostTones 10 _ _ (place-if mostTones 11 _ _ (place-if mostTones 12 _ _ (omega arith))))
+    (λ _. place-first mostTones 23 _ (length (T .tones)) _ n (omega arith)))
+    (size-then inputs (rangeVerdict T q) (sizeOf T)
+    (size-at 22 _ _ (sizeOf T) (λ _. refl)))

@@ -5,14 +5,17 @@ use mathlib.Core.List.{List}
 use mathlib.Core.Option.{Option, none, some}
 use mathlib.Core.Path.{_≡_}
 use lib.IntN.{ℤ}
+use lib.ListN.{length}
 use Rattle.g9932.specs.Bits.{weight}
-use Rattle.g9932.specs.Sizes.{Tables, mostTones, mostBits, Point, origin}
+use Rattle.g9932.specs.Sizes.{Tables, mostTones, mostBits, Point, points, origin}
 use Rattle.g9932.specs.Refusals.{Verdict}
 use Rattle.g9932.specs.Answers.{Report, OneTone, Draw, reorderOf, encodeAt, readAt}
 use Rattle.g9932.specs.Aligned.{encodeOf, readOf}
+use Rattle.g9932.specs.Nearest.{NearestFrame, nearestVerdict, nearestReport}
 use Rattle.g9932.specs.declared.Mode.{Mode}
 use Rattle.g9932.specs.declared.Mode.the-variants.{Uncoded, Coded}
 use Rattle.clevisroot.specs.declared.SymbolAnswer.{SymbolAnswer}
+use Rattle.clevisroot.specs.declared.NearestAnswer.{NearestAnswer}
 use Rattle.clevisroot.specs.declared.PointAnswer.{PointAnswer}
 use Rattle.clevisroot.specs.declared.LabelAnswer.{LabelAnswer}
 use Rattle.clevisroot.specs.declared.DrawAnswer.{DrawAnswer}
@@ -59,6 +62,24 @@ pub record EncodeAtAnswered (T : Tables) (start : ℕ) (f : List ℕ) (r : ℕ) 
 pub record ReadAtAnswered (T : Tables) (xs ys : List ℤ) (r start : ℕ) (f : List ℕ) (a : SymbolAnswer) (fAfter : List ℕ) : Type 0 where
   pub answer : a ≡ reported (readAt T xs ys r start f .report)
   pub frameHolds : fAfter ≡ readAt T xs ys r start f .frame
+
+-- ---- reading received points: a refused one has the total 0
+
+abbrev pub withTotal : SymbolAnswer → ℕ → NearestAnswer
+withTotal a total = record { number = a .number; place = a .place; size = a .size; reg = a .reg; total = total }
+
+abbrev pub nearestAnswer : Report → ℕ → NearestAnswer
+nearestAnswer a total = withTotal (reported a) total
+
+-- Number, place, L and register are an equation; the total is that of the frame's own written points, and no frame has less. Which frame it
+-- is, where several have that total, is free, and so is what `work` holds afterwards. On a refusal neither buffer is changed.
+pub record NearestAnswered (T : Tables) (xs ys : List ℤ) (r start : ℕ) (f work : List ℕ) (a : NearestAnswer) (fAfter workAfter : List ℕ) : Type 0 where
+  pub answer : a ≡ nearestAnswer (nearestReport T xs ys r start (length f) (length work)) (a .total)
+  pub noTotal : (nearestVerdict T xs ys r start (length f) (length work) .number ≡ 0 → ⊥) → a .total ≡ 0
+  pub nearest : nearestVerdict T xs ys r start (length f) (length work) .number ≡ 0 → NearestFrame T (points xs ys) r start fAfter (a .total)
+  pub frameKept : (nearestVerdict T xs ys r start (length f) (length work) .number ≡ 0 → ⊥) → fAfter ≡ f
+  pub workKept : (nearestVerdict T xs ys r start (length f) (length work) .number ≡ 0 → ⊥) → workAfter ≡ work
+  pub workLength : length workAfter ≡ length work
 
 -- ---- one-tone calls, and one draw: a refused one has point (0, 0), label 0, bit 0
 

@@ -4,13 +4,15 @@ ghost use Prim.Native.Nat.{_≤_};
 ghost use Rattle.g9932.specs.Sizes.{tables, mostTones, point};
 ghost use Rattle.g9932.specs.Refusals.{numberOf, placeOf, refused, tableVerdict};
 ghost use Rattle.g9932.specs.Answers.{verdictOf, reportOf, mapLabel, readPoint, drawAnswer};
-ghost use Rattle.clevisroot.specs.CAnswers.{modeOf, answerOf, reported, pointAnswered, labelAnswered, drawAnswered, Small, ReorderAnswered, EncodeAnswered, ReadAnswered, EncodeAtAnswered, ReadAtAnswered};
+ghost use Rattle.g9932.specs.Nearest.{nearestOf, totalIn};
+ghost use Rattle.clevisroot.specs.CAnswers.{modeOf, answerOf, reported, withTotal, nearestAnswer, pointAnswered, labelAnswered, drawAnswered, Small, ReorderAnswered, EncodeAnswered, ReadAnswered, EncodeAtAnswered, ReadAtAnswered, NearestAnswered};
 use g9932::Answer;
 use g9932::Checked;
 use g9932::Drawn;
 use g9932::Labelled;
 use g9932::Mapped;
 use g9932::Mode;
+use g9932::Nearest;
 use g9932::Refusal;
 use g9932::number_of;
 use g9932::place_of;
@@ -22,6 +24,16 @@ pub struct SymbolAnswer {
     pub place: u32,
     pub size: u32,
     pub reg: u32,
+}
+
+// What reading received points answers: the same, and the total of squared distances.
+#[repr(C)]
+pub struct NearestAnswer {
+    pub number: u32,
+    pub place: u32,
+    pub size: u32,
+    pub reg: u32,
+    pub total: u64,
 }
 
 // What mapping one label answers.
@@ -99,6 +111,33 @@ fn answered(answer: Answer) -> SymbolAnswer
             reg: register,
         },
         Answer::Refused { refusal, register } => refuse(refusal, register),
+    }
+}
+
+fn with_total(answer: SymbolAnswer, total: u64) -> NearestAnswer
+    ensures { λ r. ⌜ r ≡ withTotal answer total ⌝ }
+{
+    NearestAnswer {
+        number: answer.number,
+        place: answer.place,
+        size: answer.size,
+        reg: answer.reg,
+        total,
+    }
+}
+
+// The answer of reading received points; a refusal has the total 0.
+fn nearest_answered(answer: Nearest) -> NearestAnswer
+    requires { ⌜ Small (nearestOf answer .verdict) ⌝ }
+    ensures { λ r. ⌜ r ≡ nearestAnswer (nearestOf answer) (totalIn answer) ⌝ }
+{
+    match answer {
+        Nearest::Done {
+            size,
+            register,
+            total,
+        } => with_total(answered(Answer::Done { size, register }), total),
+        Nearest::Refused { refusal, register } => with_total(refuse(refusal, register), 0),
     }
 }
 
@@ -199,6 +238,25 @@ pub extern "C" fn clevisroot_read_at(
     ensures { λ r. ⌜ ReadAtAnswered (tables (modeOf coded) (now (bits .entry)) (now (gains .entry)) (now (tones .entry))) (now (x .entry)) (now (y .entry)) reg start (now (frame .entry)) r (now (frame .exit)) ⌝ }
 {
     answered(symbol::read(mode_of(coded), bits, gains, tones, x, y, reg, frame, start))
+}
+
+#[no_mangle]
+pub extern "C" fn clevisroot_read_nearest(
+    coded: u8,
+    bits: &[u8],
+    gains: &[u16],
+    tones: &[u16],
+    x: &[i16],
+    y: &[i16],
+    reg: u32,
+    frame: &mut [u8],
+    start: u8,
+    work: &mut [u8],
+) -> NearestAnswer
+    ensures { λ r. ⌜ NearestAnswered (tables (modeOf coded) (now (bits .entry)) (now (gains .entry)) (now (tones .entry))) (now (x .entry)) (now (y .entry)) reg start (now (frame .entry)) (now (work .entry)) r (now (frame .exit)) (now (work .exit)) ⌝ }
+{
+    let mode = mode_of(coded);
+    nearest_answered(nearest::read(mode, bits, gains, tones, x, y, reg, frame, start, work))
 }
 
 #[no_mangle]

@@ -97,12 +97,12 @@ fn word(n: usize, words: &[u8]) {
     }
 }
 
-// The number and the name of a refusal; 9 is unused.
+// The number and the name of a refusal; 9 and 17 to 22 are unused.
 pub fn refused(n: u32) {
     entry(n as u64);
     word(
         n as usize,
-        b" SIZE TONE TWICE BITS STRAY GAIN ODD FEW UNKNOWN ROOM FRAME SEED OFFGRID MONITOR TRELLIS LABEL",
+        b" SIZE TONE TWICE BITS STRAY GAIN ODD FEW UNKNOWN ROOM FRAME SEED OFFGRID MONITOR TRELLIS LABEL UNKNOWN UNKNOWN UNKNOWN UNKNOWN UNKNOWN UNKNOWN RANGE",
     );
 }
 
