@@ -47,7 +47,7 @@ fn is_origin(x: i16, y: i16) -> bool
 }
 
 // A coordinate plus 32,768.
-fn raised(z: i16) -> u16
+pub fn raised(z: i16) -> u16
     ensures { λ r. ⌜ pos r ≡ z +ℤ pos 32768 ⌝ }
 {
     (z as i32 + 32768) as u16

@@ -1,5 +1,5 @@
 -- From raised coordinates to the labels and costs of an entry.
-use Prim.Native.Nat.{ℕ, zero, suc, _+_, _-_, _*_, _^_, _≤_, _<_}
+use Prim.Native.Nat.{ℕ, zero, suc, _+_, _-_, _*_, _/_, _^_, _≤_, _<_}
 use mathlib.Core.Bool.{Bool, true, false, cond}
 use mathlib.Core.List.{List, [], _∷_}
 use mathlib.Core.Logic.{_⊎_, ⊎-elim}
@@ -13,27 +13,26 @@ use lib.Signed.{mag}
 use mir.Syntax.{w16}
 use mir.Val.{SFits, toZ}
 use mir.ValLaws.{toZ-pos}
-use Rattle.g9932.specs.Bits.{bit, weight, num, bits}
+use Rattle.g9932.specs.Bits.{bit, weight, odd, num, bits}
 use Rattle.g9932.specs.Nearest.{squaredDistance}
 use Rattle.g9932.specs.Points.{pointOf, labelOf, isLabel, labelBits}
 use Rattle.g9932.specs.Sizes.{Point, point}
 use Rattle.g9932.proofs.Labels.{label-point}
 use Rattle.g9932.proofs.TwosComplement.{pos-inj}
-use Rattle.g9932.proofs.Words.{bits-num, num-lt}
+use Rattle.g9932.proofs.Words.{bits-num, num-lt, weight-odd}
 use Rattle.constellation.specs.Reading.{FoundLabelIs}
 use Rattle.constellation.specs.declared.FoundLabel.{FoundLabel}
 use Rattle.cosets.specs.declared.Costs.{Costs}
-use Rattle.cosets.specs.declared.OneCosts.{OneCosts}
 use Rattle.cosets.specs.declared.Coset.{Coset}
-use Rattle.cosets.specs.Nearest.{Raised, RaisedPoint, Nearest, CosetCost, CostsOf, OneCostsOf}
-use Rattle.cosets.specs.Meters.{Meter, toneMeter, shared, InRange, costOf, LeastOf, CosetLabel, BestLabel, LeastCoset}
+use Rattle.cosets.specs.Nearest.{InRange, Raised, Nearest, CosetCost, CostsOf, OneCostsOf}
+use Rattle.cosets.specs.Meters.{Meter, toneMeter, shared, costOf, LeastOf, CosetLabel, BestLabel, sharedCosts, LeastCoset}
 
 -- ---- coordinates, raised and back
 
-pub raised-is : (z : ℤ) (r : ℕ) → InRange z → pos r ≡ z +ℤ pos 33792 → Raised z (r - 32768) × (32769 ≤ r) × (r ≤ 34815)
-raised-is (pos a) r h e = let n = pos-inj r (a + 33792) e in (omega arith, omega arith, omega arith)
+pub raised-is : (z : ℤ) (r : ℕ) → InRange z → pos r ≡ z +ℤ pos 32768 → Raised z (r - 31744) × (31745 ≤ r) × (r ≤ 33791)
+raised-is (pos a) r h e = let n = pos-inj r (a + 32768) e in (omega arith, omega arith, omega arith)
 raised-is (negsuc a) r h e =
-    let n = pos-inj r (33792 - suc a) (e ∙ rw (le-ltb 33792 (suc a) (omega arith)) refl) in
+    let n = pos-inj r (32768 - suc a) (e ∙ rw (le-ltb 32768 (suc a) (omega arith)) refl) in
     (omega arith, omega arith, omega arith)
 
 pub lowered-is : (n : ℕ) → 1 ≤ n → n < 2048 → SFits w16 (toZ w16 n -ℤ pos 1024) × Raised (toZ w16 n -ℤ pos 1024) n
@@ -98,16 +97,15 @@ abbrev oneLabel : Bool → Bool → List Bool
 oneLabel v1 v0 = v0 ∷ v1 ∷ []
 
 -- the two costs of a 1-bit tone, by its bit
-abbrev oneCost : OneCosts → Bool → ℕ
-oneCost c true = c .d1
-oneCost c false = c .d0
+abbrev oneCost : Costs → Bool → ℕ
+oneCost c true = c .c1
+oneCost c false = c .c0
 
-one-cost : {p : Point} {c : OneCosts} → OneCostsOf p c → (z : Bool) → squaredDistance p (pointOf 1 (z ∷ [])) ≡ oneCost c z
+one-cost : {p : Point} {c : Costs} → OneCostsOf p c → (z : Bool) → squaredDistance p (pointOf 1 (z ∷ [])) ≡ oneCost c z
 one-cost h true = h .is1
 one-cost h false = h .is0
 
-pub shared-least : {p q : Point} {a b : OneCosts} → OneCostsOf p a → OneCostsOf q b
-    → LeastOf (shared (toneMeter 1 p) (toneMeter 1 q)) (costOf (record { c0 = a .d0 + b .d0; c1 = a .d1 + b .d0; c2 = a .d0 + b .d1; c3 = a .d1 + b .d1 }))
+pub shared-least : {p q : Point} {a b : Costs} → OneCostsOf p a → OneCostsOf q b → LeastOf (shared (toneMeter 1 p) (toneMeter 1 q)) (costOf (sharedCosts a b))
 unfolding weight
 shared-least {p = p} {q = q} {a = a} {b = b} ha hb =
     record {
@@ -119,19 +117,16 @@ shared-least {p = p} {q = q} {a = a} {b = b} ha hb =
       least = go;
     }
   where
-    r : Costs
-    r = record { c0 = a .d0 + b .d0; c1 = a .d1 + b .d0; c2 = a .d0 + b .d1; c3 = a .d1 + b .d1 }
-
-    by : (v1 v0 : Bool) → oneCost a v0 + oneCost b v1 ≡ costOf r (weight v0 + 2 * weight v1)
+    by : (v1 v0 : Bool) → oneCost a v0 + oneCost b v1 ≡ costOf (sharedCosts a b) (weight v0 + 2 * weight v1)
     by true true = refl
     by true false = refl
     by false true = refl
     by false false = refl
 
-    is : (v1 v0 : Bool) → squaredDistance p (pointOf 1 (v0 ∷ [])) + squaredDistance q (pointOf 1 (v1 ∷ [])) ≡ costOf r (weight v0 + 2 * weight v1)
+    is : (v1 v0 : Bool) → squaredDistance p (pointOf 1 (v0 ∷ [])) + squaredDistance q (pointOf 1 (v1 ∷ [])) ≡ costOf (sharedCosts a b) (weight v0 + 2 * weight v1)
     is v1 v0 = let x = one-cost ha v0 in let y = one-cost hb v1 in (λ i. x i + y i) ∙ by v1 v0
 
-    go : (w : List Bool) → length w ≡ 2 → costOf r (weight (bit w 0) + 2 * weight (bit w 1)) ≤ shared (toneMeter 1 p) (toneMeter 1 q) .cost w
+    go : (w : List Bool) → length w ≡ 2 → costOf (sharedCosts a b) (weight (bit w 0) + 2 * weight (bit w 1)) ≤ shared (toneMeter 1 p) (toneMeter 1 q) .cost w
     go [] l = absurd (omega arith)
     go (v0 ∷ []) l = absurd (omega arith)
     go (v0 ∷ v1 ∷ []) l = omega (arith, is v1 v0)
@@ -148,40 +143,6 @@ shared-label a b v1 v0 = record { size = refl; low1 = refl; low0 = refl; least =
     go (x ∷ y ∷ []) l e1 e0 = rw (← e1, ← e0) (omega arith)
     go (x ∷ y ∷ c ∷ w) l e1 e0 = absurd (omega arith)
 
--- ---- the nearest of all labels
-
-pub one-best : {p : Point} {c : OneCosts} → OneCostsOf p c → (z : Bool) → oneCost c z ≤ c .d0 → oneCost c z ≤ c .d1 → BestLabel (toneMeter 1 p) (z ∷ []) (oneCost c z)
-one-best {p = p} {c = c} h z l0 l1 = record { size = refl; cost = one-cost h z; least = go }
-  where
-    go : (w : List Bool) → length w ≡ 1 → oneCost c z ≤ squaredDistance p (pointOf 1 w)
-    go [] e = absurd (omega arith)
-    go (true ∷ []) e = rw (one-cost h true) l1
-    go (false ∷ []) e = rw (one-cost h false) l0
-    go (x ∷ y ∷ w) e = absurd (omega arith)
-
-pub coset-of : (c : Costs) (a b d e m n r : Coset) → a ≡ record { v1 = false; v0 = false; cost = c .c0 } → b ≡ record { v1 = false; v0 = true; cost = c .c1 }
-    → d ≡ record { v1 = true; v0 = false; cost = c .c2 } → e ≡ record { v1 = true; v0 = true; cost = c .c3 }
-    → (m .cost ≤ a .cost) × (m .cost ≤ b .cost) × ((m ≡ a) ⊎ (m ≡ b)) → (n .cost ≤ d .cost) × (n .cost ≤ e .cost) × ((n ≡ d) ⊎ (n ≡ e))
-    → (r .cost ≤ m .cost) × (r .cost ≤ n .cost) × ((r ≡ m) ⊎ (r ≡ n)) → LeastCoset c r
-unfolding weight
-coset-of c a b d e m n r ea eb ed ee hm hn hr =
-    let xa = ap (λ (z : Coset). z .cost) ea in
-    let xb = ap (λ (z : Coset). z .cost) eb in
-    let xd = ap (λ (z : Coset). z .cost) ed in
-    let xe = ap (λ (z : Coset). z .cost) ee in
-    record {
-      is =
-          ⊎-elim (λ g. ⊎-elim (λ f. by (g ∙ f ∙ ea) refl) (λ f. by (g ∙ f ∙ eb) refl) (hm .2))
-          (λ g. ⊎-elim (λ f. by (g ∙ f ∙ ed) refl) (λ f. by (g ∙ f ∙ ee) refl) (hn .2)) (hr .2);
-      least0 = omega (arith, hr .0, hm .0, xa);
-      least1 = omega (arith, hr .0, hm .1, xb);
-      least2 = omega (arith, hr .1, hn .0, xd);
-      least3 = omega (arith, hr .1, hn .1, xe);
-    }
-  where
-    by : {k : Coset} → r ≡ k → k .cost ≡ costOf c (weight (k .v0) + 2 * weight (k .v1)) → r .cost ≡ costOf c (weight (r .v0) + 2 * weight (r .v1))
-    by q h = subst (λ (z : Coset). z .cost ≡ costOf c (weight (z .v0) + 2 * weight (z .v1))) (sym q) h
-
 -- what a nearest label of a coset costs
 pub coset-cost : {m : Meter} {c : ℕ → ℕ} {v1 v0 : Bool} {v : List Bool} → LeastOf m c → CosetLabel m v1 v0 v → m .cost v ≡ c (weight v0 + 2 * weight v1)
 coset-cost {m = m} {c = c} {v1 = v1} {v0 = v0} {v = v} l h =
@@ -189,11 +150,41 @@ coset-cost {m = m} {c = c} {v1 = v1} {v0 = v0} {v = v} l h =
     let other : c (weight v0 + 2 * weight v1) ≤ m .cost v = rw (h .low1, h .low0) at (l .least v (h .size)) in
     omega (arith, least, l .is v1 v0, other)
 
+-- ---- the nearest of all labels
+
+pub coset-of : (c : Costs) (a b d e m n r : Coset) → a ≡ record { low = 0; cost = c .c0 } → b ≡ record { low = 1; cost = c .c1 }
+    → d ≡ record { low = 2; cost = c .c2 } → e ≡ record { low = 3; cost = c .c3 }
+    → (m .cost ≤ a .cost) × (m .cost ≤ b .cost) × ((m ≡ a) ⊎ (m ≡ b)) → (n .cost ≤ d .cost) × (n .cost ≤ e .cost) × ((n ≡ d) ⊎ (n ≡ e))
+    → (r .cost ≤ m .cost) × (r .cost ≤ n .cost) × ((r ≡ m) ⊎ (r ≡ n)) → LeastCoset c r
+coset-of c a b d e m n r ea eb ed ee hm hn hr =
+    let xa = ap (λ (z : Coset). z .cost) ea in
+    let xb = ap (λ (z : Coset). z .cost) eb in
+    let xd = ap (λ (z : Coset). z .cost) ed in
+    let xe = ap (λ (z : Coset). z .cost) ee in
+    let w =
+    ⊎-elim {C = (r .low < 4) × (r .cost ≡ costOf c (r .low))} (λ g. ⊎-elim {C = (r .low < 4) × (r .cost ≡ costOf c (r .low))} (λ f. by (g ∙ f ∙ ea) (omega arith) refl) (λ f. by (g ∙ f ∙ eb) (omega arith) refl) (hm .2))
+    (λ g. ⊎-elim {C = (r .low < 4) × (r .cost ≡ costOf c (r .low))} (λ f. by (g ∙ f ∙ ed) (omega arith) refl) (λ f. by (g ∙ f ∙ ee) (omega arith) refl) (hn .2)) (hr .2) in
+    record {
+      small = w .0;
+      is = w .1;
+      least0 = omega (arith, hr .0, hm .0, xa);
+      least1 = omega (arith, hr .0, hm .1, xb);
+      least2 = omega (arith, hr .1, hn .0, xd);
+      least3 = omega (arith, hr .1, hn .1, xe);
+    }
+  where
+    by : {k : Coset} → r ≡ k → k .low < 4 → k .cost ≡ costOf c (k .low) → (r .low < 4) × (r .cost ≡ costOf c (r .low))
+    by q l h = subst (λ (z : Coset). (z .low < 4) × (z .cost ≡ costOf c (z .low))) (sym q) (l, h)
+
+-- a number of two bits, by its bits
+two-numbers : (n : ℕ) → n < 4 → weight (odd n) + 2 * weight (odd (n / 2)) ≡ n
+two-numbers n h = let a = weight-odd n in let b = weight-odd (n / 2) in omega arith
+
 -- the nearest label of the nearest coset
-pub best-label : {m : Meter} {c : Costs} {r : Coset} {v : List Bool} → LeastOf m (costOf c) → LeastCoset c r → CosetLabel m (r .v1) (r .v0) v → BestLabel m v (r .cost)
+pub best-label : {m : Meter} {c : Costs} {r : Coset} {v : List Bool} → LeastOf m (costOf c) → LeastCoset c r → CosetLabel m (odd (r .low / 2)) (odd (r .low)) v → BestLabel m v (r .cost)
 unfolding weight
 best-label {m = m} {c = c} {r = r} {v = v} l k h =
-    record { size = h .size; cost = coset-cost l h ∙ sym (k .is); least = go }
+    record { size = h .size; cost = coset-cost l h ∙ ap (costOf c) (two-numbers (r .low) (k .small)) ∙ sym (k .is); least = go }
   where
     under : (v1 v0 : Bool) → r .cost ≤ costOf c (weight v0 + 2 * weight v1)
     under false false = k .least0
@@ -206,3 +197,21 @@ best-label {m = m} {c = c} {r = r} {v = v} l k h =
 
     go : (w : List Bool) → length w ≡ m .bits → r .cost ≤ m .cost w
     go w e = le-by (r .cost) (costOf c (weight (bit w 0) + 2 * weight (bit w 1))) (m .cost w) (under (bit w 1) (bit w 0)) (l .least w e)
+
+-- of 1 bit, where each cost stands twice
+pub best-one : {p : Point} {c : Costs} {r : Coset} → OneCostsOf p c → c .c2 ≡ c .c0 → c .c3 ≡ c .c1 → LeastCoset c r → BestLabel (toneMeter 1 p) (odd (r .low) ∷ []) (r .cost)
+unfolding odd
+best-one {p = p} {c = c} {r = r} o e2 e3 k = record { size = refl; cost = one-cost o (odd (r .low)) ∙ sym (is (r .low) (k .small)) ∙ sym (k .is); least = go }
+  where
+    is : (n : ℕ) → n < 4 → costOf c n ≡ oneCost c (odd n)
+    is zero h = refl
+    is (suc zero) h = refl
+    is (suc (suc zero)) h = e2
+    is (suc (suc (suc zero))) h = e3
+    is (suc (suc (suc (suc n)))) h = absurd (omega arith)
+
+    go : (w : List Bool) → length w ≡ 1 → r .cost ≤ squaredDistance p (pointOf 1 w)
+    go [] e = absurd (omega arith)
+    go (true ∷ []) e = rw (one-cost o true) (k .least1)
+    go (false ∷ []) e = rw (one-cost o false) (k .least0)
+    go (x ∷ y ∷ w) e = absurd (omega arith)

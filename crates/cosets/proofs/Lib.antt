@@ -4,3 +4,4 @@ pub mod Regions
 pub mod Cosets
 pub mod Chosen
 pub mod Labels
+pub mod Shapes

@@ -3,7 +3,10 @@ use Prim.Native.Nat.{ℕ, zero, suc, _+_, _-_, _*_, _/_, _%_, _^_, _≤_, _<_}
 use mathlib.Core.Bool.{Bool, true, false}
 use mathlib.Core.Logic.{_⊎_}
 use mathlib.Core.Path.{_≡_}
+use lib.Dec.{eqb}
+use Rattle.constellation.specs.Layouts.{layoutOf}
 use Rattle.cosets.specs.declared.Near.{Near}
+use Rattle.cosets.specs.declared.Shape.{Shape}
 use Rattle.cosets.specs.declared.Sides.{Sides}
 
 -- a of the places on each side of the origin
@@ -53,3 +56,22 @@ pub record SidesOf (x a c : ℕ) (r : Sides) : Type 0 where
   pub inner1 : SquareTo x a 1 (r .inner1)
   pub outer0 : SquareTo x c 0 (r .outer0)
   pub outer1 : SquareTo x c 1 (r .outer1)
+
+-- ---- a constellation's shape, from its layout
+
+-- sides that the code can work with
+pub record SidesFit (h : Shape) : Type 0 where
+  pub innerLeast : 1 ≤ h .inner
+  pub innerMost : h .inner ≤ 64
+  pub outerLeast : 1 ≤ h .outer
+  pub outerMost : h .outer ≤ 96
+
+-- that of b bits
+pub record ShapeOf (b : ℕ) (h : Shape) : Type 0 where
+  pub innerIs : h .inner ≡ inner b
+  pub outerIs : h .outer ≡ outer b
+  pub threeIs : h .three ≡ eqb b 3
+
+pub record Sided (layout : ℕ) (h : Shape) : Type 0 where
+  pub fits : SidesFit h
+  pub shaped : (b : ℕ) → 2 ≤ b → b ≤ 15 → layout ≡ layoutOf b → ShapeOf b h

@@ -1,16 +1,18 @@
 -- What the labels of an entry cost: the squared distances of their points from received ones.
-use Prim.Native.Nat.{ℕ, _+_, _*_, _≤_}
+use Prim.Native.Nat.{ℕ, _+_, _*_, _/_, _^_, _≤_, _<_}
 use mathlib.Core.Bool.{Bool}
 use mathlib.Core.List.{List, [], _∷_}
 use mathlib.Core.Path.{_≡_}
-use lib.IntN.{ℤ, natAbs}
 use lib.ListN.{length, take, drop, getD}
-use Rattle.g9932.specs.Bits.{bit, weight}
+use Rattle.constellation.specs.Layouts.{layoutOf}
+use Rattle.g9932.specs.Bits.{bit, weight, odd, bits}
 use Rattle.g9932.specs.Nearest.{squaredDistance}
 use Rattle.g9932.specs.Points.{pointOf}
 use Rattle.g9932.specs.Sizes.{Point}
 use Rattle.cosets.specs.declared.Costs.{Costs}
 use Rattle.cosets.specs.declared.Coset.{Coset}
+use Rattle.cosets.specs.declared.Received.{Received}
+use Rattle.cosets.specs.Nearest.{IsReceived, OneCostsOf, SmallCosts}
 
 -- how many bits an entry's labels have, and what each of them costs
 pub record Meter : Type 0 where
@@ -24,10 +26,6 @@ toneMeter n p = record { bits = n; cost = λ v. squaredDistance p (pointOf n v) 
 -- of two tones that share an entry: the first has its lowest bit
 abbrev pub shared : Meter → Meter → Meter
 shared a b = record { bits = 2; cost = λ v. a .cost (take 1 v) + b .cost (take 1 (drop 1 v)) }
-
--- 23 does not apply to a coordinate
-abbrev pub InRange : ℤ → Type 0
-InRange z = natAbs z ≤ 1023
 
 -- the four numbers, by the number (v1 v0) of a label's two lowest bits
 abbrev pub costOf : Costs → ℕ → ℕ
@@ -55,9 +53,28 @@ pub record BestLabel (m : Meter) (v : List Bool) (n : ℕ) : Type 0 where
   pub cost : m .cost v ≡ n
   pub least : (w : List Bool) → length w ≡ m .bits → n ≤ m .cost w
 
+-- ---- by layout, whatever the bits are that it is the layout of
+
+-- the costs of a tone; of 1 bit those of its bit, twice
+pub record CostsBy (layout : ℕ) (s : Received) (r : Costs) : Type 0 where
+  pub tone : (b : ℕ) → 2 ≤ b → b ≤ 15 → layout ≡ layoutOf b → (p : Point) → IsReceived p s → LeastOf (toneMeter b p) (costOf r)
+  pub one : layout ≡ layoutOf 1 → (p : Point) → IsReceived p s → OneCostsOf p r
+  pub again : layout ≡ layoutOf 1 → (r .c2 ≡ r .c0) × (r .c3 ≡ r .c1)
+  pub small : SmallCosts r
+
+-- a nearest label of the coset with the two lowest bits `low`; of 1 bit, `low` itself
+pub record LabelBy (layout : ℕ) (s : Received) (low r : ℕ) : Type 0 where
+  pub tone : (b : ℕ) → 2 ≤ b → b ≤ 15 → layout ≡ layoutOf b → (p : Point) → IsReceived p s → (r < 2 ^ b) × CosetLabel (toneMeter b p) (odd (low / 2)) (odd low) (bits b r)
+  pub one : layout ≡ layoutOf 1 → r ≡ low
+
+-- two tones that share an entry
+abbrev pub sharedCosts : Costs → Costs → Costs
+sharedCosts v w = record { c0 = v .c0 + w .c0; c1 = v .c1 + w .c0; c2 = v .c0 + w .c1; c3 = v .c1 + w .c1 }
+
 -- the coset of the least cost
 pub record LeastCoset (c : Costs) (r : Coset) : Type 0 where
-  pub is : r .cost ≡ costOf c (weight (r .v0) + 2 * weight (r .v1))
+  pub small : r .low < 4
+  pub is : r .cost ≡ costOf c (r .low)
   pub least0 : r .cost ≤ c .c0
   pub least1 : r .cost ≤ c .c1
   pub least2 : r .cost ≤ c .c2

@@ -1,17 +1,23 @@
 -- The nearest point of a coset: among the labels of b bits with given two lowest bits.
-use Prim.Native.Nat.{ℕ, suc, _+_, _*_, _≤_}
+use Prim.Native.Nat.{ℕ, suc, _+_, _*_, _≤_, _<_}
 use mathlib.Core.Bool.{Bool, true, false}
 use mathlib.Core.List.{List, [], _∷_}
 use mathlib.Core.Path.{_≡_}
-use lib.IntN.{ℤ, pos, negsuc}
+use lib.IntN.{ℤ, pos, negsuc, natAbs}
 use lib.ListN.{length}
-use Rattle.g9932.specs.Bits.{bit}
+use Rattle.g9932.specs.Bits.{bit, weight}
 use Rattle.g9932.specs.Sizes.{Point}
 use Rattle.g9932.specs.Points.{pointOf}
 use Rattle.g9932.specs.Nearest.{squaredDistance}
 use Rattle.cosets.specs.declared.Costs.{Costs}
-use Rattle.cosets.specs.declared.OneCosts.{OneCosts}
+use Rattle.cosets.specs.declared.Near.{Near}
 use Rattle.cosets.specs.declared.Received.{Received}
+use Rattle.cosets.specs.declared.Shape.{Shape}
+use Rattle.cosets.specs.Grid.{ShapeOf}
+
+-- 23 does not apply to a coordinate
+abbrev pub InRange : ℤ → Type 0
+InRange z = natAbs z ≤ 1023
 
 -- a coordinate raised by 1,024 is n
 abbrev pub Raised : ℤ → ℕ → Type 0
@@ -57,6 +63,31 @@ pub record CostsOf (b : ℕ) (p : Point) (r : Costs) : Type 0 where
   pub is3 : CosetCost b true true p (r .c3)
 
 -- the squared distances of the two points of a 1-bit tone
-pub record OneCostsOf (p : Point) (r : OneCosts) : Type 0 where
-  pub is0 : squaredDistance p (pointOf 1 (false ∷ [])) ≡ r .d0
-  pub is1 : squaredDistance p (pointOf 1 (true ∷ [])) ≡ r .d1
+pub record OneCostsOf (p : Point) (r : Costs) : Type 0 where
+  pub is0 : squaredDistance p (pointOf 1 (false ∷ [])) ≡ r .c0
+  pub is1 : squaredDistance p (pointOf 1 (true ∷ [])) ≡ r .c1
+
+-- ---- what the steps find, whatever the bits are that they have the shape of
+
+pub record NearestBy (h : Shape) (s : Received) (v1 v0 : ℕ) (r : Near) : Type 0 where
+  pub nearest : (b : ℕ) → 2 ≤ b → b ≤ 15 → ShapeOf b h → (w1 w0 : Bool) → v1 ≡ weight w1 → v0 ≡ weight w0
+      → (p : Point) → RaisedPoint p (s .x) (s .y) → Nearest b w1 w0 p (2 * r .u + 1) (2 * r .w + 1) (r .cost)
+  pub uSmall : r .u < 1024
+  pub wSmall : r .w < 1024
+
+-- no cost is larger
+pub record SmallCosts (r : Costs) : Type 0 where
+  pub small0 : r .c0 ≤ 8_388_608
+  pub small1 : r .c1 ≤ 8_388_608
+  pub small2 : r .c2 ≤ 8_388_608
+  pub small3 : r .c3 ≤ 8_388_608
+
+pub record CostsFor (h : Shape) (s : Received) (r : Costs) : Type 0 where
+  pub costs : (b : ℕ) → 2 ≤ b → b ≤ 15 → ShapeOf b h → (p : Point) → RaisedPoint p (s .x) (s .y) → CostsOf b p r
+  pub small : SmallCosts r
+
+pub record OneCostsFor (s : Received) (r : Costs) : Type 0 where
+  pub costs : (p : Point) → RaisedPoint p (s .x) (s .y) → OneCostsOf p r
+  pub again2 : r .c2 ≡ r .c0
+  pub again3 : r .c3 ≡ r .c1
+  pub small : SmallCosts r
