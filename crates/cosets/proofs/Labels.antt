@@ -1,5 +1,5 @@
 -- From raised coordinates to the labels and costs of an entry.
-use Prim.Native.Nat.{ℕ, zero, suc, _+_, _-_, _*_, _/_, _^_, _≤_, _<_}
+use Prim.Native.Nat.{ℕ, zero, suc, _+_, _-_, _*_, _/_, _^_, _≤_, _<_, min}
 use mathlib.Core.Bool.{Bool, true, false, cond}
 use mathlib.Core.List.{List, [], _∷_}
 use mathlib.Core.Logic.{_⊎_, ⊎-elim}
@@ -152,29 +152,27 @@ coset-cost {m = m} {c = c} {v1 = v1} {v0 = v0} {v = v} l h =
 
 -- ---- the nearest of all labels
 
-pub coset-of : (c : Costs) (a b d e m n r : Coset) → a ≡ record { low = 0; cost = c .c0 } → b ≡ record { low = 1; cost = c .c1 }
-    → d ≡ record { low = 2; cost = c .c2 } → e ≡ record { low = 3; cost = c .c3 }
-    → (m .cost ≤ a .cost) × (m .cost ≤ b .cost) × ((m ≡ a) ⊎ (m ≡ b)) → (n .cost ≤ d .cost) × (n .cost ≤ e .cost) × ((n ≡ d) ⊎ (n ≡ e))
-    → (r .cost ≤ m .cost) × (r .cost ≤ n .cost) × ((r ≡ m) ⊎ (r ≡ n)) → LeastCoset c r
-coset-of c a b d e m n r ea eb ed ee hm hn hr =
-    let xa = ap (λ (z : Coset). z .cost) ea in
-    let xb = ap (λ (z : Coset). z .cost) eb in
-    let xd = ap (λ (z : Coset). z .cost) ed in
-    let xe = ap (λ (z : Coset). z .cost) ee in
-    let w =
-    ⊎-elim {C = (r .low < 4) × (r .cost ≡ costOf c (r .low))} (λ g. ⊎-elim {C = (r .low < 4) × (r .cost ≡ costOf c (r .low))} (λ f. by (g ∙ f ∙ ea) (omega arith) refl) (λ f. by (g ∙ f ∙ eb) (omega arith) refl) (hm .2))
-    (λ g. ⊎-elim {C = (r .low < 4) × (r .cost ≡ costOf c (r .low))} (λ f. by (g ∙ f ∙ ed) (omega arith) refl) (λ f. by (g ∙ f ∙ ee) (omega arith) refl) (hn .2)) (hr .2) in
-    record {
-      small = w .0;
-      is = w .1;
-      least0 = omega (arith, hr .0, hm .0, xa);
-      least1 = omega (arith, hr .0, hm .1, xb);
-      least2 = omega (arith, hr .1, hn .0, xd);
-      least3 = omega (arith, hr .1, hn .1, xe);
-    }
+-- the nearer of two
+abbrev pub Nearer : Coset → Coset → Coset → Type 0
+Nearer a b r = (r .cost ≡ min (a .cost) (b .cost)) × ((r ≡ a) ⊎ ((r ≡ b) × (b .cost < a .cost)))
+
+pub coset-of : (c : Costs) (m n r : Coset) → Nearer (record { low = 0; cost = c .c0 }) (record { low = 1; cost = c .c1 }) m → Nearer (record { low = 2; cost = c .c2 }) (record { low = 3; cost = c .c3 }) n
+    → Nearer m n r → LeastCoset c r
+coset-of c m n r hm hn hr =
+    let w = ⊎-elim {C = Found} (λ g. ⊎-elim {C = Found} (λ f. here (g ∙ f) (omega arith) refl (omega arith)) (λ f. here (g ∙ f .0) (omega arith) refl (omega arith)) (hm .1))
+    (λ g. let l = g .1 in ⊎-elim {C = Found} (λ f. there (g .0 ∙ f) (omega arith) refl l) (λ f. there (g .0 ∙ f .0) (omega arith) refl l) (hn .1)) (hr .1) in
+    record { small = w .0; is = w .1; least = hr .0 ∙ (λ i. min (hm .0 i) (hn .0 i)); bit = w .2 }
   where
-    by : {k : Coset} → r ≡ k → k .low < 4 → k .cost ≡ costOf c (k .low) → (r .low < 4) × (r .cost ≡ costOf c (r .low))
-    by q l h = subst (λ (z : Coset). (z .low < 4) × (z .cost ≡ costOf c (z .low))) (sym q) (l, h)
+    Found : Type 0
+    Found = (r .low < 4) × (r .cost ≡ costOf c (r .low)) × (c .c2 ≡ c .c0 → c .c3 ≡ c .c1 → r .low < 2)
+
+    here : {k : Coset} → r ≡ k → k .low < 4 → k .cost ≡ costOf c (k .low) → k .low < 2 → Found
+    here q l h t = subst (λ (z : Coset). (z .low < 4) × (z .cost ≡ costOf c (z .low)) × (c .c2 ≡ c .c0 → c .c3 ≡ c .c1 → z .low < 2)) (sym q) (l, h, λ _ _. t)
+
+    there : {k : Coset} → r ≡ k → k .low < 4 → k .cost ≡ costOf c (k .low) → n .cost < m .cost → Found
+    there q l h t =
+        subst (λ (z : Coset). (z .low < 4) × (z .cost ≡ costOf c (z .low)) × (c .c2 ≡ c .c0 → c .c3 ≡ c .c1 → z .low < 2)) (sym q)
+        (l, h, λ e f. absurd (omega (arith, hm .0, hn .0, e, f, t)))
 
 -- a number of two bits, by its bits
 two-numbers : (n : ℕ) → n < 4 → weight (odd n) + 2 * weight (odd (n / 2)) ≡ n
@@ -187,10 +185,10 @@ best-label {m = m} {c = c} {r = r} {v = v} l k h =
     record { size = h .size; cost = coset-cost l h ∙ ap (costOf c) (two-numbers (r .low) (k .small)) ∙ sym (k .is); least = go }
   where
     under : (v1 v0 : Bool) → r .cost ≤ costOf c (weight v0 + 2 * weight v1)
-    under false false = k .least0
-    under false true = k .least1
-    under true false = k .least2
-    under true true = k .least3
+    under false false = omega (arith, k .least)
+    under false true = omega (arith, k .least)
+    under true false = omega (arith, k .least)
+    under true true = omega (arith, k .least)
 
     le-by : (x y z : ℕ) → x ≤ y → y ≤ z → x ≤ z
     le-by x y z p q = omega arith
@@ -212,6 +210,6 @@ best-one {p = p} {c = c} {r = r} o e2 e3 k = record { size = refl; cost = one-co
 
     go : (w : List Bool) → length w ≡ 1 → r .cost ≤ squaredDistance p (pointOf 1 w)
     go [] e = absurd (omega arith)
-    go (true ∷ []) e = rw (one-cost o true) (k .least1)
-    go (false ∷ []) e = rw (one-cost o false) (k .least0)
+    go (true ∷ []) e = rw (one-cost o true) (omega (arith, k .least))
+    go (false ∷ []) e = rw (one-cost o false) (omega (arith, k .least))
     go (x ∷ y ∷ w) e = absurd (omega arith)

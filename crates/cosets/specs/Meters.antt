@@ -1,5 +1,5 @@
 -- What the labels of an entry cost: the squared distances of their points from received ones.
-use Prim.Native.Nat.{ℕ, _+_, _*_, _/_, _^_, _≤_, _<_}
+use Prim.Native.Nat.{ℕ, _+_, _*_, _/_, _^_, _≤_, _<_, min}
 use mathlib.Core.Bool.{Bool}
 use mathlib.Core.List.{List, [], _∷_}
 use mathlib.Core.Path.{_≡_}
@@ -71,11 +71,12 @@ pub record LabelBy (layout : ℕ) (s : Received) (low r : ℕ) : Type 0 where
 abbrev pub sharedCosts : Costs → Costs → Costs
 sharedCosts v w = record { c0 = v .c0 + w .c0; c1 = v .c1 + w .c0; c2 = v .c0 + w .c1; c3 = v .c1 + w .c1 }
 
--- the coset of the least cost
+-- the coset of the least cost; where the costs stand twice, one of the first two
+abbrev pub leastCost : Costs → ℕ
+leastCost c = min (min (c .c0) (c .c1)) (min (c .c2) (c .c3))
+
 pub record LeastCoset (c : Costs) (r : Coset) : Type 0 where
   pub small : r .low < 4
   pub is : r .cost ≡ costOf c (r .low)
-  pub least0 : r .cost ≤ c .c0
-  pub least1 : r .cost ≤ c .c1
-  pub least2 : r .cost ≤ c .c2
-  pub least3 : r .cost ≤ c .c3
+  pub least : r .cost ≡ leastCost c
+  pub bit : c .c2 ≡ c .c0 → c .c3 ≡ c .c1 → r .low < 2

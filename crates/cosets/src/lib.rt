@@ -263,12 +263,12 @@ pub struct Coset {
 
 // The nearer of two cosets.
 fn nearer(a: Coset, b: Coset) -> Coset
-    ensures { λ r. ⌜ (r .cost ≤ a .cost) × (r .cost ≤ b .cost) × ((r ≡ a) ⊎ (r ≡ b)) ⌝ }
+    ensures { λ r. ⌜ (r .cost ≡ min (a .cost) (b .cost)) × ((r ≡ a) ⊎ ((r ≡ b) × (b .cost < a .cost))) ⌝ }
 {
     if b.cost < a.cost { b } else { a }
 }
 
-// The nearest coset.
+// The nearest coset, the first of several. Of 1 bit, whose costs stand twice, it is the nearest bit.
 pub fn least_coset(c: Costs) -> Coset
     ensures { λ r. ⌜ LeastCoset c r ⌝ }
 {

@@ -17,7 +17,7 @@ nearer-requires-3 : tie.Need-nearer-requires-3
 nearer-requires-3 c κs = search needs
 
 returns : tie.Need-returns
-returns c = coset-of _ _ _ _ _ _ _ _ refl refl refl refl (c .before .before .nearer .ensures) (c .before .nearer2 .ensures) (c .nearer3 .ensures)
+returns c = coset-of _ _ _ _ (c .before .before .nearer .ensures) (c .before .nearer2 .ensures) (c .nearer3 .ensures)
 
 pub least-coset-spec : {M : Type 1} → statement M
 least-coset-spec = tie.close (tie.spec nearer-requires nearer-requires-2 nearer-requires-3 returns)

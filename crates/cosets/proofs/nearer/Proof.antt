@@ -1,5 +1,4 @@
 use native.Mathlib.Omega.{arith}
-use native.Mathlib.Nat.{le-of-lt}
 use mathlib.Core.Path.{refl}
 use mathlib.Core.Logic.{inl, inr}
 use borrow.Author.Needs.{needs}
@@ -9,10 +8,10 @@ use Rattle.cosets.proofs.nearer.Reads as reads
 use Rattle.cosets.proofs.nearer.Lts as lts
 
 returns : tie.Need-returns
-returns c = (le-of-lt (c .if1 .taken), omega arith, inr refl)
+returns c = (omega (arith, c .if1 .taken), inr (refl, c .if1 .taken))
 
 returns-2 : tie.Need-returns-2
-returns-2 c = (omega arith, c .if1 .left, inl refl)
+returns-2 c = (omega (arith, c .if1 .left), inl refl)
 
 pub nearer-spec : {M : Type 1} → statement M
 nearer-spec = tie.close (tie.spec returns returns-2)
