@@ -1,9 +1,3 @@
-pub mod Deciding
+pub mod Places
 pub mod Selecting
-pub mod ToneLabels
-pub mod PathLabels
-pub mod NearestInputs
-pub mod PlanMeters
-pub mod NearestPlan
-pub mod PlannedReading
-pub mod WholeNearest
+pub mod Tracing

@@ -1,21 +1,82 @@
--- Labels decided entry by entry: coded along the survivors of the trellis, uncoded tone by tone.
+-- What the labels of each place and of each entry cost, and labels decided by it: coded along the survivors of the trellis, uncoded tone by
+-- tone.
 use Prim.Native.Nat.{ℕ, zero, suc, _+_, _*_, _/_, _%_, _^_, _≤_, _<_}
 use mathlib.Core.Bool.{Bool, true, false}
 use mathlib.Core.List.{List, [], _∷_, _++_}
 use mathlib.Core.Path.{_≡_}
-use lib.IntN.{ℤ}
-use lib.ListN.{length, set}
-use Rattle.cosets.specs.Meters.{Meter, CosetLabel, BestLabel}
-use Rattle.frame.specs.Labels.{bitsOfLabels, Within, labelsAt}
-use Rattle.g9932.specs.Bits.{bits}
+use lib.Dec.{ltb}
+use lib.IntN.{ℤ, pos}
+use lib.ListN.{length, getD}
+use Rattle.constellation.specs.Layouts.{layoutOf, ToneLayout}
+use Rattle.cosets.specs.Meters.{Meter, toneMeter, costOf, LeastOf, CosetLabel, BestLabel, sharedCosts, leastCost}
+use Rattle.cosets.specs.Nearest.{InRange, OneCostsOf, SmallCosts}
+use Rattle.cosets.specs.declared.Costs.{Costs}
+use Rattle.frame.specs.Labels.{Rising}
+use Rattle.g9932.specs.Bits.{weight, odd, bits}
 use Rattle.g9932.specs.Order.{isOne}
-use Rattle.g9932.specs.Sizes.{entry, Point, points, mostTones}
+use Rattle.g9932.specs.Sizes.{entry, Point, origin, mostTones}
 use Rattle.g9932.specs.Trellis.{zeroState}
 use Rattle.g9932.specs.declared.LowBits.{LowBits}
 use Rattle.paths.specs.Frames.{PairMeter, Matches}
 use Rattle.paths.specs.Paths.{Branch, Shortest}
 use Rattle.paths.specs.Survivors.{follow, lowAt, Surviving}
-use Rattle.nearest.specs.Entries.{metersIn, meterAt, Decidable}
+use Rattle.nearest.specs.Entries.{meterAt}
+
+-- ---- by place: four lists, one for each coset
+
+abbrev pub costsOf : List ℕ → List ℕ → List ℕ → List ℕ → ℕ → Costs
+costsOf k0 k1 k2 k3 i = record { c0 = entry k0 i; c1 = entry k1 i; c2 = entry k2 i; c3 = entry k3 i }
+
+-- every place has a tone's layout and a point in range
+pub record PlaceNeeds (layouts : List ℕ) (xs ys : List ℤ) : Type 0 where
+  pub layoutsLength : length layouts ≡ length xs
+  pub ysLength : length ys ≡ length xs
+  pub ofTones : (i : ℕ) → i < length xs → ToneLayout (entry layouts i)
+  pub xInRange : (i : ℕ) → i < length xs → InRange (getD xs i (pos 0))
+  pub yInRange : (i : ℕ) → i < length xs → InRange (getD ys i (pos 0))
+
+pub record CostNeeds (layouts : List ℕ) (xs ys : List ℤ) (k0 k1 k2 k3 : List ℕ) : Type 0 where
+  pub places : PlaceNeeds layouts xs ys
+  pub length0 : length k0 ≡ length xs
+  pub length1 : length k1 ≡ length xs
+  pub length2 : length k2 ≡ length xs
+  pub length3 : length k3 ≡ length xs
+
+-- what a tone that was received at p costs, whatever its bits; of 1 bit each cost stands twice
+pub record PlaceCosts (layout : ℕ) (p : Point) (r : Costs) : Type 0 where
+  pub tone : (b : ℕ) → 2 ≤ b → b ≤ 15 → layout ≡ layoutOf b → LeastOf (toneMeter b p) (costOf r)
+  pub one : layout ≡ layoutOf 1 → OneCostsOf p r
+  pub again : layout ≡ layoutOf 1 → (r .c2 ≡ r .c0) × (r .c3 ≡ r .c1)
+  pub small : SmallCosts r
+
+-- of the first n places
+pub record Costed (layouts : List ℕ) (q : List Point) (k0 k1 k2 k3 : List ℕ) (n : ℕ) : Type 0 where
+  pub costs : (i : ℕ) → i < n → PlaceCosts (entry layouts i) (getD q i origin) (costsOf k0 k1 k2 k3 i)
+  pub length0 : length k0 ≡ length layouts
+  pub length1 : length k1 ≡ length layouts
+  pub length2 : length k2 ≡ length layouts
+  pub length3 : length k3 ≡ length layouts
+
+-- ---- by entry: those of its tone, or of the two that share it
+
+abbrev pub costBy : Bool → List ℕ → List ℕ → List ℕ → List ℕ → ℕ → Costs
+costBy true k0 k1 k2 k3 p = costsOf k0 k1 k2 k3 p
+costBy false k0 k1 k2 k3 p = sharedCosts (costsOf k0 k1 k2 k3 p) (costsOf k0 k1 k2 k3 (p + 1))
+
+abbrev pub entryCosts : ℕ → List ℕ → List ℕ → List ℕ → List ℕ → List ℕ → ℕ → Costs
+entryCosts from ps k0 k1 k2 k3 k = costBy (ltb (entry ps k) from) k0 k1 k2 k3 (entry ps k)
+
+-- the four lists, as long, with costs that can be added; and the places that rise in them, a shared one with the next
+pub record CostLists (k0 k1 k2 k3 : List ℕ) : Type 0 where
+  pub length1 : length k1 ≡ length k0
+  pub length2 : length k2 ≡ length k0
+  pub length3 : length k3 ≡ length k0
+  pub small : (i : ℕ) → i < length k0 → SmallCosts (costsOf k0 k1 k2 k3 i)
+
+pub record EntryNeeds (from : ℕ) (ps k0 k1 k2 k3 : List ℕ) : Type 0 where
+  pub lists : CostLists k0 k1 k2 k3
+  pub inside : (k : ℕ) → k < length ps → entry ps k < length k0
+  pub sharedInside : (k : ℕ) → k < length ps → from ≤ entry ps k → suc (entry ps k) < length k0
 
 -- ---- entries in pairs, the first with x = 0 where their number is odd
 
@@ -37,16 +98,22 @@ pairMeters ms = metersInTwos (meterInFront (isOne (length ms % 2)) ms)
 
 -- 1 where the first pair has x = 0
 abbrev pub loneIn : List ℕ → ℕ
-loneIn es = length es % 2
+loneIn ps = length ps % 2
 
--- 16 survivors a pair
-pub record PathNeeds (from : ℕ) (es ps : List ℕ) (xs ys : List ℤ) (σ : List ℕ) : Type 0 where
-  pub decidable : Decidable 2 from es ps xs ys
-  pub enough : 4 ≤ length es
-  pub many : length es ≤ mostTones
-  pub sixteens : length σ ≡ 16 * ((length es + 1) / 2)
+-- the entries' costs are those of these meters, of at least 2 bits each
+pub record MeterCosts (ms : List Meter) (from : ℕ) (ps k0 k1 k2 k3 : List ℕ) : Type 0 where
+  pub count : length ms ≡ length ps
+  pub bitsLeast : (k : ℕ) → k < length ms → 2 ≤ getD ms k noMeter .bits
+  pub costs : (k : ℕ) → k < length ms → LeastOf (getD ms k noMeter) (costOf (entryCosts from ps k0 k1 k2 k3 k))
 
 -- ---- add, compare, select
+
+-- 16 survivors a pair
+pub record PathNeeds (from : ℕ) (ps k0 k1 k2 k3 σ : List ℕ) : Type 0 where
+  pub entries : EntryNeeds from ps k0 k1 k2 k3
+  pub enough : 4 ≤ length ps
+  pub many : length ps ≤ mostTones
+  pub sixteens : length σ ≡ 16 * ((length ps + 1) / 2)
 
 -- from each state of pair j the survivors give a shortest path over the pairs of the entries' meters
 pub record Selected (ms : List Meter) (j : ℕ) (σ m : List ℕ) : Type 0 where
@@ -80,39 +147,70 @@ upperAt σ t = upperBy (t % 2) (lowAt σ (t / 2))
 abbrev pub lowerAt : List ℕ → ℕ → Bool
 lowerAt σ t = lowerBy (t % 2) (lowAt σ (t / 2))
 
-pub record TraceNeeds (from : ℕ) (es ps : List ℕ) (xs ys : List ℤ) (σ labels : List ℕ) : Type 0 where
-  pub path : PathNeeds from es ps xs ys σ
-  pub labelsLength : length labels ≡ length xs
+-- as a number
+abbrev pub lowNumber : Bool → Bool → ℕ
+lowNumber v1 v0 = weight v0 + 2 * weight v1
+
+pub record TraceNeeds (ps σ labels : List ℕ) : Type 0 where
+  pub rising : Rising ps (length labels)
+  pub enough : 4 ≤ length ps
+  pub many : length ps ≤ mostTones
+  pub sixteens : length σ ≡ 16 * ((length ps + 1) / 2)
+
+-- the first n entries have the lowest bits that the survivors give, at their places
+pub record LowTraced (ps σ labels : List ℕ) (n : ℕ) : Type 0 where
+  pub low : (k : ℕ) → k < n → entry labels (entry ps k) ≡ lowNumber (upperAt σ (loneIn ps + k)) (lowerAt σ (loneIn ps + k))
 
 -- l is a nearest label of its coset, as a number
 pub record CosetNumber (m : Meter) (v1 v0 : Bool) (l : ℕ) : Type 0 where
   pub small : l < 2 ^ m .bits
   pub nearest : CosetLabel m v1 v0 (bits (m .bits) l)
 
--- such a label put at a place
-pub record PutsNearest (m : Meter) (v1 v0 : Bool) (p : ℕ) (labels after : List ℕ) : Type 0 where
-  pub label : ℕ
-  pub is : after ≡ set labels p label
-  pub nearest : CosetNumber m v1 v0 label
-
 -- the labels of the first n entries are nearest ones, with the lowest bits that the survivors give
 pub record Traced (from : ℕ) (es ps : List ℕ) (q : List Point) (σ labels : List ℕ) (n : ℕ) : Type 0 where
-  pub decided : (k : ℕ) → k < n → CosetNumber (meterAt from q es ps k) (upperAt σ (loneIn es + k)) (lowerAt σ (loneIn es + k)) (entry labels (entry ps k))
+  pub decided : (k : ℕ) → k < n → CosetNumber (meterAt from q es ps k) (upperAt σ (loneIn ps + k)) (lowerAt σ (loneIn ps + k)) (entry labels (entry ps k))
 
--- ---- uncoded
+-- ---- labels from their two lowest bits
+
+-- a nearest label with the lowest bits of `low`, whatever the tone's bits; of 1 bit, `low` itself
+pub record PlaceLabel (layout : ℕ) (p : Point) (low r : ℕ) : Type 0 where
+  pub tone : (b : ℕ) → 2 ≤ b → b ≤ 15 → layout ≡ layoutOf b → (r < 2 ^ b) × CosetLabel (toneMeter b p) (odd (low / 2)) (odd low) (bits b r)
+  pub one : layout ≡ layoutOf 1 → r ≡ low
+
+pub record LabelNeeds (layouts : List ℕ) (xs ys : List ℤ) (labels : List ℕ) : Type 0 where
+  pub places : PlaceNeeds layouts xs ys
+  pub labelsLength : length labels ≡ length xs
+
+-- of the first n places
+pub record PlaceLabels (layouts : List ℕ) (q : List Point) (lows labels : List ℕ) (n : ℕ) : Type 0 where
+  pub labelled : (i : ℕ) → i < n → PlaceLabel (entry layouts i) (getD q i origin) (entry lows i % 4) (entry labels i)
+  pub kept : (i : ℕ) → n ≤ i → entry labels i ≡ entry lows i
+  pub labelsLength : length labels ≡ length lows
+
+-- ---- uncoded: the nearest coset of each tone
+
+pub record ToneNeeds (ps k0 k1 k2 k3 labels : List ℕ) : Type 0 where
+  pub lists : CostLists k0 k1 k2 k3
+  pub rising : Rising ps (length k0)
+  pub many : length ps ≤ mostTones
+  pub labelsLength : length labels ≡ length k0
+
+-- the least cost of each place, added up
+abbrev pub leastTotal : List ℕ → List ℕ → List ℕ → List ℕ → List ℕ → ℕ
+leastTotal k0 k1 k2 k3 [] = 0
+leastTotal k0 k1 k2 k3 (p ∷ ps) = leastTotal k0 k1 k2 k3 ps + leastCost (costsOf k0 k1 k2 k3 p)
+
+-- the coset at a place is the one of the least cost; where the costs stand twice, one of the first two
+pub record LeastLow (r : Costs) (low : ℕ) : Type 0 where
+  pub small : low < 4
+  pub is : costOf r low ≡ leastCost r
+  pub bit : r .c2 ≡ r .c0 → r .c3 ≡ r .c1 → low < 2
+
+pub record LeastLows (ps k0 k1 k2 k3 labels : List ℕ) (n : ℕ) : Type 0 where
+  pub low : (k : ℕ) → k < length ps → LeastLow (costsOf k0 k1 k2 k3 (entry ps k)) (entry labels (entry ps k))
+  pub total : n ≡ leastTotal k0 k1 k2 k3 ps
 
 -- nearest labels one after the other, as bits, and their cost
 pub data BestAll : List Meter → List Bool → ℕ → Type 0 where
   none : BestAll [] [] 0
   more : {m : Meter} {ms : List Meter} {v d : List Bool} {c n : ℕ} → BestLabel m v c → BestAll ms d n → BestAll (m ∷ ms) (v ++ d) (c + n)
-
--- every tone has an entry of its own
-pub record ToneNeeds (es ps : List ℕ) (xs ys : List ℤ) (labels : List ℕ) : Type 0 where
-  pub decidable : Decidable 1 (length xs) es ps xs ys
-  pub many : length es ≤ mostTones
-  pub labelsLength : length labels ≡ length xs
-
--- the labels at the entries' places are nearest, within their bits, and n is what they cost
-pub record DecidesTones (from : ℕ) (es ps : List ℕ) (q : List Point) (labels : List ℕ) (n : ℕ) : Type 0 where
-  pub within : Within es (labelsAt ps labels) (length es)
-  pub best : BestAll (metersIn from q es ps) (bitsOfLabels es (labelsAt ps labels)) n

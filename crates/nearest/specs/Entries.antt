@@ -6,7 +6,8 @@ use mathlib.Core.Path.{_≡_}
 use lib.Dec.{ltb}
 use lib.IntN.{ℤ, pos}
 use lib.ListN.{length, getD}
-use Rattle.cosets.specs.Meters.{Meter, toneMeter, shared, InRange}
+use Rattle.cosets.specs.Meters.{Meter, toneMeter, shared}
+use Rattle.cosets.specs.Nearest.{InRange}
 use Rattle.frame.specs.Labels.{Rising}
 use Rattle.g9932.specs.Sizes.{entry, Point, origin}
 
@@ -24,13 +25,6 @@ metersIn from q (e ∷ es) (p ∷ ps) = meterBy (ltb p from) e p q ∷ metersIn 
 -- of entry k
 abbrev pub meterAt : ℕ → List Point → List ℕ → List ℕ → ℕ → Meter
 meterAt from q es ps k = meterBy (ltb (entry ps k) from) (entry es k) (entry ps k) q
-
--- a place whose point can be decided
-pub record PointNeeds (xs ys : List ℤ) (p : ℕ) : Type 0 where
-  pub inside : p < length xs
-  pub ysLength : length ys ≡ length xs
-  pub xInRange : InRange (getD xs p (pos 0))
-  pub yInRange : InRange (getD ys p (pos 0))
 
 -- the points can be decided: every coordinate is in range, and each entry has a place and from `least` to 15 bits, 2 where it is shared
 pub record Decidable (least from : ℕ) (es ps : List ℕ) (xs ys : List ℤ) : Type 0 where

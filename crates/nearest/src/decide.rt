@@ -1,15 +1,15 @@
-// The labels that are decided for received points, each at its entry's place. Proved code alone calls what has a `requires`.
+// The labels that are decided for received points. Costs and labels go by place in t', in loops whose steps are the same at every place: the
+// compiler takes several places at a time. Between them the trellis is searched entry by entry. Proved code alone calls what has a
+// `requires`.
+ghost use mathlib.Core.List.{List};
 ghost use mathlib.Core.Path.{_≡_};
-ghost use Prim.Native.Nat.{_^_, _<_};
-ghost use lib.ListN.{length, drop, getD};
-ghost use Rattle.cosets.specs.Meters.{costOf, LeastOf};
-ghost use Rattle.cosets.specs.Nearest.{IsReceived};
-ghost use Rattle.g9932.specs.Sizes.{entry, points, origin};
-ghost use Rattle.nearest.specs.Entries.{metersIn, meterAt, PointNeeds, Decidable};
-ghost use Rattle.nearest.specs.Deciding.{loneIn, pairMeters, PathNeeds, Selected, LeastPath, CosetNumber, PutsNearest, TraceNeeds, Traced, ToneNeeds, DecidesTones};
+ghost use Prim.Native.Nat.{_<_};
+ghost use lib.ListN.{length, drop};
+ghost use Rattle.cosets.specs.Meters.{Meter};
+ghost use Rattle.g9932.specs.Sizes.{points};
+ghost use Rattle.nearest.specs.Deciding.{costsOf, CostNeeds, Costed, entryCosts, EntryNeeds, CostLists, loneIn, pairMeters, MeterCosts, PathNeeds, Selected, LeastPath, TraceNeeds, LowTraced, LabelNeeds, PlaceLabels, ToneNeeds, LeastLows, lowNumber};
 ghost use Rattle.paths.specs.Survivors.{stateAt};
 use cosets::Costs;
-use cosets::Received;
 use frame::by_place::place_at;
 use frame::by_place::put_label;
 use g9932::Place;
@@ -17,80 +17,90 @@ use g9932::TrellisState;
 use trellis::weight;
 use trellis::zero_state;
 
-// The point received at a place.
-fn received_at(xs: &[i16], ys: &[i16], p: Place) -> Received
-    requires { ⌜ PointNeeds (now xs) (now ys) (p .0) ⌝ }
-    ensures { λ r. ⌜ IsReceived (getD (points (now (xs .entry)) (now (ys .entry))) (p .0) origin) r ⌝ }
+// What the labels of every place cost, by coset.
+pub fn cost_places(
+    layouts: &[u16],
+    xs: &[i16],
+    ys: &[i16],
+    k0: &mut [u32],
+    k1: &mut [u32],
+    k2: &mut [u32],
+    k3: &mut [u32],
+)
+    requires { ⌜ CostNeeds (now layouts) (now xs) (now ys) (now k0) (now k1) (now k2) (now k3) ⌝ }
+    ensures { λ _. ⌜ Costed (now (layouts .entry)) (points (now (xs .entry)) (now (ys .entry))) (now (k0 .exit)) (now (k1 .exit)) (now (k2 .exit)) (now (k3 .exit)) (length (now (xs .entry))) ⌝ }
+{
+    let mut i = 0;
+    while i < xs.len() {
+        let c = cosets::costs_by(layouts[i], cosets::raise_point(xs[i], ys[i]));
+        k0[i] = c.c0;
+        k1[i] = c.c1;
+        k2[i] = c.c2;
+        k3[i] = c.c3;
+        i += 1;
+    }
+}
+
+// The costs of a place.
+fn costs_at(k0: &[u32], k1: &[u32], k2: &[u32], k3: &[u32], p: Place) -> Costs
+    requires { ⌜ CostLists (now k0) (now k1) (now k2) (now k3) × (p .0 < length (now k0)) ⌝ }
+    ensures { λ r. ⌜ r ≡ costsOf (now (k0 .entry)) (now (k1 .entry)) (now (k2 .entry)) (now (k3 .entry)) (p .0) ⌝ }
 {
     let at = p.0;
-    cosets::raise_point(xs[at], ys[at])
+    Costs {
+        c0: k0[at],
+        c1: k1[at],
+        c2: k2[at],
+        c3: k3[at],
+    }
 }
 
-// What the labels of an entry cost, by their two lowest bits.
+// The costs of an entry.
 fn entry_costs(
-    entries: &[u8],
     places: &[u16],
     shared_from: Place,
-    xs: &[i16],
-    ys: &[i16],
+    k0: &[u32],
+    k1: &[u32],
+    k2: &[u32],
+    k3: &[u32],
     k: usize,
 ) -> Costs
-    requires { ⌜ Decidable 2 («shared_from» .0) (now entries) (now places) (now xs) (now ys) × (k < length (now entries)) ⌝ }
-    ensures { λ r. ⌜ LeastOf (meterAt («shared_from» .0) (points (now (xs .entry)) (now (ys .entry))) (now (entries .entry)) (now (places .entry)) k) (costOf r) ⌝ }
+    requires { ⌜ EntryNeeds («shared_from» .0) (now places) (now k0) (now k1) (now k2) (now k3) × (k < length (now places)) ⌝ }
+    ensures { λ r. ⌜ r ≡ entryCosts («shared_from» .0) (now (places .entry)) (now (k0 .entry)) (now (k1 .entry)) (now (k2 .entry)) (now (k3 .entry)) k ⌝ }
 {
     let p = place_at(places, k);
-    let s = received_at(xs, ys, p);
+    let v = costs_at(k0, k1, k2, k3, p);
     if p.0 < shared_from.0 {
-        return cosets::tone_costs(entries[k], s);
+        return v;
     }
-    let t = received_at(xs, ys, Place(p.0 + 1));
-    cosets::shared_costs(s, t)
-}
-
-// The nearest label of an entry with given lowest bits.
-fn entry_label(
-    entries: &[u8],
-    places: &[u16],
-    shared_from: Place,
-    xs: &[i16],
-    ys: &[i16],
-    k: usize,
-    v1: bool,
-    v0: bool,
-) -> u32
-    requires { ⌜ Decidable 2 («shared_from» .0) (now entries) (now places) (now xs) (now ys) × (k < length (now entries)) ⌝ }
-    ensures { λ r. ⌜ CosetNumber (meterAt («shared_from» .0) (points (now (xs .entry)) (now (ys .entry))) (now (entries .entry)) (now (places .entry)) k) v1 v0 r × (r < 2 ^ 15) ⌝ }
-{
-    let p = place_at(places, k);
-    if p.0 < shared_from.0 {
-        let s = received_at(xs, ys, p);
-        return cosets::coset_label(entries[k], s, v1, v0);
-    }
-    weight(v0) + 2 * weight(v1)
+    let w = costs_at(k0, k1, k2, k3, Place(p.0 + 1));
+    cosets::shared_costs(v, w)
 }
 
 // Add, compare and select from the last pair to the first with x at least 2: the metrics before it, and the survivors.
 fn select_pairs(
-    entries: &[u8],
     places: &[u16],
     shared_from: Place,
-    xs: &[i16],
-    ys: &[i16],
+    k0: &[u32],
+    k1: &[u32],
+    k2: &[u32],
+    k3: &[u32],
     survivors: &mut [u8],
 ) -> [u64; 16]
-    requires { ⌜ PathNeeds («shared_from» .0) (now entries) (now places) (now xs) (now ys) (now survivors) ⌝ }
-    ensures { λ r. ⌜ Selected (drop (loneIn (now (entries .entry))) (metersIn («shared_from» .0) (points (now (xs .entry)) (now (ys .entry))) (now (entries .entry)) (now (places .entry))))
-        (loneIn (now (entries .entry))) (now (survivors .exit)) r ⌝ }
+    requires { ⌜ PathNeeds («shared_from» .0) (now places) (now k0) (now k1) (now k2) (now k3) (now survivors)
+        × ((ms : List Meter) × MeterCosts ms («shared_from» .0) (now places) (now k0) (now k1) (now k2) (now k3)) ⌝ }
+    ensures { λ r. ⌜ ((ms : List Meter) → MeterCosts ms («shared_from» .0) (now (places .entry)) (now (k0 .entry)) (now (k1 .entry)) (now (k2 .entry)) (now (k3 .entry))
+        → Selected (drop (loneIn (now (places .entry))) ms) (loneIn (now (places .entry))) (now (survivors .exit)) r) ⌝ }
 {
-    let lone = entries.len() % 2;
-    let n = (entries.len() + 1) / 2;
+    let lone = places.len() % 2;
+    let n = (places.len() + 1) / 2;
     let mut metric = [0u64; 16];
     let mut j = n;
     while j > lone {
         j -= 1;
         let k = 2 * j - lone;
-        let v = entry_costs(entries, places, shared_from, xs, ys, k);
-        let w = entry_costs(entries, places, shared_from, xs, ys, k + 1);
+        let v = entry_costs(places, shared_from, k0, k1, k2, k3, k);
+        let w = entry_costs(places, shared_from, k0, k1, k2, k3, k + 1);
         let edges = paths::edges_of(v, w);
         metric = paths::advance(&metric, &edges, n - j < 3, survivors, 16 * j);
     }
@@ -99,140 +109,99 @@ fn select_pairs(
 
 // The survivors of a path of least cost, and that cost.
 pub fn least_path(
-    entries: &[u8],
     places: &[u16],
     shared_from: Place,
-    xs: &[i16],
-    ys: &[i16],
+    k0: &[u32],
+    k1: &[u32],
+    k2: &[u32],
+    k3: &[u32],
     survivors: &mut [u8],
 ) -> u64
-    requires { ⌜ PathNeeds («shared_from» .0) (now entries) (now places) (now xs) (now ys) (now survivors) ⌝ }
-    ensures { λ r. ⌜ LeastPath (pairMeters (metersIn («shared_from» .0) (points (now (xs .entry)) (now (ys .entry))) (now (entries .entry)) (now (places .entry)))) (now (survivors .exit)) r ⌝ }
+    requires { ⌜ PathNeeds («shared_from» .0) (now places) (now k0) (now k1) (now k2) (now k3) (now survivors)
+        × ((ms : List Meter) × MeterCosts ms («shared_from» .0) (now places) (now k0) (now k1) (now k2) (now k3)) ⌝ }
+    ensures { λ r. ⌜ ((ms : List Meter) → MeterCosts ms («shared_from» .0) (now (places .entry)) (now (k0 .entry)) (now (k1 .entry)) (now (k2 .entry)) (now (k3 .entry))
+        → LeastPath (pairMeters ms) (now (survivors .exit)) r) ⌝ }
 {
-    let metric = select_pairs(entries, places, shared_from, xs, ys, survivors);
-    if entries.len() % 2 == 1 {
-        let w = entry_costs(entries, places, shared_from, xs, ys, 0);
+    let metric = select_pairs(places, shared_from, k0, k1, k2, k3, survivors);
+    if places.len() % 2 == 1 {
+        let w = entry_costs(places, shared_from, k0, k1, k2, k3, 0);
         return paths::first_alone(w, &metric, survivors);
     }
     metric[0] / 8
 }
 
-// Puts the nearest label of an entry with given lowest bits at its place.
-fn put_nearest(
-    entries: &[u8],
-    places: &[u16],
-    shared_from: Place,
-    xs: &[i16],
-    ys: &[i16],
-    k: usize,
-    v1: bool,
-    v0: bool,
-    labels: &mut [u16],
-)
-    requires { ⌜ Decidable 2 («shared_from» .0) (now entries) (now places) (now xs) (now ys) × (k < length (now entries)) × (length (now labels) ≡ length (now xs)) ⌝ }
-    ensures { λ _. ⌜ PutsNearest (meterAt («shared_from» .0) (points (now (xs .entry)) (now (ys .entry))) (now (entries .entry)) (now (places .entry)) k) v1 v0 (entry (now (places .entry)) k) (now (labels .entry)) (now (labels .exit)) ⌝ }
+// The two lowest bits of a label, as a number.
+fn low_number(v1: bool, v0: bool) -> u16
+    ensures { λ r. ⌜ r ≡ lowNumber v1 v0 ⌝ }
 {
-    let l = entry_label(entries, places, shared_from, xs, ys, k, v1, v0);
-    put_label(labels, place_at(places, k), l as u16);
+    (weight(v0) + 2 * weight(v1)) as u16
 }
 
 // The trace back of a first pair with x = 0, if there is one: it has no v. The state before the pairs with x at least 2.
-fn trace_first(
-    entries: &[u8],
-    places: &[u16],
-    shared_from: Place,
-    xs: &[i16],
-    ys: &[i16],
-    survivors: &[u8],
-    labels: &mut [u16],
-) -> TrellisState
-    requires { ⌜ TraceNeeds («shared_from» .0) (now entries) (now places) (now xs) (now ys) (now survivors) (now labels) ⌝ }
-    ensures { λ r. ⌜ (r ≡ stateAt (now (survivors .entry)) (loneIn (now (entries .entry)))) × Traced («shared_from» .0) (now (entries .entry)) (now (places .entry)) (points (now (xs .entry)) (now (ys .entry))) (now (survivors .entry)) (now (labels .exit)) (loneIn (now (entries .entry))) ⌝ }
+fn trace_first(places: &[u16], survivors: &[u8], labels: &mut [u16]) -> TrellisState
+    requires { ⌜ TraceNeeds (now places) (now survivors) (now labels) ⌝ }
+    ensures { λ r. ⌜ (r ≡ stateAt (now (survivors .entry)) (loneIn (now (places .entry)))) × LowTraced (now (places .entry)) (now (survivors .entry)) (now (labels .exit)) (loneIn (now (places .entry))) ⌝ }
 {
-    if entries.len() % 2 == 0 {
+    if places.len() % 2 == 0 {
         return zero_state();
     }
     let t = paths::follow_pair(survivors, 0, zero_state());
     let low = t.low;
-    put_nearest(
-        entries,
-        places,
-        shared_from,
-        xs,
-        ys,
-        0,
-        low.w1,
-        low.w0,
-        labels,
-    );
+    put_label(labels, place_at(places, 0), low_number(low.w1, low.w0));
     t.next
 }
 
-// The trace back: the nearest labels with the lowest bits that the survivors give from the zero state.
-pub fn trace_labels(
-    entries: &[u8],
-    places: &[u16],
-    shared_from: Place,
-    xs: &[i16],
-    ys: &[i16],
-    survivors: &[u8],
-    labels: &mut [u16],
-)
-    requires { ⌜ TraceNeeds («shared_from» .0) (now entries) (now places) (now xs) (now ys) (now survivors) (now labels) ⌝ }
-    ensures { λ _. ⌜ Traced («shared_from» .0) (now (entries .entry)) (now (places .entry)) (points (now (xs .entry)) (now (ys .entry))) (now (survivors .entry)) (now (labels .exit)) (length (now (entries .entry))) ⌝ }
+// The trace back: the two lowest bits of each entry's label that the survivors give from the zero state, at its place.
+pub fn trace_low(places: &[u16], survivors: &[u8], labels: &mut [u16])
+    requires { ⌜ TraceNeeds (now places) (now survivors) (now labels) ⌝ }
+    ensures { λ _. ⌜ LowTraced (now (places .entry)) (now (survivors .entry)) (now (labels .exit)) (length (now (places .entry))) ⌝ }
 {
-    let mut state = trace_first(entries, places, shared_from, xs, ys, survivors, labels);
-    let lone = entries.len() % 2;
+    let mut state = trace_first(places, survivors, labels);
+    let lone = places.len() % 2;
     let mut k = lone;
-    while k < entries.len() {
+    while k < places.len() {
         let t = paths::follow_pair(survivors, (k + lone) / 2, state);
         let low = t.low;
-        put_nearest(
-            entries,
-            places,
-            shared_from,
-            xs,
-            ys,
-            k,
-            low.v1,
-            low.v0,
-            labels,
-        );
-        put_nearest(
-            entries,
-            places,
-            shared_from,
-            xs,
-            ys,
-            k + 1,
-            low.w1,
-            low.w0,
-            labels,
-        );
+        put_label(labels, place_at(places, k), low_number(low.v1, low.v0));
+        put_label(labels, place_at(places, k + 1), low_number(low.w1, low.w0));
         state = t.next;
         k += 2;
     }
 }
 
-// Uncoded: the nearest label of each tone, and the total of their costs.
-pub fn nearest_labels(
-    entries: &[u8],
+// The two lowest bits of each entry's nearest label where any are free, at its place, and the total of the costs.
+pub fn least_low(
     places: &[u16],
-    xs: &[i16],
-    ys: &[i16],
+    k0: &[u32],
+    k1: &[u32],
+    k2: &[u32],
+    k3: &[u32],
     labels: &mut [u16],
 ) -> u64
-    requires { ⌜ ToneNeeds (now entries) (now places) (now xs) (now ys) (now labels) ⌝ }
-    ensures { λ r. ⌜ DecidesTones (length (now (xs .entry))) (now (entries .entry)) (now (places .entry)) (points (now (xs .entry)) (now (ys .entry))) (now (labels .exit)) r ⌝ }
+    requires { ⌜ ToneNeeds (now places) (now k0) (now k1) (now k2) (now k3) (now labels) ⌝ }
+    ensures { λ r. ⌜ LeastLows (now (places .entry)) (now (k0 .entry)) (now (k1 .entry)) (now (k2 .entry)) (now (k3 .entry)) (now (labels .exit)) r ⌝ }
 {
     let mut total: u64 = 0;
-    let mut k = entries.len();
+    let mut k = places.len();
     while k > 0 {
         k -= 1;
         let p = place_at(places, k);
-        let d = cosets::tone_label(entries[k], received_at(xs, ys, p));
-        put_label(labels, p, d.label as u16);
-        total += d.cost as u64;
+        let c = cosets::least_coset(costs_at(k0, k1, k2, k3, p));
+        put_label(labels, p, c.low);
+        total += c.cost as u64;
     }
     total
+}
+
+// The nearest labels with the two lowest bits that stand at the places.
+pub fn label_places(layouts: &[u16], xs: &[i16], ys: &[i16], labels: &mut [u16])
+    requires { ⌜ LabelNeeds (now layouts) (now xs) (now ys) (now labels) ⌝ }
+    ensures { λ _. ⌜ PlaceLabels (now (layouts .entry)) (points (now (xs .entry)) (now (ys .entry))) (now (labels .entry)) (now (labels .exit)) (length (now (xs .entry))) ⌝ }
+{
+    let mut i = 0;
+    while i < xs.len() {
+        let low = labels[i] % 4;
+        labels[i] = cosets::label_by(layouts[i], cosets::raise_point(xs[i], ys[i]), low);
+        i += 1;
+    }
 }

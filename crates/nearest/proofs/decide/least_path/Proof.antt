@@ -1,8 +1,6 @@
-use Rattle.nearest.proofs.Selecting.{whole-small}
 use mathlib.Core.Path.{_≡_, _∙_}
-use lib.ListN.{length}
 use native.Mathlib.Omega.{arith}
-use Rattle.nearest.proofs.Selecting.{path-lone, path-even, metrics-small}
+use Rattle.nearest.proofs.Selecting.{path-lone, path-even, whole-small}
 use borrow.Author.Needs.{needs}
 use Rattle.nearest.proofs.decide.least_path.Statement.{statement}
 use Rattle.nearest.proofs.decide.least_path.Tie as tie
@@ -13,24 +11,24 @@ use Rattle.nearest.proofs.decide.select_pairs.Reads as select-pairs-rea
 use Rattle.paths.proofs.first_alone.Reads as first-alone-reads
 
 select-pairs-requires : tie.Need-select-pairs-requires
-select-pairs-requires c κs = c .before .before .before .before .pre
+select-pairs-requires c κs = c .before .before .before .before .before .before .before .pre
 
 entry-costs-requires : tie.Need-entry-costs-requires
-entry-costs-requires c κs = (c .before .before .before .before .before .before .before .before .pre .decidable, omega (arith, c .before .before .before .before .before .before .before .before .pre .enough))
+entry-costs-requires c κs = (c .before .before .before .before .before .before .before .before .before .before .before .pre .0 .entries, omega (arith, c .before .before .before .before .before .before .before .before .before .before .before .pre .0 .enough))
 
 first-alone-requires : tie.Need-first-alone-requires
 first-alone-requires c κs =
-    let s = c .before .before .before .before .before .before .before .before .before .before .before .pre in
+    let s = c .before .before .before .before .before .before .before .before .before .before .before .before .before .before .pre in
     let p = c .before .before .before .before .before .before .select-pairs in
-    (omega (arith, s .sixteens, s .enough, p .kept .1 .1 .1 .1 .1 .0), whole-small _ (s .decidable) (s .many) (p .ensures))
+    (omega (arith, s .0 .sixteens, s .0 .enough, p .kept .1 .1 .1 .1 .1 .1 .0), whole-small (s .1 .0) (s .1 .1) (s .0 .many) (p .ensures (s .1 .0) (s .1 .1)))
 
 same-length : tie.Need-same-length
 same-length c = search needs
 
 returns : tie.Need-returns
 returns c =
-    let s = c .before .before .before .before .before .before .before .before .before .before .before .before .before .before .pre in
-    path-lone _ (s .decidable) (omega (arith, s .enough)) (c .before .before .before .before .before .before .if1 .taken) (c .before .before .before .before .before .entry-costs .ensures) (c .before .before .before .before .before .before .before .before .before .select-pairs .ensures) (c .before .before .first-alone .ensures)
+    let s = c .before .before .before .before .before .before .before .before .before .before .before .before .before .before .before .before .before .pre .0 in
+    λ ms d. path-lone ms d (omega (arith, s .enough)) (c .before .before .before .before .before .before .if1 .taken) (c .before .before .before .before .before .entry-costs .ensures) (c .before .before .before .before .before .before .before .before .before .select-pairs .ensures ms d) (c .before .before .first-alone .ensures)
 
 array-read-result : tie.Need-array-read-result
 array-read-result c = search needs
@@ -40,8 +38,8 @@ same-length-2 c = search needs
 
 returns-2 : tie.Need-returns-2
 returns-2 c =
-    let s = c .before .before .before .before .before .before .before .before .pre in
-    path-even _ (s .decidable) (omega (arith, s .enough)) (c .if1 .left) (c .before .before .before .select-pairs .ensures)
+    let s = c .before .before .before .before .before .before .before .before .before .before .before .pre .0 in
+    λ ms d. path-even ms d (omega (arith, s .enough)) (c .if1 .left) (c .before .before .before .select-pairs .ensures ms d)
 
 pub least-path-spec : {M : Type 1} → statement M
 least-path-spec =
