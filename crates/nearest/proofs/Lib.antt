@@ -1,3 +1,11 @@
 pub mod Places
 pub mod Selecting
 pub mod Tracing
+pub mod PathLabels
+pub mod Entries
+pub mod PlanMeters
+pub mod Laid
+pub mod NearestPlan
+pub mod NearestInputs
+pub mod PlannedReading
+pub mod WholeNearest

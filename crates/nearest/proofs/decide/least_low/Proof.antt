@@ -51,9 +51,11 @@ loop-less c = omega (arith, c .before .before .before .before .before .before .b
 loop-again : tie.Need-loop-again Inv-loop μ-loop
 loop-again c =
     let l = c .before .before .before .before .before .before .before .before .before .loop in
-    let turn = c .before .before .before .before .before .before .before .before .loop-test .taken in
-    (omega (arith, l .inv .0), c .before .before .before .put-label .kept .0 ∙ l .inv .1,
-    lows-more (c .before .before .before .before .before .before .before .before .before .before .before .before .before .before .before .before .pre .lists) (c .before .before .before .before .before .before .before .before .before .before .before .before .before .before .before .before .pre .rising) (l .inv .1) turn (l .inv .0) (l .inv .2) (c .before .before .before .before .before .before .before .place-at .ensures) (c .before .before .before .before .before .before .costs-at .ensures) (c .before .before .before .before .before .least-coset .ensures) (c .before .before .before .put-label .ensures))
+    let turn = c .before .before .before .before .before .before .before .before .loop-test .taken in (
+      omega (arith, l .inv .0),
+      c .before .before .before .put-label .kept .0 ∙ l .inv .1,
+      lows-more (c .before .before .before .before .before .before .before .before .before .before .before .before .before .before .before .before .pre .lists) (c .before .before .before .before .before .before .before .before .before .before .before .before .before .before .before .before .pre .rising) (l .inv .1) turn (l .inv .0) (l .inv .2) (c .before .before .before .before .before .before .before .place-at .ensures) (c .before .before .before .before .before .before .costs-at .ensures) (c .before .before .before .before .before .least-coset .ensures) (c .before .before .before .put-label .ensures),
+    )
 
 same-length : tie.Need-same-length Inv-loop μ-loop
 same-length c = c .before .loop .inv .1 ∙ sym (c .before .before .before .before .before .before .before .before .pre .labelsLength)

@@ -63,10 +63,11 @@ advance-requires : tie.Need-advance-requires Inv-loop μ-loop
 advance-requires c κs =
     let l = c .before .before .before .before .before .before .before .loop in
     let e = c .before .before .before .edges-of in
-    let m = c .before .before .before .before .before .before .before .before .before .before .before .before .before .before .pre .1 in
-    (omega (arith, c .before .before .before .before .before .before .before .before .before .before .before .before .before .before .pre .0 .sixteens, l .inv .1, l .inv .2, c .before .before .before .before .before .before .loop-test .taken),
-    metrics-small (m .0) (m .1) _ (omega arith) (l .inv .1) (omega (arith, c .before .before .before .before .before .before .before .before .before .before .before .before .before .before .pre .0 .many)) (l .inv .3 (m .0) (m .1)),
-    weaken _ _ (e .result) (omega arith) (e .ensures .1))
+    let m = c .before .before .before .before .before .before .before .before .before .before .before .before .before .before .pre .1 in (
+      omega (arith, c .before .before .before .before .before .before .before .before .before .before .before .before .before .before .pre .0 .sixteens, l .inv .1, l .inv .2, c .before .before .before .before .before .before .loop-test .taken),
+      metrics-small (m .0) (m .1) _ (omega arith) (l .inv .1) (omega (arith, c .before .before .before .before .before .before .before .before .before .before .before .before .before .before .pre .0 .many)) (l .inv .3 (m .0) (m .1)),
+      weaken _ _ (e .result) (omega arith) (e .ensures .1),
+    )
 
 loop-less : tie.Need-loop-less Inv-loop μ-loop
 loop-less c = search needs
@@ -74,10 +75,13 @@ loop-less c = search needs
 loop-again : tie.Need-loop-again Inv-loop μ-loop
 loop-again c =
     let l = c .before .before .before .before .before .before .before .before .before .before .loop in
-    let turn = c .before .before .before .before .before .before .before .before .before .loop-test .taken in
-    (omega (arith, turn), omega (arith, l .inv .1), c .before .before .advance .ensures .kept ∙ l .inv .2,
-    λ ms d. selected-more ms d _ (omega arith) (l .j) (c .before .before .before .before .before .before .before .before .entry-costs .result) (c .before .before .before .before .before .before .before .entry-costs2 .result) turn (l .inv .1) (l .inv .3 ms d)
-    (c .before .before .before .before .before .before .before .before .entry-costs .ensures) (c .before .before .before .before .before .before .before .entry-costs2 .ensures) (c .before .before .before .before .before .before .edges-of .ensures .0) (c .before .before .before .before .before .before .edges-of .ensures .1) (c .before .before .advance .ensures))
+    let turn = c .before .before .before .before .before .before .before .before .before .loop-test .taken in (
+      omega (arith, turn),
+      omega (arith, l .inv .1),
+      c .before .before .advance .ensures .kept ∙ l .inv .2,
+      λ ms d. selected-more ms d _ (omega arith) (l .j) (c .before .before .before .before .before .before .before .before .entry-costs .result) (c .before .before .before .before .before .before .before .entry-costs2 .result) turn (l .inv .1) (l .inv .3 ms d)
+          (c .before .before .before .before .before .before .before .before .entry-costs .ensures) (c .before .before .before .before .before .before .before .entry-costs2 .ensures) (c .before .before .before .before .before .before .edges-of .ensures .0) (c .before .before .before .before .before .before .edges-of .ensures .1) (c .before .before .advance .ensures),
+    )
 
 same-length : tie.Need-same-length Inv-loop μ-loop
 same-length c = c .before .loop .inv .2

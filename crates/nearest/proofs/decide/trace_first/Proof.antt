@@ -51,9 +51,10 @@ returns-2 c =
     let s = c .before .before .before .before .before .before .before .before .before .before .before .before .before .before .pre in
     let odd : length (a .places .now) % 2 ≡ 1 = omega (arith, c .before .before .before .before .before .before .before .before .before .before .if1 .left) in
     let f = c .before .before .before .before .before .before .before .before .follow-pair .ensures in
-    let z = c .before .before .before .before .before .before .before .before .before .zero-state2 .ensures in
-    (f .0 ∙ state-first (a .survivors .now) z ∙ ap (stateAt (a .survivors .now)) (sym odd),
-    traced-first (a .labels .now) (s .rising) (omega (arith, s .enough)) odd (f .1 ∙ low-first (a .survivors .now) z) (c .before .before .before .put-label .ensures) (c .before .before .before .before .before .place-at .ensures) (c .before .before .before .before .low-number .ensures))
+    let z = c .before .before .before .before .before .before .before .before .before .zero-state2 .ensures in (
+      f .0 ∙ state-first (a .survivors .now) z ∙ ap (stateAt (a .survivors .now)) (sym odd),
+      traced-first (a .labels .now) (s .rising) (omega (arith, s .enough)) odd (f .1 ∙ low-first (a .survivors .now) z) (c .before .before .before .put-label .ensures) (c .before .before .before .before .before .place-at .ensures) (c .before .before .before .before .low-number .ensures),
+    )
 
 pub trace-first-spec : {M : Type 1} → statement M
 trace-first-spec =

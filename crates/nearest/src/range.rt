@@ -1,0 +1,30 @@
+// 23 RANGE: the coordinates that nearest reading takes.
+ghost use mathlib.Core.Path.{_≡_};
+ghost use lib.ListN.{length};
+ghost use Rattle.g9932.specs.Bits.{first};
+ghost use Rattle.g9932.specs.Nearest.{outOfRange, rangeTest};
+ghost use Rattle.g9932.specs.Sizes.{points};
+use g9932::Found;
+
+// Whether a coordinate is not −1,023 to 1,023.
+fn is_outside(z: i16) -> bool
+    ensures { λ r. ⌜ r ≡ outOfRange z ⌝ }
+{
+    let r = constellation::demap::raised(z);
+    (r < 31745) | (33791 < r)
+}
+
+// The first place with such a coordinate. Called by proved code only.
+pub fn first_outside(xs: &[i16], ys: &[i16]) -> Found
+    requires { ⌜ length (now ys) ≡ length (now xs) ⌝ }
+    ensures { λ r. ⌜ r ≡ first (rangeTest (points (now (xs .entry)) (now (ys .entry)))) (length (now (xs .entry))) ⌝ }
+{
+    let mut i = 0;
+    while i < xs.len() {
+        if is_outside(xs[i]) | is_outside(ys[i]) {
+            return Found::At(i);
+        }
+        i += 1;
+    }
+    Found::Nothing
+}
