@@ -1,4 +1,5 @@
 pub mod Places
+pub mod Squares
 pub mod Spots
 pub mod Regions
 pub mod Cosets

@@ -7,7 +7,7 @@ ghost use mathlib.Core.Path.{_≡_};
 ghost use Prim.Native.Nat.{_+_, _*_, _≤_, _<_, min, max};
 ghost use Rattle.constellation.specs.Layouts.{ToneLayout};
 ghost use Rattle.g9932.specs.Sizes.{point};
-ghost use Rattle.cosets.specs.Grid.{gap as gapOf, square, NearestPlace, NearestIn, SquareTo, SidesOf, SidesFit, Sided};
+ghost use Rattle.cosets.specs.Grid.{square, NearestPlace, NearestIn, SquareTo, SidesOf, SidesFit, Sided};
 ghost use Rattle.cosets.specs.Nearest.{Raised, InRange, IsReceived, Bounded, NearestBy, CostsFor, OneCostsFor};
 ghost use Rattle.cosets.specs.Meters.{CostsBy, LabelBy, sharedCosts, LeastCoset};
 
@@ -41,13 +41,6 @@ fn cheaper(m: u32, n: u32) -> u32
     if n < m { n } else { m }
 }
 
-// |m − n|
-fn gap(m: u16, n: u16) -> u16
-    ensures { λ r. ⌜ r ≡ gapOf m n ⌝ }
-{
-    larger(m, n) - smaller(m, n)
-}
-
 // The nearest place of a parity among the a on each side of the origin.
 fn place(x: u16, a: u16, low: u16) -> u16
     requires { ⌜ (1 ≤ x) × (x ≤ 2047) × (1 ≤ a) × (a ≤ 256) × (low ≤ 1) ⌝ }
@@ -59,13 +52,13 @@ fn place(x: u16, a: u16, low: u16) -> u16
     2 * smaller(larger(free, first), last) + low
 }
 
-// The squared distance of a coordinate from a place.
+// The squared distance of a coordinate from a place. A signed difference is squared with fewer steps than |x − (2 u + 1)|.
 fn square_at(x: u16, u: u16) -> u32
     requires { ⌜ (x ≤ 2047) × (u < 1024) ⌝ }
     ensures { λ r. ⌜ (r ≡ square x u) × (r ≤ 4194304) ⌝ }
 {
-    let d = gap(x, 2 * u + 1) as u32;
-    d * d
+    let d = (x as i16 - (2 * u + 1) as i16) as i32;
+    (d * d) as u32
 }
 
 // A received point, its coordinates raised by 1,024.
