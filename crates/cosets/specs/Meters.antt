@@ -5,9 +5,11 @@ use mathlib.Core.List.{List, [], _∷_}
 use mathlib.Core.Path.{_≡_}
 use lib.ListN.{length, take, drop, getD}
 use Rattle.constellation.specs.Layouts.{layoutOf}
+use Rattle.constellation.specs.Reading.{FoundLabelIs}
+use Rattle.constellation.specs.declared.FoundLabel.{FoundLabel}
 use Rattle.g9932.specs.Bits.{bit, weight, odd, bits}
 use Rattle.g9932.specs.Nearest.{squaredDistance}
-use Rattle.g9932.specs.Points.{pointOf}
+use Rattle.g9932.specs.Points.{pointOf, labelOf}
 use Rattle.g9932.specs.Sizes.{Point}
 use Rattle.cosets.specs.declared.Costs.{Costs}
 use Rattle.cosets.specs.declared.Coset.{Coset}
@@ -62,9 +64,14 @@ pub record CostsBy (layout : ℕ) (s : Received) (r : Costs) : Type 0 where
   pub again : layout ≡ layoutOf 1 → (r .c2 ≡ r .c0) × (r .c3 ≡ r .c1)
   pub small : SmallCosts r
 
--- a nearest label of the coset with the two lowest bits `low`; of 1 bit, `low` itself
-pub record LabelBy (layout : ℕ) (s : Received) (low r : ℕ) : Type 0 where
-  pub tone : (b : ℕ) → 2 ≤ b → b ≤ 15 → layout ≡ layoutOf b → (p : Point) → IsReceived p s → (r < 2 ^ b) × CosetLabel (toneMeter b p) (odd (low / 2)) (odd low) (bits b r)
+-- a nearest point of the coset with the two lowest bits `low`, by the label that is found for it
+pub record PointBy (layout : ℕ) (s : Received) (low : ℕ) (q : Point) : Type 0 where
+  pub tone : (b : ℕ) → 2 ≤ b → b ≤ 15 → layout ≡ layoutOf b → (p : Point) → IsReceived p s → (f : FoundLabel) → FoundLabelIs f (labelOf b q)
+      → (f .label < 2 ^ b) × CosetLabel (toneMeter b p) (odd (low / 2)) (odd low) (bits b (f .label))
+
+-- the label that is found for a tone's point; of 1 bit, the two lowest bits themselves
+pub record LabelOf (layout found low r : ℕ) : Type 0 where
+  pub tone : (layout ≡ layoutOf 1 → ⊥) → r ≡ found
   pub one : layout ≡ layoutOf 1 → r ≡ low
 
 -- two tones that share an entry

@@ -9,7 +9,8 @@ ghost use Rattle.constellation.specs.Layouts.{ToneLayout};
 ghost use Rattle.g9932.specs.Sizes.{point};
 ghost use Rattle.cosets.specs.Grid.{square, NearestPlace, NearestIn, SquareTo, SidesOf, SidesFit, Sided};
 ghost use Rattle.cosets.specs.Nearest.{Raised, InRange, IsReceived, Bounded, NearestBy, CostsFor, OneCostsFor};
-ghost use Rattle.cosets.specs.Meters.{CostsBy, LabelBy, sharedCosts, LeastCoset};
+ghost use Rattle.cosets.specs.Meters.{CostsBy, PointBy, LabelOf, sharedCosts, LeastCoset};
+use constellation::Coordinates;
 
 // The layouts of 1 bit and of 3 bits: see specs/Layouts of constellation.
 const ONE: u16 = 0x8140;
@@ -235,17 +236,23 @@ fn coordinate_at(u: u16) -> i16
     (2 * u + 1) as i16 - 1024
 }
 
-// The nearest label of the coset with the two lowest bits `low`; of 1 bit, `low` itself.
-pub fn label_by(layout: u16, s: Received, low: u16) -> u16
+// The nearest point of the coset with the two lowest bits `low`.
+pub fn point_by(layout: u16, s: Received, low: u16) -> Coordinates
     requires { ⌜ ToneLayout layout × Bounded s × (low < 4) ⌝ }
-    ensures { λ r. ⌜ LabelBy layout s low r ⌝ }
+    ensures { λ r. ⌜ PointBy layout s low (point (r .x) (r .y)) ⌝ }
 {
     let n = nearest(shape_of(layout), s, low / 2, low % 2);
-    let l = constellation::demap::label_by(layout, coordinate_at(n.u), coordinate_at(n.w));
-    if layout == ONE {
-        return low;
+    Coordinates {
+        x: coordinate_at(n.u),
+        y: coordinate_at(n.w),
     }
-    l.label
+}
+
+// The label of a tone, from that of its point; of 1 bit, the two lowest bits of its entry's label, which has no others.
+pub fn label_of(layout: u16, found: u16, low: u16) -> u16
+    ensures { λ r. ⌜ LabelOf layout found low r ⌝ }
+{
+    if layout == ONE { low } else { found }
 }
 
 // A coset, by its two lowest bits, and its cost.

@@ -16,7 +16,7 @@ use Rattle.g9932.specs.Sizes.{entry, Point, point}
 use Rattle.g9932.specs.declared.Found.{Found}
 use Rattle.g9932.specs.declared.Found.the-variants.{Nothing}
 use Rattle.mapper.specs.Writing.{PutsPoints}
-use Rattle.mapper.specs.Reading.{pointAt, DemapNeeds, LabelIs, Off, DemapsAll, OffAt, DemapsPoints, OnOrOff, DemapAllNeeds}
+use Rattle.mapper.specs.Reading.{pointAt, DemapNeeds, LabelIs, Off, Told, DemapsAll, OffAt, DemapsPoints, OnOrOff, DemapAllNeeds}
 
 -- ---- points put
 
@@ -60,17 +60,19 @@ told seen e =
 pub record Demapping (layouts : List ℕ) (xs ys : List ℤ) (labels : List ℕ) (all : Bool) (i : ℕ) : Type 0 where
   pub inside : i ≤ length xs
   pub labelsLength : length labels ≡ length xs
+  pub each : (j : ℕ) → j < i → Told layouts xs ys labels j
   pub every : all ≡ true → (j : ℕ) → j < i → LabelIs (entry layouts j) (pointAt xs ys j) (entry labels j)
   pub some : all ≡ false → (j : ℕ) × (j < i) × Off (entry layouts j) (pointAt xs ys j)
 
 pub demap-start : (layouts : List ℕ) (xs ys : List ℤ) (labels : List ℕ) → length labels ≡ length xs → Demapping layouts xs ys labels true 0
 demap-start layouts xs ys labels n =
-    record { inside = omega arith; labelsLength = n; every = λ e j h. absurd (omega arith); some = λ e. absurd (true≢false e) }
+    record { inside = omega arith; labelsLength = n; each = λ j h. absurd (omega arith); every = λ e j h. absurd (omega arith); some = λ e. absurd (true≢false e) }
 
 module _ {layouts : List ℕ} {xs ys : List ℤ} {labels : List ℕ} {all : Bool} {i : ℕ} (g : Demapping layouts xs ys labels all i) where
   pub demap-end : length xs ≤ i → DemapsAll layouts xs ys labels all
   demap-end h =
       record {
+        each = λ j k. g .each j (omega arith);
         every = λ e j k. g .every e j (omega arith);
         some = λ e. let w = g .some e in (w .0, omega (arith, w .1, g .inside), w .2);
         labelsLength = g .labelsLength;
@@ -82,10 +84,16 @@ module _ {layouts : List ℕ} {xs ys : List ℤ} {labels : List ℕ} {all : Bool
       record {
         inside = omega arith;
         labelsLength = length-set labels i (r .label) ∙ g .labelsLength;
+        each = below-more tells i
+            (λ j k. rw (getD-set-other labels i j (r .label) 0 (λ e. absurd (omega arith))) (g .each j k))
+            (rw (getD-set-same labels i (r .label) 0 (omega (arith, g .labelsLength))) (r .on, seen));
         every = λ e. let both = and-eq-true-iff all (r .on) .0 e in below-more has i (before (both .0)) (here (both .1));
         some = some all (r .on) refl refl;
       }
     where
+      tells : ℕ → Type 0
+      tells j = Told layouts xs ys (set labels i (r .label)) j
+
       has : ℕ → Type 0
       has j = LabelIs (entry layouts j) (pointAt xs ys j) (entry (set labels i (r .label)) j)
 

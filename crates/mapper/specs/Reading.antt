@@ -41,8 +41,13 @@ LabelIs layout p l = Demaps layout p (record { on = true; label = l })
 abbrev pub Off : ℕ → Point → Type 0
 Off layout p = (l : ℕ) × Demaps layout p (record { on = false; label = l })
 
+-- what is told of each point, and with which label
+abbrev pub Told : List ℕ → List ℤ → List ℤ → List ℕ → ℕ → Type 0
+Told layouts xs ys labels i = (on : Bool) × Demaps (entry layouts i) (pointAt xs ys i) (record { on = on; label = entry labels i })
+
 -- every point has its label, or one has none
 pub record DemapsAll (layouts : List ℕ) (xs ys : List ℤ) (labels : List ℕ) (all : Bool) : Type 0 where
+  pub each : (i : ℕ) → i < length xs → Told layouts xs ys labels i
   pub every : all ≡ true → (i : ℕ) → i < length xs → LabelIs (entry layouts i) (pointAt xs ys i) (entry labels i)
   pub some : all ≡ false → (i : ℕ) × (i < length xs) × Off (entry layouts i) (pointAt xs ys i)
   pub labelsLength : length labels ≡ length xs

@@ -14,8 +14,8 @@ use g9932::Found;
 use g9932::Place;
 
 // The labels of all points, by the layouts of the places, and whether every point has one. There is no early exit: the compiler takes
-// several places at a time.
-fn demap_all(layouts: &[u16], xs: &[i16], ys: &[i16], labels: &mut [u16]) -> bool
+// several places at a time. Called by proved code only.
+pub fn demap_all(layouts: &[u16], xs: &[i16], ys: &[i16], labels: &mut [u16]) -> bool
     requires { ⌜ DemapAllNeeds (now layouts) (now xs) (now ys) (now labels) ⌝ }
     ensures { λ r. ⌜ DemapsAll (now (layouts .entry)) (now (xs .entry)) (now (ys .entry)) (now (labels .exit)) r ⌝ }
 {

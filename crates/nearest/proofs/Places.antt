@@ -11,14 +11,16 @@ use lib.Dec.{ltb}
 use lib.IntN.{ℤ, pos}
 use lib.ListN.{length, getD, set, drop, length-set, drop-of-length-le}
 use lib.Seq.{drop-cons, getD-set-same, getD-set-other}
-use Rattle.cosets.specs.Meters.{costOf, CostsBy, LabelBy, leastCost, LeastCoset}
+use Rattle.cosets.proofs.Shapes.{not-one}
+use Rattle.cosets.specs.Meters.{costOf, CostsBy, PointBy, LabelOf, leastCost, LeastCoset}
 use Rattle.cosets.specs.Nearest.{IsReceived}
 use Rattle.cosets.specs.declared.Coset.{Coset}
 use Rattle.cosets.specs.declared.Costs.{Costs}
 use Rattle.cosets.specs.declared.Received.{Received}
 use Rattle.frame.specs.Labels.{Rising}
-use Rattle.g9932.specs.Sizes.{entry, Point, origin}
-use Rattle.nearest.specs.Deciding.{costsOf, PlaceCosts, Costed, CostLists, PlaceLabel, PlaceLabels, leastTotal, LeastLow, LeastLows}
+use Rattle.g9932.specs.Sizes.{entry, Point, point, origin}
+use Rattle.mapper.specs.Reading.{pointAt, DemapsAll}
+use Rattle.nearest.specs.Deciding.{costsOf, PlaceCosts, Costed, CostLists, PlacePoint, PlacePoints, PutsLabels, PlaceLabels, leastTotal, LeastLow, LeastLows}
 
 -- ---- costs
 
@@ -53,22 +55,57 @@ module _ {layouts : List ℕ} {q : List Point} {k0 k1 k2 k3 : List ℕ} {i : ℕ
 
 -- ---- labels
 
-pub label-of : {layout low l : ℕ} {p : Point} {s : Received} → IsReceived p s → LabelBy layout s low l → PlaceLabel layout p low l
-label-of {p = p} i c = record { tone = λ b h m e. c .tone b h m e p i; one = c .one }
+pub point-of : {layout low : ℕ} {p n : Point} {s : Received} → IsReceived p s → PointBy layout s low n → PlacePoint layout p low n
+point-of {p = p} i c = λ b l m e. c .tone b l m e p i
 
-module _ {layouts : List ℕ} {q : List Point} {lows labels : List ℕ} {i : ℕ} (old : PlaceLabels layouts q lows labels i) where
-  pub labelled-more : {low l : ℕ} → i < length lows → low ≡ entry labels i % 4 → PlaceLabel (entry layouts i) (getD q i origin) low l → PlaceLabels layouts q lows (set labels i l) (i + 1)
-  labelled-more {low} {l} h e c =
-      let was : low ≡ entry lows i % 4 = e ∙ ap (λ (z : ℕ). z % 4) (old .kept i (omega arith)) in
+module _ {layouts : List ℕ} {q : List Point} {lows : List ℕ} {nearXs nearYs : List ℤ} {i : ℕ} (old : PlacePoints layouts q lows nearXs nearYs i) where
+  pub points-more : (x y : ℤ) → i < length lows → PlacePoint (entry layouts i) (getD q i origin) (entry lows i % 4) (point x y)
+      → PlacePoints layouts q lows (set nearXs i x) (set nearYs i y) (i + 1)
+  points-more x y h c =
       record {
-        labelled = below-more has i (λ j k. rw (getD-set-other labels i j l 0 (λ z. omega (arith, k, z))) (old .labelled j k))
-            (rw (getD-set-same labels i l 0 (omega (arith, old .labelsLength)), ← was) c);
+        near = below-more has i before here;
+        xsLength = length-set nearXs i x ∙ old .xsLength;
+        ysLength = length-set nearYs i y ∙ old .ysLength;
+      }
+    where
+      has : ℕ → Type 0
+      has j = PlacePoint (entry layouts j) (getD q j origin) (entry lows j % 4) (pointAt (set nearXs i x) (set nearYs i y) j)
+
+      here : has i
+      here = rw (getD-set-same nearXs i x (pos 0) (omega (arith, old .xsLength)), getD-set-same nearYs i y (pos 0) (omega (arith, old .ysLength))) c
+
+      before : (j : ℕ) → j < i → has j
+      before j k =
+          let n : (j ≡ i → ⊥) = λ e. absurd (omega arith) in
+          rw (getD-set-other nearXs i j x (pos 0) n, getD-set-other nearYs i j y (pos 0) n) (old .near j k)
+
+module _ {layouts found lows labels : List ℕ} {i : ℕ} (old : PutsLabels layouts found lows labels i) where
+  pub puts-more : {l : ℕ} → i < length lows → LabelOf (entry layouts i) (entry found i) (entry labels i % 4) l → PutsLabels layouts found lows (set labels i l) (i + 1)
+  puts-more {l} h c =
+      record {
+        put = below-more has i (λ j k. rw (getD-set-other labels i j l 0 (λ z. omega (arith, k, z))) (old .put j k))
+            (rw (getD-set-same labels i l 0 (omega (arith, old .labelsLength)), ← old .kept i (omega arith)) c);
         kept = λ j k. getD-set-other labels i j l 0 (λ z. omega (arith, k, z)) ∙ old .kept j (omega arith);
         labelsLength = length-set labels i l ∙ old .labelsLength;
       }
     where
       has : ℕ → Type 0
-      has j = PlaceLabel (entry layouts j) (getD q j origin) (entry lows j % 4) (entry (set labels i l) j)
+      has j = LabelOf (entry layouts j) (entry found j) (entry lows j % 4) (entry (set labels i l) j)
+
+-- the labels that are found for nearest points are nearest labels
+pub labels-are : {layouts : List ℕ} {q : List Point} {lows found labels : List ℕ} {nearXs nearYs : List ℤ} {all : Bool} {n : ℕ} → length layouts ≡ n → length nearXs ≡ n
+    → PlacePoints layouts q lows nearXs nearYs n → DemapsAll layouts nearXs nearYs found all → PutsLabels layouts found lows labels (length layouts) → PlaceLabels layouts q lows labels n
+labels-are {layouts} k m p d l =
+    record {
+      labelled = λ i h.
+          record {
+            tone = λ b lb mb e.
+                let t = d .each i (omega arith) in
+                rw (l .put i (omega arith) .tone (λ z. not-one b (entry layouts i) lb mb e z)) (p .near i h b lb mb e _ (t .1 .sought b (omega arith) mb e));
+            one = l .put i (omega arith) .one;
+          };
+      labelsLength = l .labelsLength;
+    }
 
 -- ---- uncoded: the nearest coset, from the last entry to the first
 

@@ -233,6 +233,7 @@ module _ (T : Tables) (xs ys : List ℤ) (r start : ℕ) (f work : List ℕ) (p 
                         ofTones = λ i l. tone-layouts the i (omega (arith, l, nx, length-classes T));
                         xInRange = d .xInRange;
                         yInRange = d .yInRange;
+                        few = omega (arith, nx, tones-most T ok);
                       };
                   length0 = n0 ∙ sym nx;
                   length1 = n1 ∙ sym nx;

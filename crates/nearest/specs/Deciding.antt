@@ -8,15 +8,19 @@ use lib.Dec.{ltb}
 use lib.IntN.{ℤ, pos}
 use lib.ListN.{length, getD}
 use Rattle.constellation.specs.Layouts.{layoutOf, ToneLayout}
-use Rattle.cosets.specs.Meters.{Meter, toneMeter, costOf, LeastOf, CosetLabel, BestLabel, sharedCosts, leastCost}
+use Rattle.constellation.specs.Reading.{FoundLabelIs}
+use Rattle.constellation.specs.declared.FoundLabel.{FoundLabel}
+use Rattle.cosets.specs.Meters.{Meter, toneMeter, costOf, LeastOf, CosetLabel, BestLabel, LabelOf, sharedCosts, leastCost}
 use Rattle.cosets.specs.Nearest.{InRange, OneCostsOf, SmallCosts}
 use Rattle.cosets.specs.declared.Costs.{Costs}
 use Rattle.frame.specs.Labels.{Rising}
 use Rattle.g9932.specs.Bits.{weight, odd, bits}
 use Rattle.g9932.specs.Order.{isOne}
+use Rattle.g9932.specs.Points.{labelOf}
 use Rattle.g9932.specs.Sizes.{entry, Point, origin, mostTones}
 use Rattle.g9932.specs.Trellis.{zeroState}
 use Rattle.g9932.specs.declared.LowBits.{LowBits}
+use Rattle.mapper.specs.Reading.{pointAt}
 use Rattle.paths.specs.Frames.{PairMeter, Matches}
 use Rattle.paths.specs.Paths.{Branch, Shortest}
 use Rattle.paths.specs.Survivors.{follow, lowAt, Surviving}
@@ -34,6 +38,7 @@ pub record PlaceNeeds (layouts : List ℕ) (xs ys : List ℤ) : Type 0 where
   pub ofTones : (i : ℕ) → i < length xs → ToneLayout (entry layouts i)
   pub xInRange : (i : ℕ) → i < length xs → InRange (getD xs i (pos 0))
   pub yInRange : (i : ℕ) → i < length xs → InRange (getD ys i (pos 0))
+  pub few : length xs ≤ mostTones
 
 pub record CostNeeds (layouts : List ℕ) (xs ys : List ℤ) (k0 k1 k2 k3 : List ℕ) : Type 0 where
   pub places : PlaceNeeds layouts xs ys
@@ -177,6 +182,33 @@ pub record PlaceLabel (layout : ℕ) (p : Point) (low r : ℕ) : Type 0 where
   pub tone : (b : ℕ) → 2 ≤ b → b ≤ 15 → layout ≡ layoutOf b → (r < 2 ^ b) × CosetLabel (toneMeter b p) (odd (low / 2)) (odd low) (bits b r)
   pub one : layout ≡ layoutOf 1 → r ≡ low
 
+-- by its point: the label that is found for q is such a one
+abbrev pub PlacePoint : ℕ → Point → ℕ → Point → Type 0
+PlacePoint layout p low q =
+    (b : ℕ) → 2 ≤ b → b ≤ 15 → layout ≡ layoutOf b → (f : FoundLabel) → FoundLabelIs f (labelOf b q) → (f .label < 2 ^ b) × CosetLabel (toneMeter b p) (odd (low / 2)) (odd low) (bits b (f .label))
+
+pub record PointNeeds (layouts : List ℕ) (xs ys : List ℤ) (lows : List ℕ) (nearXs nearYs : List ℤ) : Type 0 where
+  pub places : PlaceNeeds layouts xs ys
+  pub lowsLength : length lows ≡ length xs
+  pub xsLength : length nearXs ≡ length xs
+  pub ysLength : length nearYs ≡ length xs
+
+-- of the first n places
+pub record PlacePoints (layouts : List ℕ) (q : List Point) (lows : List ℕ) (nearXs nearYs : List ℤ) (n : ℕ) : Type 0 where
+  pub near : (i : ℕ) → i < n → PlacePoint (entry layouts i) (getD q i origin) (entry lows i % 4) (pointAt nearXs nearYs i)
+  pub xsLength : length nearXs ≡ length lows
+  pub ysLength : length nearYs ≡ length lows
+
+pub record PutNeeds (layouts found labels : List ℕ) : Type 0 where
+  pub layoutsLength : length layouts ≡ length labels
+  pub foundLength : length found ≡ length labels
+
+-- of the first n places
+pub record PutsLabels (layouts found lows labels : List ℕ) (n : ℕ) : Type 0 where
+  pub put : (i : ℕ) → i < n → LabelOf (entry layouts i) (entry found i) (entry lows i % 4) (entry labels i)
+  pub kept : (i : ℕ) → n ≤ i → entry labels i ≡ entry lows i
+  pub labelsLength : length labels ≡ length lows
+
 pub record LabelNeeds (layouts : List ℕ) (xs ys : List ℤ) (labels : List ℕ) : Type 0 where
   pub places : PlaceNeeds layouts xs ys
   pub labelsLength : length labels ≡ length xs
@@ -184,7 +216,6 @@ pub record LabelNeeds (layouts : List ℕ) (xs ys : List ℤ) (labels : List ℕ
 -- of the first n places
 pub record PlaceLabels (layouts : List ℕ) (q : List Point) (lows labels : List ℕ) (n : ℕ) : Type 0 where
   pub labelled : (i : ℕ) → i < n → PlaceLabel (entry layouts i) (getD q i origin) (entry lows i % 4) (entry labels i)
-  pub kept : (i : ℕ) → n ≤ i → entry labels i ≡ entry lows i
   pub labelsLength : length labels ≡ length lows
 
 -- ---- uncoded: the nearest coset of each tone

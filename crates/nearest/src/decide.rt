@@ -7,11 +7,12 @@ ghost use Prim.Native.Nat.{_<_};
 ghost use lib.ListN.{length, drop};
 ghost use Rattle.cosets.specs.Meters.{Meter};
 ghost use Rattle.g9932.specs.Sizes.{points};
-ghost use Rattle.nearest.specs.Deciding.{costsOf, CostNeeds, Costed, entryCosts, EntryNeeds, CostLists, loneIn, pairMeters, MeterCosts, PathNeeds, Selected, LeastPath, TraceNeeds, LowTraced, LabelNeeds, PlaceLabels, ToneNeeds, LeastLows, lowNumber};
+ghost use Rattle.nearest.specs.Deciding.{costsOf, CostNeeds, Costed, entryCosts, EntryNeeds, CostLists, loneIn, pairMeters, MeterCosts, PathNeeds, Selected, LeastPath, TraceNeeds, LowTraced, PointNeeds, PlacePoints, PutNeeds, PutsLabels, LabelNeeds, PlaceLabels, ToneNeeds, LeastLows, lowNumber};
 ghost use Rattle.paths.specs.Survivors.{stateAt};
 use cosets::Costs;
 use frame::by_place::place_at;
 use frame::by_place::put_label;
+use g9932::MOST_TONES;
 use g9932::Place;
 use g9932::TrellisState;
 use trellis::weight;
@@ -193,15 +194,76 @@ pub fn least_low(
     total
 }
 
-// The nearest labels with the two lowest bits that stand at the places.
+// The nearest points with the two lowest label bits that stand at the places.
+fn nearest_points(
+    layouts: &[u16],
+    xs: &[i16],
+    ys: &[i16],
+    labels: &[u16],
+    near_xs: &mut [i16],
+    near_ys: &mut [i16],
+)
+    requires { ⌜ PointNeeds (now layouts) (now xs) (now ys) (now labels) (now «near_xs») (now «near_ys») ⌝ }
+    ensures { λ _. ⌜ PlacePoints (now (layouts .entry)) (points (now (xs .entry)) (now (ys .entry))) (now (labels .entry)) (now («near_xs» .exit)) (now («near_ys» .exit)) (length (now (xs .entry))) ⌝ }
+{
+    let mut i = 0;
+    while i < xs.len() {
+        let q = cosets::point_by(layouts[i], cosets::raise_point(xs[i], ys[i]), labels[i] % 4);
+        let x = q.x;
+        let y = q.y;
+        near_xs[i] = x;
+        near_ys[i] = y;
+        i += 1;
+    }
+}
+
+// The labels of all places, from those that are found for their points.
+fn put_labels(layouts: &[u16], found: &[u16], labels: &mut [u16])
+    requires { ⌜ PutNeeds (now layouts) (now found) (now labels) ⌝ }
+    ensures { λ _. ⌜ PutsLabels (now (layouts .entry)) (now (found .entry)) (now (labels .entry)) (now (labels .exit)) (length (now (layouts .entry))) ⌝ }
+{
+    let mut i = 0;
+    while i < layouts.len() {
+        labels[i] = cosets::label_of(layouts[i], found[i], labels[i] % 4);
+        i += 1;
+    }
+}
+
+// The nearest labels with the two lowest bits that stand at the places. The points go through the loop of exact reading, so that the
+// compiler has the steps from a point to its label in one place.
+fn label_points(
+    layouts: &[u16],
+    xs: &[i16],
+    ys: &[i16],
+    near_xs: &mut [i16],
+    near_ys: &mut [i16],
+    found: &mut [u16],
+    labels: &mut [u16],
+)
+    requires { ⌜ PointNeeds (now layouts) (now xs) (now ys) (now labels) (now «near_xs») (now «near_ys») × (length (now found) ≡ length (now xs)) ⌝ }
+    ensures { λ _. ⌜ PlaceLabels (now (layouts .entry)) (points (now (xs .entry)) (now (ys .entry))) (now (labels .entry)) (now (labels .exit)) (length (now (xs .entry))) ⌝ }
+{
+    nearest_points(layouts, xs, ys, labels, near_xs, near_ys);
+    let all_on = mapper::read::demap_all(layouts, near_xs, near_ys, found);
+    put_labels(layouts, found, labels);
+}
+
+// The same, with room of its own for the points.
 pub fn label_places(layouts: &[u16], xs: &[i16], ys: &[i16], labels: &mut [u16])
     requires { ⌜ LabelNeeds (now layouts) (now xs) (now ys) (now labels) ⌝ }
     ensures { λ _. ⌜ PlaceLabels (now (layouts .entry)) (points (now (xs .entry)) (now (ys .entry))) (now (labels .entry)) (now (labels .exit)) (length (now (xs .entry))) ⌝ }
 {
-    let mut i = 0;
-    while i < xs.len() {
-        let low = labels[i] % 4;
-        labels[i] = cosets::label_by(layouts[i], cosets::raise_point(xs[i], ys[i]), low);
-        i += 1;
-    }
+    let mut near_xs = [0i16; MOST_TONES];
+    let mut near_ys = [0i16; MOST_TONES];
+    let mut found = [0u16; MOST_TONES];
+    let n = xs.len();
+    label_points(
+        layouts,
+        xs,
+        ys,
+        &mut near_xs[..n],
+        &mut near_ys[..n],
+        &mut found[..n],
+        labels,
+    );
 }
