@@ -10,10 +10,10 @@
  * coding or without.
  *
  * Link with libclevisroot.a (pkg-config: clevisroot). The archive needs memcpy and memset and no
- * other symbol, at most CLEVISROOT_STACK bytes of stack, no heap and no global state. It is
- * re-entrant: any number of threads may call it at the same time. It keeps no pointer after a call.
- * A pointer may be null where its length is 0. An output or a working buffer must not overlap any
- * other argument. All lengths count entries.
+ * other symbol, at most CLEVISROOT_STACK bytes of stack (clevisroot_read_nearest:
+ * CLEVISROOT_NEAREST_STACK), no heap and no global state. It is re-entrant: any number of threads may
+ * call it at the same time. It keeps no pointer after a call. A pointer may be null where its length
+ * is 0. An output or a working buffer must not overlap any other argument. All lengths count entries.
  *
  * The functions that are declared below are proved. Those that are written out in this header and in
  * clevisroot_names.h are plain C, so that the archive holds proved functions only.
@@ -143,7 +143,11 @@ extern "C" {
 /* The most bytes of a working buffer: 4096 entries, so 2048 pairs. */
 #define CLEVISROOT_MAX_WORK 32768
 
-/* The most bytes of stack that a call takes, its own frame and those below. Measured, not proved. */
+/*
+ * The most bytes of stack that a call takes, its own frame and those below: clevisroot_read_nearest,
+ * and any other. Measured, not proved.
+ */
+#define CLEVISROOT_NEAREST_STACK 147456
 #define CLEVISROOT_STACK 57344
 
 /* The numbers of the answers; clevisroot_names.h has their names for logs. */

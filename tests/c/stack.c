@@ -1,6 +1,6 @@
 /*
  * How much stack each call takes: a thread runs it on painted memory, and the paint that is gone is
- * counted. What a thread takes that calls nothing is taken off. No call may pass CLEVISROOT_STACK.
+ * counted. What a thread takes that calls nothing is taken off. No call may pass what the header says.
  */
 #define _DEFAULT_SOURCE
 #include "test.h"
@@ -96,12 +96,12 @@ static size_t touched(call *made)
 }
 
 /* A call on the largest tables; the first one is for the loader, which takes stack of its own. */
-static void measure(const char *name, call *made)
+static void measure(const char *name, call *made, size_t most)
 {
     made();
     size_t taken = touched(made) - touched(nothing);
     CHECK(number == CLEVISROOT_DONE);
-    CHECK(taken <= CLEVISROOT_STACK);
+    CHECK(taken <= most);
     printf("stack of %-9s %s %6zu bytes\n", name, set.coded ? "coded  " : "uncoded", taken);
 }
 
@@ -120,14 +120,14 @@ static void measure_all(uint8_t coded)
     uint32_t size = clevisroot_check(TABLES(&set)).size;
     bytes = clevisroot_frame_bytes(size);
     bytes_at = clevisroot_frame_bytes_at(size, START);
-    measure("check", check);
-    measure("reorder", reorder);
-    measure("encode", encode);
-    measure("encode_at", encode_at);
-    measure("read", read_points);
-    measure("read_at", read_at);
-    measure("nearest", nearest);
-    measure("one tone", one_tone);
+    measure("check", check, CLEVISROOT_STACK);
+    measure("reorder", reorder, CLEVISROOT_STACK);
+    measure("encode", encode, CLEVISROOT_STACK);
+    measure("encode_at", encode_at, CLEVISROOT_STACK);
+    measure("read", read_points, CLEVISROOT_STACK);
+    measure("read_at", read_at, CLEVISROOT_STACK);
+    measure("nearest", nearest, CLEVISROOT_NEAREST_STACK);
+    measure("one tone", one_tone, CLEVISROOT_STACK);
 }
 
 int main(void)

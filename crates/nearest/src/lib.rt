@@ -118,7 +118,7 @@ fn read_planned(
 
 // Reads received points into a frame that starts at a bit of its first byte: refusals 1 to 8, 10 to 12, of 11 the start alone, and 23 at
 // every place. Where nothing is refused, writes all of a nearest frame, zeros around its bits, and answers L, the register after the draws
-// and the total of squared distances; else writes nothing. `work` has 16 bytes a coded pair. A call takes some 116 KiB of stack, no
+// and the total of squared distances; else writes nothing. `work` has 16 bytes a coded pair. A call takes some 140 KiB of stack, no
 // heap and no global.
 pub fn read(
     mode: Mode,
