@@ -27,19 +27,19 @@ use Rattle.nearest.specs.Planned.{DecideSupposes, LowNeeds, Lows, Decide
 use Rattle.nearest.proofs.Entries.{cost-lists, entry-needs, meter-costs, traced-all, tones-within, tones-best}
 
 -- what the labels hold before they are decided does not matter
-pub decide-again : {m : Mode} {from : ℕ} {es ps layouts : List ℕ} {xs ys : List ℤ} {k0 k1 k2 k3 work labels after : List ℕ} → length after ≡ length labels
-    → DecideSupposes m from es ps layouts xs ys k0 k1 k2 k3 work labels → DecideSupposes m from es ps layouts xs ys k0 k1 k2 k3 work after
-decide-again n d = record { costs = d .costs; laid = d .laid; decidable = d .decidable; many = d .many; labelsLength = n ∙ d .labelsLength; byMode = d .byMode }
+pub decide-again : {m : Mode} {from : ℕ} {es ps layouts : List ℕ} {xs ys : List ℤ} {work labels after : List ℕ} → length after ≡ length labels
+    → DecideSupposes m from es ps layouts xs ys work labels → DecideSupposes m from es ps layouts xs ys work after
+decide-again n d = record { tones = d .tones; laid = d .laid; decidable = d .decidable; many = d .many; labelsLength = n ∙ d .labelsLength; byMode = d .byMode }
 
 -- ---- the steps of deciding
 
-module _ {m : Mode} {from : ℕ} {es ps layouts : List ℕ} {xs ys : List ℤ} {k0 k1 k2 k3 work labels : List ℕ} (d : DecideSupposes m from es ps layouts xs ys k0 k1 k2 k3 work labels)
+module _ {m : Mode} {from : ℕ} {es ps layouts : List ℕ} {xs ys : List ℤ} {work labels : List ℕ} (d : DecideSupposes m from es ps layouts xs ys work labels)
     {j0 j1 j2 j3 : List ℕ} (c : Costed layouts (points xs ys) j0 j1 j2 j3 (length xs)) where
   abbrev q : List Point
   q = points xs ys
 
   same : length layouts ≡ length xs
-  same = d .costs .places .layoutsLength
+  same = d .tones .layoutsLength
 
   one-least : (m : Mode) → 1 ≤ leastOwn m
   one-least Uncoded = omega arith
@@ -54,7 +54,7 @@ module _ {m : Mode} {from : ℕ} {es ps layouts : List ℕ} {xs ys : List ℤ} {
       np : length ps ≡ length es
       np = d .decidable .placesLength
 
-      go : (m : Mode) → DecideSupposes m from es ps layouts xs ys k0 k1 k2 k3 work labels → LowNeeds m from ps j0 j1 j2 j3 work labels
+      go : (m : Mode) → DecideSupposes m from es ps layouts xs ys work labels → LowNeeds m from ps j0 j1 j2 j3 work labels
       go Uncoded d =
           record {
             lists = cost-lists (omega arith) (d .decidable) (d .laid) same c;
@@ -72,7 +72,7 @@ module _ {m : Mode} {from : ℕ} {es ps layouts : List ℕ} {xs ys : List ℤ} {
   pub decided : (lows after : List ℕ) (n : ℕ) → Lows m from ps j0 j1 j2 j3 lows n → PlaceLabels layouts q lows after (length xs) → Decides m from es ps q after n
   decided lows after n l p = go m d l
     where
-      go : (m : Mode) → DecideSupposes m from es ps layouts xs ys k0 k1 k2 k3 work labels → Lows m from ps j0 j1 j2 j3 lows n → Decides m from es ps q after n
+      go : (m : Mode) → DecideSupposes m from es ps layouts xs ys work labels → Lows m from ps j0 j1 j2 j3 lows n → Decides m from es ps q after n
       go Uncoded d l =
           record {
             within = tones-within (omega arith) (d .decidable) (d .laid) same c (d .byMode) l p;
@@ -85,7 +85,7 @@ module _ {m : Mode} {from : ℕ} {es ps layouts : List ℕ} {xs ys : List ℤ} {
             traced = traced-all (omega arith) (d .decidable) (d .laid) same c (l .traced) p (omega arith);
           }
 
-module _ {T : Tables} {m : Mode} {from size start : ℕ} {es ps ds layouts k0 k1 k2 k3 labels held f work : List ℕ} {xs ys : List ℤ} (s : NearestSupposes T m from size es ps ds layouts xs ys k0 k1 k2 k3 labels held f start work)
+module _ {T : Tables} {m : Mode} {from size start : ℕ} {es ps ds layouts labels held f work : List ℕ} {xs ys : List ℤ} (s : NearestSupposes T m from size es ps ds layouts xs ys labels held f start work)
     (ls : List ℕ) (n : ℕ) (same : length ls ≡ length labels) (d : Decides m from es ps (points xs ys) ls n) where
   pub frame-labels : FrameLabels m start es ps ls held
   frame-labels = record { placed = s .placed ls same; within = s .within ls n same d; startMost = s .startMost; heldFits = s .heldFits }

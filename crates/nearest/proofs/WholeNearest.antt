@@ -201,8 +201,7 @@ module _ (T : Tables) (xs ys : List ℤ) (r start : ℕ) (f work : List ℕ) (p 
         → ReadsNearest T xs ys r start f work answer after workAfter
     read-done m d = nearest-done T xs ys r start f work (h .tablesPass) inputs-are in-range m d
 
-    module _ (k0 k1 k2 k3 labels held : List ℕ) (n0 : length k0 ≡ length (T .tones)) (n1 : length k1 ≡ length (T .tones)) (n2 : length k2 ≡ length (T .tones)) (n3 : length k3 ≡ length (T .tones))
-        (n : length labels ≡ length (T .tones)) (nh : length held ≡ mostHeld) where
+    module _ (labels held : List ℕ) (n : length labels ≡ length (T .tones)) (nh : length held ≡ mostHeld) where
       abbrev lays : List ℕ
       lays = take (length (T .tones)) layouts
 
@@ -219,26 +218,19 @@ module _ (T : Tables) (xs ys : List ℤ) (r start : ℕ) (f work : List ℕ) (p 
           let fits = subst (λ (k : Mode). HeldFits k start es (length held)) e (held-fits T ok p (h .plan) (others .1) held nh) in
           (fits .1, w ∙ ap (λ (z : ℕ). 16 * ((z + 1) / 2)) (sym (entries-count T ok p (h .plan) (a .entriesLength))))
 
-      can-decide : DecideSupposes (T .mode) (p .«shared_from» .0) es ps lays xs ys k0 k1 k2 k3 work labels
+      can-decide : DecideSupposes (T .mode) (p .«shared_from» .0) es ps lays xs ys work labels
       can-decide =
           let nx = others .0 .0 .0 in
           let nl : length lays ≡ length xs = layouts-length the ∙ length-classes T ∙ sym nx in
           record {
-            costs =
+            tones =
                 record {
-                  places =
-                      record {
-                        layoutsLength = nl;
-                        ysLength = d .ysLength;
-                        ofTones = λ i l. tone-layouts the i (omega (arith, l, nx, length-classes T));
-                        xInRange = d .xInRange;
-                        yInRange = d .yInRange;
-                        few = omega (arith, nx, tones-most T ok);
-                      };
-                  length0 = n0 ∙ sym nx;
-                  length1 = n1 ∙ sym nx;
-                  length2 = n2 ∙ sym nx;
-                  length3 = n3 ∙ sym nx;
+                  layoutsLength = nl;
+                  ysLength = d .ysLength;
+                  ofTones = λ i l. tone-layouts the i (omega (arith, l, nx, length-classes T));
+                  xInRange = d .xInRange;
+                  yInRange = d .yInRange;
+                  few = omega (arith, nx, tones-most T ok);
                 };
             laid = laid-out the;
             decidable = d;
@@ -247,7 +239,7 @@ module _ (T : Tables) (xs ys : List ℤ) (r start : ℕ) (f work : List ℕ) (p 
             byMode = by-mode (T .mode) refl;
           }
 
-      pub nearest-of : NearestSupposes T (T .mode) (p .«shared_from» .0) (p .size) es ps ds lays xs ys k0 k1 k2 k3 labels held f start work
+      pub nearest-of : NearestSupposes T (T .mode) (p .«shared_from» .0) (p .size) es ps ds lays xs ys labels held f start work
       nearest-of =
           let c = length-classes T in
           record {

@@ -27,7 +27,7 @@ use Rattle.plan.specs.declared.Planned.{Planned}
 use Rattle.plan.specs.declared.Planned.the-variants.{Lists, Refused}
 use Rattle.plan.specs.declared.PlanSizes.{PlanSizes}
 use Rattle.nearest.specs.Entries.{metersIn, Decidable}
-use Rattle.nearest.specs.Deciding.{CostNeeds, pairMeters, MeterCosts, PathNeeds, LeastPath, TraceNeeds, LowTraced, Traced, ToneNeeds, LeastLows, BestAll}
+use Rattle.nearest.specs.Deciding.{PlaceNeeds, pairMeters, MeterCosts, PathNeeds, LeastPath, TraceNeeds, LowTraced, Traced, ToneNeeds, LeastLows, BestAll}
 
 -- ---- the inputs
 
@@ -63,16 +63,16 @@ abbrev pub ModeNeeds : Mode → ℕ → List ℕ → List ℤ → List ℕ → T
 ModeNeeds Uncoded from es xs work = from ≡ length xs
 ModeNeeds Coded from es xs work = (4 ≤ length es) × (length work ≡ 16 * ((length es + 1) / 2))
 
-pub record DecideSupposes (m : Mode) (from : ℕ) (es ps layouts : List ℕ) (xs ys : List ℤ) (k0 k1 k2 k3 work labels : List ℕ) : Type 0 where
-  pub costs : CostNeeds layouts xs ys k0 k1 k2 k3
+pub record DecideSupposes (m : Mode) (from : ℕ) (es ps layouts : List ℕ) (xs ys : List ℤ) (work labels : List ℕ) : Type 0 where
+  pub tones : PlaceNeeds layouts xs ys
   pub laid : LaidOut from es ps layouts
   pub decidable : Decidable (leastOwn m) from es ps xs ys
   pub many : length es ≤ mostTones
   pub labelsLength : length labels ≡ length xs
   pub byMode : ModeNeeds m from es xs work
 
-abbrev pub DecideNeeds : Mode → ℕ → List ℕ → List ℕ → List ℤ → List ℤ → List ℕ → List ℕ → List ℕ → List ℕ → List ℕ → List ℕ → Type 0
-DecideNeeds m from ps layouts xs ys k0 k1 k2 k3 work labels = (es : List ℕ) × DecideSupposes m from es ps layouts xs ys k0 k1 k2 k3 work labels
+abbrev pub DecideNeeds : Mode → ℕ → List ℕ → List ℕ → List ℤ → List ℤ → List ℕ → List ℕ → Type 0
+DecideNeeds m from ps layouts xs ys work labels = (es : List ℕ) × DecideSupposes m from es ps layouts xs ys work labels
 
 -- the two lowest bits of the labels at the entries' places, by the costs there
 abbrev pub LowNeeds : Mode → ℕ → List ℕ → List ℕ → List ℕ → List ℕ → List ℕ → List ℕ → List ℕ → Type 0
@@ -106,9 +106,9 @@ Decides Uncoded from es ps q labels n = DecidesTones from es ps q labels n
 Decides Coded from es ps q labels n = DecidesPairs from es ps q labels n
 
 -- whatever entries they are
-abbrev pub DecidesAny : Mode → ℕ → List ℕ → List ℕ → List ℤ → List ℤ → List ℕ → List ℕ → List ℕ → List ℕ → List ℕ → List ℕ → List ℕ → ℕ → Type 0
-DecidesAny m from ps layouts xs ys k0 k1 k2 k3 work labels after n =
-    (es : List ℕ) → DecideSupposes m from es ps layouts xs ys k0 k1 k2 k3 work labels → Decides m from es ps (points xs ys) after n
+abbrev pub DecidesAny : Mode → ℕ → List ℕ → List ℕ → List ℤ → List ℤ → List ℕ → List ℕ → List ℕ → ℕ → Type 0
+DecidesAny m from ps layouts xs ys work labels after n =
+    (es : List ℕ) → DecideSupposes m from es ps layouts xs ys work labels → Decides m from es ps (points xs ys) after n
 
 -- ---- a whole symbol
 
@@ -119,8 +119,8 @@ pub record NearestBits (T : Tables) (m : Mode) (es : List ℕ) (q : List Point) 
   pub size : length bits ≡ sizeOf T
   pub nearest : NearestFrame T q r start (pack start bits) n
 
-pub record NearestSupposes (T : Tables) (m : Mode) (from size : ℕ) (es ps ds layouts : List ℕ) (xs ys : List ℤ) (k0 k1 k2 k3 labels held f : List ℕ) (start : ℕ) (work : List ℕ) : Type 0 where
-  pub decide : DecideSupposes m from es ps layouts xs ys k0 k1 k2 k3 work labels
+pub record NearestSupposes (T : Tables) (m : Mode) (from size : ℕ) (es ps ds layouts : List ℕ) (xs ys : List ℤ) (labels held f : List ℕ) (start : ℕ) (work : List ℕ) : Type 0 where
+  pub decide : DecideSupposes m from es ps layouts xs ys work labels
   pub filler : FillerNeeds ds labels
   pub registerIs : (r : ℕ) → afterDraws (2 * length ds) r ≡ registerAfter r (classesOf T)
   pub placed : (ls : List ℕ) → length ls ≡ length labels → Placed es ps ls
@@ -134,9 +134,9 @@ pub record NearestSupposes (T : Tables) (m : Mode) (from size : ℕ) (es ps ds l
   pub bitsNearest : (r : ℕ) (ls : List ℕ) (n : ℕ) → length ls ≡ length labels → Decides m from es ps (points xs ys) ls n
       → NearestBits T m es (points xs ys) r start (bitsOfLabels es (labelsAt ps ls)) n
 
-pub record NearestNeeds (m : Mode) (from size : ℕ) (es ps ds layouts : List ℕ) (xs ys : List ℤ) (k0 k1 k2 k3 labels held f : List ℕ) (start : ℕ) (work : List ℕ) : Type 0 where
+pub record NearestNeeds (m : Mode) (from size : ℕ) (es ps ds layouts : List ℕ) (xs ys : List ℤ) (labels held f : List ℕ) (start : ℕ) (work : List ℕ) : Type 0 where
   pub tables : Tables
-  pub supposes : NearestSupposes tables m from size es ps ds layouts xs ys k0 k1 k2 k3 labels held f start work
+  pub supposes : NearestSupposes tables m from size es ps ds layouts xs ys labels held f start work
 
 -- L, the register after the draws, and a nearest frame with its total
 pub record ReadsPlanned (T : Tables) (q : List Point) (r start : ℕ) (a : Nearest) (after : List ℕ) : Type 0 where
@@ -144,6 +144,6 @@ pub record ReadsPlanned (T : Tables) (q : List Point) (r start : ℕ) (a : Neare
   pub nearest : NearestFrame T q r start after (totalIn a)
 
 -- whatever tables they are
-abbrev pub ReadsAnyPlanned : Mode → ℕ → ℕ → List ℕ → List ℕ → List ℕ → List ℕ → List ℤ → List ℤ → List ℕ → List ℕ → List ℕ → List ℕ → List ℕ → List ℕ → List ℕ → ℕ → List ℕ → ℕ → Nearest → List ℕ → Type 0
-ReadsAnyPlanned m from size es ps ds layouts xs ys k0 k1 k2 k3 labels held f start work r a after =
-    (T : Tables) → NearestSupposes T m from size es ps ds layouts xs ys k0 k1 k2 k3 labels held f start work → ReadsPlanned T (points xs ys) r start a after
+abbrev pub ReadsAnyPlanned : Mode → ℕ → ℕ → List ℕ → List ℕ → List ℕ → List ℕ → List ℤ → List ℤ → List ℕ → List ℕ → List ℕ → ℕ → List ℕ → ℕ → Nearest → List ℕ → Type 0
+ReadsAnyPlanned m from size es ps ds layouts xs ys labels held f start work r a after =
+    (T : Tables) → NearestSupposes T m from size es ps ds layouts xs ys labels held f start work → ReadsPlanned T (points xs ys) r start a after

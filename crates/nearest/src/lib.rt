@@ -5,6 +5,7 @@ mod range;
 
 ghost use Rattle.g9932.specs.Nearest.{ReadsNearest};
 ghost use Rattle.g9932.specs.Sizes.{tables};
+ghost use Rattle.nearest.specs.Deciding.{CostNeeds};
 ghost use Rattle.nearest.specs.Planned.{LowNeeds, Lows, DecideNeeds, DecidesAny, NearestNeeds, ReadsAnyPlanned};
 use g9932::Found;
 use g9932::MOST_HELD;
@@ -41,8 +42,8 @@ fn decide_low(
     }
 }
 
-// The labels that are decided at their entries' places, and the total of squared distances.
-fn decide_labels(
+// The labels that are decided at their entries' places, and the total of squared distances, with lent room for the costs.
+fn decide_by_costs(
     mode: Mode,
     shared_from: Place,
     places: &[u16],
@@ -56,14 +57,48 @@ fn decide_labels(
     work: &mut [u8],
     labels: &mut [u16],
 ) -> u64
-    requires { ⌜ DecideNeeds mode («shared_from» .0) (now places) (now layouts) (now xs) (now ys) (now k0) (now k1) (now k2) (now k3) (now work) (now labels) ⌝ }
-    ensures { λ r. ⌜ DecidesAny mode («shared_from» .0) (now (places .entry)) (now (layouts .entry)) (now (xs .entry)) (now (ys .entry)) (now (k0 .entry)) (now (k1 .entry)) (now (k2 .entry)) (now (k3 .entry))
-        (now (work .entry)) (now (labels .entry)) (now (labels .exit)) r ⌝ }
+    requires { ⌜ DecideNeeds mode («shared_from» .0) (now places) (now layouts) (now xs) (now ys) (now work) (now labels) × CostNeeds (now layouts) (now xs) (now ys) (now k0) (now k1) (now k2) (now k3) ⌝ }
+    ensures { λ r. ⌜ DecidesAny mode («shared_from» .0) (now (places .entry)) (now (layouts .entry)) (now (xs .entry)) (now (ys .entry)) (now (work .entry)) (now (labels .entry)) (now (labels .exit)) r ⌝ }
 {
     decide::cost_places(layouts, xs, ys, k0, k1, k2, k3);
     let total = decide_low(mode, shared_from, places, k0, k1, k2, k3, work, labels);
     decide::label_places(layouts, xs, ys, labels);
     total
+}
+
+// The same, with room of its own.
+fn decide_labels(
+    mode: Mode,
+    shared_from: Place,
+    places: &[u16],
+    layouts: &[u16],
+    xs: &[i16],
+    ys: &[i16],
+    work: &mut [u8],
+    labels: &mut [u16],
+) -> u64
+    requires { ⌜ DecideNeeds mode («shared_from» .0) (now places) (now layouts) (now xs) (now ys) (now work) (now labels) ⌝ }
+    ensures { λ r. ⌜ DecidesAny mode («shared_from» .0) (now (places .entry)) (now (layouts .entry)) (now (xs .entry)) (now (ys .entry)) (now (work .entry)) (now (labels .entry)) (now (labels .exit)) r ⌝ }
+{
+    let mut k0 = [0u32; MOST_TONES];
+    let mut k1 = [0u32; MOST_TONES];
+    let mut k2 = [0u32; MOST_TONES];
+    let mut k3 = [0u32; MOST_TONES];
+    let n = xs.len();
+    decide_by_costs(
+        mode,
+        shared_from,
+        places,
+        layouts,
+        xs,
+        ys,
+        &mut k0[..n],
+        &mut k1[..n],
+        &mut k2[..n],
+        &mut k3[..n],
+        work,
+        labels,
+    )
 }
 
 // The nearest frame of points in range, by the plan of their tables, with its total. Every input is known to pass.
@@ -78,35 +113,18 @@ fn read_planned(
     xs: &[i16],
     ys: &[i16],
     register: u32,
-    k0: &mut [u32],
-    k1: &mut [u32],
-    k2: &mut [u32],
-    k3: &mut [u32],
     labels: &mut [u16],
     held: &mut [u8],
     frame: &mut [u8],
     start: u8,
     work: &mut [u8],
 ) -> Nearest
-    requires { ⌜ NearestNeeds mode («shared_from» .0) size (now entries) (now places) (now drawing) (now layouts) (now xs) (now ys) (now k0) (now k1) (now k2) (now k3) (now labels) (now held) (now frame) start (now work) ⌝ }
+    requires { ⌜ NearestNeeds mode («shared_from» .0) size (now entries) (now places) (now drawing) (now layouts) (now xs) (now ys) (now labels) (now held) (now frame) start (now work) ⌝ }
     ensures { λ r. ⌜ ReadsAnyPlanned mode («shared_from» .0) size (now (entries .entry)) (now (places .entry)) (now (drawing .entry)) (now (layouts .entry)) (now (xs .entry)) (now (ys .entry))
-        (now (k0 .entry)) (now (k1 .entry)) (now (k2 .entry)) (now (k3 .entry)) (now (labels .entry)) (now (held .entry)) (now (frame .entry)) start (now (work .entry)) register r (now (frame .exit)) ⌝ }
+        (now (labels .entry)) (now (held .entry)) (now (frame .entry)) start (now (work .entry)) register r (now (frame .exit)) ⌝ }
 {
     let after = mapper::write::set_filler(drawing, register, labels);
-    let total = decide_labels(
-        mode,
-        shared_from,
-        places,
-        layouts,
-        xs,
-        ys,
-        k0,
-        k1,
-        k2,
-        k3,
-        work,
-        labels,
-    );
+    let total = decide_labels(mode, shared_from, places, layouts, xs, ys, work, labels);
     let broken = passes::read::frame_of_labels(mode, start, entries, places, labels, held);
     frame::copy(held, frame);
     Nearest::Done {
@@ -140,10 +158,6 @@ pub fn read(
     let mut places = [0u16; MOST_TONES];
     let mut drawing = [0u16; MOST_TONES];
     let mut labels = [0u16; MOST_TONES];
-    let mut k0 = [0u32; MOST_TONES];
-    let mut k1 = [0u32; MOST_TONES];
-    let mut k2 = [0u32; MOST_TONES];
-    let mut k3 = [0u32; MOST_TONES];
     let mut held = [0u8; MOST_HELD];
     let n = tones.len();
     let planned = plan::plan_tables(
@@ -190,10 +204,6 @@ pub fn read(
                 xs,
                 ys,
                 register,
-                &mut k0[..n],
-                &mut k1[..n],
-                &mut k2[..n],
-                &mut k3[..n],
                 &mut labels[..n],
                 &mut held,
                 frame,

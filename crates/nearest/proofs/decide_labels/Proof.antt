@@ -1,22 +1,43 @@
-use mathlib.Core.Path.{_≡_, _∙_}
-use Rattle.nearest.proofs.PlannedReading.{low-needs, decided}
+use lib.Seq.{length-take-le}
+use lib.ListN.{length, take, replicate}
+use mathlib.Core.Path.{sym}
+use Prim.Native.Nat.{ℕ}
 use borrow.Author.Needs.{needs}
 use Rattle.nearest.proofs.decide_labels.Statement.{statement}
 use Rattle.nearest.proofs.decide_labels.Tie as tie
 use Rattle.nearest.proofs.decide_labels.Reads as reads
 use Rattle.nearest.proofs.decide_labels.Lts as lts
-use Rattle.nearest.proofs.decide.cost_places.Reads as cost-places-reads
-use Rattle.nearest.proofs.decide.label_places.Reads as label-places-reads
-use Rattle.nearest.proofs.decide_low.Reads as decide-low-reads
+use Rattle.nearest.proofs.decide_by_costs.Reads as decide-by-costs-reads
 
-cost-places-requires : tie.Need-cost-places-requires
-cost-places-requires c κs = c .before .before .before .before .before .before .before .before .before .before .before .before .pre .1 .costs
+array-borrow-prefix-k0 : tie.Need-array-borrow-prefix-k0
+array-borrow-prefix-k0 c = search needs
 
-decide-low-requires : tie.Need-decide-low-requires
-decide-low-requires c κs = low-needs (c .before .before .before .before .before .before .before .before .before .before .before .before .before .before .before .before .before .before .before .before .before .before .before .before .before .before .before .pre .1) (c .before .before .before .before .before .before .before .before .before .before .before .before .before .before .cost-places .ensures)
+slice-aggregate-decide-by-costs : tie.Need-slice-aggregate-decide-by-costs
+slice-aggregate-decide-by-costs c = sym (length-take-le {A = ℕ} _ (replicate 4096 0) (c .before .before .before .before .before .pre .1 .tones .few))
 
-label-places-requires : tie.Need-label-places-requires
-label-places-requires c κs = record { places = c .before .before .before .before .before .before .before .before .before .before .before .before .before .before .before .before .before .before .before .before .before .before .before .before .before .before .before .before .before .before .before .before .before .pre .1 .costs .places; labelsLength = c .before .before .before .before .before .decide-low .kept .1 .1 .1 .1 .1 .1 .1 .1 .0 ∙ c .before .before .before .before .before .before .before .before .before .before .before .before .before .before .before .before .before .before .before .before .before .before .before .before .before .before .before .before .before .before .before .before .before .pre .1 .labelsLength }
+array-borrow-prefix-k1 : tie.Need-array-borrow-prefix-k1
+array-borrow-prefix-k1 c = search needs
+
+slice-aggregate-decide-by-costs-2 : tie.Need-slice-aggregate-decide-by-costs-2
+slice-aggregate-decide-by-costs-2 c = sym (length-take-le {A = ℕ} _ (replicate 4096 0) (c .before .before .before .before .before .before .pre .1 .tones .few))
+
+array-borrow-prefix-k2 : tie.Need-array-borrow-prefix-k2
+array-borrow-prefix-k2 c = search needs
+
+slice-aggregate-decide-by-costs-3 : tie.Need-slice-aggregate-decide-by-costs-3
+slice-aggregate-decide-by-costs-3 c = sym (length-take-le {A = ℕ} _ (replicate 4096 0) (c .before .before .before .before .before .before .before .pre .1 .tones .few))
+
+array-borrow-prefix-k3 : tie.Need-array-borrow-prefix-k3
+array-borrow-prefix-k3 c = search needs
+
+slice-aggregate-decide-by-costs-4 : tie.Need-slice-aggregate-decide-by-costs-4
+slice-aggregate-decide-by-costs-4 c = sym (length-take-le {A = ℕ} _ (replicate 4096 0) (c .before .before .before .before .before .before .before .before .pre .1 .tones .few))
+
+decide-by-costs-requires : tie.Need-decide-by-costs-requires
+decide-by-costs-requires c κs =
+    let s = c .before .before .before .before .before .before .before .before .before .before .pre in
+    let n = length-take-le {A = ℕ} _ (replicate 4096 0) (s .1 .tones .few) in
+    (s, record { places = s .1 .tones; length0 = n; length1 = n; length2 = n; length3 = n })
 
 same-length : tie.Need-same-length
 same-length c = search needs
@@ -24,32 +45,22 @@ same-length c = search needs
 same-length-2 : tie.Need-same-length-2
 same-length-2 c = search needs
 
-same-length-3 : tie.Need-same-length-3
-same-length-3 c = search needs
-
-same-length-4 : tie.Need-same-length-4
-same-length-4 c = search needs
-
-same-length-5 : tie.Need-same-length-5
-same-length-5 c = search needs
-
-same-length-6 : tie.Need-same-length-6
-same-length-6 c = search needs
-
 returns : tie.Need-returns
-returns c = λ es d. decided d (c .before .before .before .before .before .before .before .before .before .before .before .before .before .before .before .before .before .before .before .before .before .before .before .cost-places .ensures) _ _ _ (c .before .before .before .before .before .before .before .before .decide-low .ensures) (c .before .before .label-places .ensures)
+returns c = search needs
 
 pub decide-labels-spec : {M : Type 1} → statement M
 decide-labels-spec =
     tie.close
     (tie.spec
-    cost-places-requires
-    decide-low-requires
-    label-places-requires
+    array-borrow-prefix-k0
+    slice-aggregate-decide-by-costs
+    array-borrow-prefix-k1
+    slice-aggregate-decide-by-costs-2
+    array-borrow-prefix-k2
+    slice-aggregate-decide-by-costs-3
+    array-borrow-prefix-k3
+    slice-aggregate-decide-by-costs-4
+    decide-by-costs-requires
     same-length
     same-length-2
-    same-length-3
-    same-length-4
-    same-length-5
-    same-length-6
     returns)

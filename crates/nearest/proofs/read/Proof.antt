@@ -117,8 +117,8 @@ slice-aggregate-read-planned-4 c =
     let h = passed (c .before .before .before .before .before .before .before .before .before .before .before .before .before .before .before .plan-tables .ensures) (c .before .before .before .before .before .before .before .before .before .before .check-inputs .ensures) (c .before .before .before .before .before .before .before .before .checked2 .given .1) in
     sym (length-take-le _ (c .before .before .before .before .before .before .before .before .before .before .before .before .before .before .before .plan-tables .last .1 .1 .1 .1 .0) (omega (arith, tones-most _ (number-none (h .tablesPass)), arrays (c .before .before .before .before .before .before .before .before .before .before .before .before .before .before .before) .layoutsLength)))
 
-array-borrow-prefix-k0 : tie.Need-array-borrow-prefix-k0
-array-borrow-prefix-k0 c =
+array-borrow-prefix-labels : tie.Need-array-borrow-prefix-labels
+array-borrow-prefix-labels c =
     let h = passed (c .before .before .before .before .before .before .before .before .before .before .before .before .before .before .before .plan-tables .ensures) (c .before .before .before .before .before .before .before .before .before .before .check-inputs .ensures) (c .before .before .before .before .before .before .before .before .checked2 .given .1) in
     tones-most _ (number-none (h .tablesPass))
 
@@ -127,56 +127,16 @@ slice-aggregate-read-planned-5 c =
     let h = passed (c .before .before .before .before .before .before .before .before .before .before .before .before .before .before .before .before .plan-tables .ensures) (c .before .before .before .before .before .before .before .before .before .before .before .check-inputs .ensures) (c .before .before .before .before .before .before .before .before .before .checked2 .given .1) in
     sym (prefix-length _ (number-none (h .tablesPass)))
 
-array-borrow-prefix-k1 : tie.Need-array-borrow-prefix-k1
-array-borrow-prefix-k1 c =
-    let h = passed (c .before .before .before .before .before .before .before .before .before .before .before .before .before .before .before .before .plan-tables .ensures) (c .before .before .before .before .before .before .before .before .before .before .before .check-inputs .ensures) (c .before .before .before .before .before .before .before .before .before .checked2 .given .1) in
-    tones-most _ (number-none (h .tablesPass))
-
 slice-aggregate-read-planned-6 : tie.Need-slice-aggregate-read-planned-6
-slice-aggregate-read-planned-6 c =
-    let h = passed (c .before .before .before .before .before .before .before .before .before .before .before .before .before .before .before .before .before .plan-tables .ensures) (c .before .before .before .before .before .before .before .before .before .before .before .before .check-inputs .ensures) (c .before .before .before .before .before .before .before .before .before .before .checked2 .given .1) in
-    sym (prefix-length _ (number-none (h .tablesPass)))
-
-array-borrow-prefix-k2 : tie.Need-array-borrow-prefix-k2
-array-borrow-prefix-k2 c =
-    let h = passed (c .before .before .before .before .before .before .before .before .before .before .before .before .before .before .before .before .before .plan-tables .ensures) (c .before .before .before .before .before .before .before .before .before .before .before .before .check-inputs .ensures) (c .before .before .before .before .before .before .before .before .before .before .checked2 .given .1) in
-    tones-most _ (number-none (h .tablesPass))
-
-slice-aggregate-read-planned-7 : tie.Need-slice-aggregate-read-planned-7
-slice-aggregate-read-planned-7 c =
-    let h = passed (c .before .before .before .before .before .before .before .before .before .before .before .before .before .before .before .before .before .before .plan-tables .ensures) (c .before .before .before .before .before .before .before .before .before .before .before .before .before .check-inputs .ensures) (c .before .before .before .before .before .before .before .before .before .before .before .checked2 .given .1) in
-    sym (prefix-length _ (number-none (h .tablesPass)))
-
-array-borrow-prefix-k3 : tie.Need-array-borrow-prefix-k3
-array-borrow-prefix-k3 c =
-    let h = passed (c .before .before .before .before .before .before .before .before .before .before .before .before .before .before .before .before .before .before .plan-tables .ensures) (c .before .before .before .before .before .before .before .before .before .before .before .before .before .check-inputs .ensures) (c .before .before .before .before .before .before .before .before .before .before .before .checked2 .given .1) in
-    tones-most _ (number-none (h .tablesPass))
-
-slice-aggregate-read-planned-8 : tie.Need-slice-aggregate-read-planned-8
-slice-aggregate-read-planned-8 c =
-    let h = passed (c .before .before .before .before .before .before .before .before .before .before .before .before .before .before .before .before .before .before .before .plan-tables .ensures) (c .before .before .before .before .before .before .before .before .before .before .before .before .before .before .check-inputs .ensures) (c .before .before .before .before .before .before .before .before .before .before .before .before .checked2 .given .1) in
-    sym (prefix-length _ (number-none (h .tablesPass)))
-
-array-borrow-prefix-labels : tie.Need-array-borrow-prefix-labels
-array-borrow-prefix-labels c =
-    let h = passed (c .before .before .before .before .before .before .before .before .before .before .before .before .before .before .before .before .before .before .before .plan-tables .ensures) (c .before .before .before .before .before .before .before .before .before .before .before .before .before .before .check-inputs .ensures) (c .before .before .before .before .before .before .before .before .before .before .before .before .checked2 .given .1) in
-    tones-most _ (number-none (h .tablesPass))
-
-slice-aggregate-read-planned-9 : tie.Need-slice-aggregate-read-planned-9
-slice-aggregate-read-planned-9 c =
-    let h = passed (c .before .before .before .before .before .before .before .before .before .before .before .before .before .before .before .before .before .before .before .before .plan-tables .ensures) (c .before .before .before .before .before .before .before .before .before .before .before .before .before .before .before .check-inputs .ensures) (c .before .before .before .before .before .before .before .before .before .before .before .before .before .checked2 .given .1) in
-    sym (prefix-length _ (number-none (h .tablesPass)))
-
-slice-aggregate-read-planned-10 : tie.Need-slice-aggregate-read-planned-10
-slice-aggregate-read-planned-10 c = search needs
+slice-aggregate-read-planned-6 c = search needs
 
 read-planned-requires : tie.Need-read-planned-requires
 read-planned-requires c κs =
-    let a = c .before .before .before .before .before .before .before .before .before .before .before .before .before .before .before .before .before .before .before .before .before .before .before .before .before .before .before .before .before .before .before .before .before .args in
-    let h = passed (c .before .before .before .before .before .before .before .before .before .before .before .before .before .before .before .before .before .before .before .before .before .before .before .plan-tables .ensures) (c .before .before .before .before .before .before .before .before .before .before .before .before .before .before .before .before .before .before .check-inputs .ensures) (c .before .before .before .before .before .before .before .before .before .before .before .before .before .before .before .before .checked2 .given .1) in
-    let range = sym (c .before .before .before .before .before .before .before .before .before .before .before .before .before .before .first-outside .ensures) ∙ c .before .before .before .before .before .before .before .before .before .before .before .before .enum-told .given .1 in
+    let a = c .before .before .before .before .before .before .before .before .before .before .before .before .before .before .before .before .before .before .before .before .before .before .before .before .before .before .before .before .before .args in
+    let h = passed (c .before .before .before .before .before .before .before .before .before .before .before .before .before .before .before .before .before .before .before .plan-tables .ensures) (c .before .before .before .before .before .before .before .before .before .before .before .before .before .before .check-inputs .ensures) (c .before .before .before .before .before .before .before .before .before .before .before .before .checked2 .given .1) in
+    let range = sym (c .before .before .before .before .before .before .before .before .before .before .first-outside .ensures) ∙ c .before .before .before .before .before .before .before .before .enum-told .given .1 in
     let n = prefix-length _ (number-none (h .tablesPass)) in
-    record { tables = tables (a .mode) (a .bits .now) (a .gains .now) (a .tones .now); supposes = nearest-of (tables (a .mode) (a .bits .now) (a .gains .now) (a .tones .now)) (a .xs .now) (a .ys .now) (a .register) (a .start) (a .frame .now) (a .work .now) _ (arrays (c .before .before .before .before .before .before .before .before .before .before .before .before .before .before .before .before .before .before .before .before .before .before .before)) h range _ _ _ _ _ (replicate 7689 0) n n n n n refl }
+    record { tables = (tables (a .mode) (a .bits .now) (a .gains .now) (a .tones .now)); supposes = nearest-of (tables (a .mode) (a .bits .now) (a .gains .now) (a .tones .now)) (a .xs .now) (a .ys .now) (a .register) (a .start) (a .frame .now) (a .work .now) _ (arrays (c .before .before .before .before .before .before .before .before .before .before .before .before .before .before .before .before .before .before .before)) h range _ (replicate 7689 0) n refl }
 
 returns-2 : tie.Need-returns-2
 returns-2 c =
@@ -191,12 +151,12 @@ same-length-2 c = search needs
 
 returns-3 : tie.Need-returns-3
 returns-3 c =
-    let a = c .before .before .before .before .before .before .before .before .before .before .before .before .before .before .before .before .before .before .before .before .before .before .before .before .before .before .before .before .before .before .before .before .before .before .before .before .before .before .before .before .before .before .before .before .args in
-    let rp = c .before .before .before .before .before .before .before .before .before .before .read-planned in
-    let h = passed (c .before .before .before .before .before .before .before .before .before .before .before .before .before .before .before .before .before .before .before .before .before .before .before .before .before .before .before .before .before .before .before .before .before .before .plan-tables .ensures) (c .before .before .before .before .before .before .before .before .before .before .before .before .before .before .before .before .before .before .before .before .before .before .before .before .before .before .before .before .before .check-inputs .ensures) (c .before .before .before .before .before .before .before .before .before .before .before .before .before .before .before .before .before .before .before .before .before .before .before .before .before .before .before .checked2 .given .1) in
-    let range = sym (c .before .before .before .before .before .before .before .before .before .before .before .before .before .before .before .before .before .before .before .before .before .before .before .before .before .first-outside .ensures) ∙ c .before .before .before .before .before .before .before .before .before .before .before .before .before .before .before .before .before .before .before .before .before .before .before .enum-told .given .1 in
+    let a = c .before .before .before .before .before .before .before .before .before .before .before .before .before .before .before .before .before .before .before .before .before .before .before .before .before .before .before .before .before .before .before .before .before .before .before .before .args in
+    let rp = c .before .before .before .before .before .before .read-planned in
+    let h = passed (c .before .before .before .before .before .before .before .before .before .before .before .before .before .before .before .before .before .before .before .before .before .before .before .before .before .before .plan-tables .ensures) (c .before .before .before .before .before .before .before .before .before .before .before .before .before .before .before .before .before .before .before .before .before .check-inputs .ensures) (c .before .before .before .before .before .before .before .before .before .before .before .before .before .before .before .before .before .before .before .checked2 .given .1) in
+    let range = sym (c .before .before .before .before .before .before .before .before .before .before .before .before .before .before .before .before .before .first-outside .ensures) ∙ c .before .before .before .before .before .before .before .before .before .before .before .before .before .before .before .enum-told .given .1 in
     let n = prefix-length _ (number-none (h .tablesPass)) in
-    read-done (tables (a .mode) (a .bits .now) (a .gains .now) (a .tones .now)) (a .xs .now) (a .ys .now) (a .register) (a .start) (a .frame .now) (a .work .now) _ (arrays (c .before .before .before .before .before .before .before .before .before .before .before .before .before .before .before .before .before .before .before .before .before .before .before .before .before .before .before .before .before .before .before .before .before .before)) h range (rp .kept .1 .1 .1 .1 .1 .1 .1 .1 .1 .1 .1 .1 .1 .1 .1 .1 .1 .1 .0) (rp .ensures (tables (a .mode) (a .bits .now) (a .gains .now) (a .tones .now)) (nearest-of (tables (a .mode) (a .bits .now) (a .gains .now) (a .tones .now)) (a .xs .now) (a .ys .now) (a .register) (a .start) (a .frame .now) (a .work .now) _ (arrays (c .before .before .before .before .before .before .before .before .before .before .before .before .before .before .before .before .before .before .before .before .before .before .before .before .before .before .before .before .before .before .before .before .before .before)) h range _ _ _ _ _ (replicate 7689 0) n n n n n refl))
+    read-done (tables (a .mode) (a .bits .now) (a .gains .now) (a .tones .now)) (a .xs .now) (a .ys .now) (a .register) (a .start) (a .frame .now) (a .work .now) _ (arrays (c .before .before .before .before .before .before .before .before .before .before .before .before .before .before .before .before .before .before .before .before .before .before .before .before .before .before)) h range (rp .kept .1 .1 .1 .1 .1 .1 .1 .1 .1 .1 .1 .1 .1 .1 .0) (rp .ensures (tables (a .mode) (a .bits .now) (a .gains .now) (a .tones .now)) (nearest-of (tables (a .mode) (a .bits .now) (a .gains .now) (a .tones .now)) (a .xs .now) (a .ys .now) (a .register) (a .start) (a .frame .now) (a .work .now) _ (arrays (c .before .before .before .before .before .before .before .before .before .before .before .before .before .before .before .before .before .before .before .before .before .before .before .before .before .before)) h range _ (replicate 7689 0) n refl))
 
 pub read-spec : {M : Type 1} → statement M
 read-spec =
@@ -222,17 +182,9 @@ read-spec =
     slice-aggregate-read-planned-3
     array-share-prefix-layouts
     slice-aggregate-read-planned-4
-    array-borrow-prefix-k0
-    slice-aggregate-read-planned-5
-    array-borrow-prefix-k1
-    slice-aggregate-read-planned-6
-    array-borrow-prefix-k2
-    slice-aggregate-read-planned-7
-    array-borrow-prefix-k3
-    slice-aggregate-read-planned-8
     array-borrow-prefix-labels
-    slice-aggregate-read-planned-9
-    slice-aggregate-read-planned-10
+    slice-aggregate-read-planned-5
+    slice-aggregate-read-planned-6
     read-planned-requires
     returns-2
     same-length

@@ -1,6 +1,6 @@
-use mathlib.Core.Path.{_≡_, _∙_}
-use native.Mathlib.Omega.{arith}
 use Rattle.nearest.proofs.PlannedReading.{decide-again, frame-labels, frame-fits, planned-read}
+use native.Mathlib.Omega.{arith}
+use mathlib.Core.Path.{_≡_, _∙_}
 use borrow.Author.Needs.{needs}
 use Rattle.nearest.proofs.read_planned.Statement.{statement}
 use Rattle.nearest.proofs.read_planned.Tie as tie
@@ -12,25 +12,25 @@ use Rattle.nearest.proofs.decide_labels.Reads as decide-labels-reads
 use Rattle.passes.proofs.read.frame_of_labels.Reads as frame-of-labels-reads
 
 set-filler-requires : tie.Need-set-filler-requires
-set-filler-requires c κs = c .before .before .before .before .before .before .before .before .before .before .before .before .before .pre .supposes .filler
+set-filler-requires c κs = search needs
 
 decide-labels-requires : tie.Need-decide-labels-requires
-decide-labels-requires c κs = (_, decide-again (c .before .before .before .before .before .before .before .before .set-filler .kept .1 .1 .0) (c .before .before .before .before .before .before .before .before .before .before .before .before .before .before .before .before .before .before .before .before .before .before .pre .supposes .decide))
+decide-labels-requires c κs = (_, decide-again (c .before .before .before .before .set-filler .kept .1 .1 .0) (c .before .before .before .before .before .before .before .before .before .before .before .before .before .before .pre .supposes .decide))
 
 frame-of-labels-requires : tie.Need-frame-of-labels-requires
 frame-of-labels-requires c κs =
-    let d = c .before .before .before .before .before .before .before .before .before .before .before .before .before .before .decide-labels in
-    let f = c .before .before .before .before .before .before .before .before .before .before .before .before .before .before .before .before .before .before .before .before .before .before .before .set-filler .kept .1 .1 .0 in
-    let s = c .before .before .before .before .before .before .before .before .before .before .before .before .before .before .before .before .before .before .before .before .before .before .before .before .before .before .before .before .before .before .before .before .before .before .before .before .before .pre .supposes in
-    frame-labels s _ _ (d .kept .1 .1 .1 .1 .1 .1 .1 .1 .1 .1 .1 .0 ∙ f) (d .ensures _ (decide-again f (s .decide)))
+    let d = c .before .before .before .before .before .before .decide-labels in
+    let f = c .before .before .before .before .before .before .before .before .before .before .before .set-filler .kept .1 .1 .0 in
+    let s = c .before .before .before .before .before .before .before .before .before .before .before .before .before .before .before .before .before .before .before .before .before .pre .supposes in
+    frame-labels s _ _ (d .kept .1 .1 .1 .1 .1 .1 .1 .0 ∙ f) (d .ensures _ (decide-again f (s .decide)))
 
 copy-requires : tie.Need-copy-requires
 copy-requires c κs =
-    let d = c .before .before .before .before .before .before .before .before .before .before .before .before .before .before .before .before .before .before .before .decide-labels in
-    let f = c .before .before .before .before .before .before .before .before .before .before .before .before .before .before .before .before .before .before .before .before .before .before .before .before .before .before .before .before .set-filler .kept .1 .1 .0 in
-    let s = c .before .before .before .before .before .before .before .before .before .before .before .before .before .before .before .before .before .before .before .before .before .before .before .before .before .before .before .before .before .before .before .before .before .before .before .before .before .before .before .before .before .before .pre .supposes in
+    let d = c .before .before .before .before .before .before .before .before .before .before .before .decide-labels in
+    let f = c .before .before .before .before .before .before .before .before .before .before .before .before .before .before .before .before .set-filler .kept .1 .1 .0 in
+    let s = c .before .before .before .before .before .before .before .before .before .before .before .before .before .before .before .before .before .before .before .before .before .before .before .before .before .before .pre .supposes in
     let o = c .before .before .before .before .frame-of-labels in
-    frame-fits s _ _ (d .kept .1 .1 .1 .1 .1 .1 .1 .1 .1 .1 .1 .0 ∙ f) (d .ensures _ (decide-again f (s .decide))) (o .ensures) (o .kept .1 .1 .1 .1 .1 .0)
+    frame-fits s _ _ (d .kept .1 .1 .1 .1 .1 .1 .1 .0 ∙ f) (d .ensures _ (decide-again f (s .decide))) (o .ensures) (o .kept .1 .1 .1 .1 .1 .0)
 
 same-length : tie.Need-same-length
 same-length c = search needs
@@ -44,26 +44,14 @@ same-length-3 c = search needs
 same-length-4 : tie.Need-same-length-4
 same-length-4 c = search needs
 
-same-length-5 : tie.Need-same-length-5
-same-length-5 c = search needs
-
-same-length-6 : tie.Need-same-length-6
-same-length-6 c = search needs
-
-same-length-7 : tie.Need-same-length-7
-same-length-7 c = search needs
-
-same-length-8 : tie.Need-same-length-8
-same-length-8 c = search needs
-
 returns : tie.Need-returns
 returns c =
-    let d = c .before .before .before .before .before .before .before .before .before .before .before .before .before .before .before .before .before .before .before .before .before .before .decide-labels in
-    let f = c .before .before .before .before .before .before .before .before .before .before .before .before .before .before .before .before .before .before .before .before .before .before .before .before .before .before .before .before .before .before .before .set-filler .kept .1 .1 .0 in
+    let d = c .before .before .before .before .before .before .before .before .before .before .before .before .before .before .decide-labels in
+    let f = c .before .before .before .before .before .before .before .before .before .before .before .before .before .before .before .before .before .before .before .set-filler .kept .1 .1 .0 in
     let o = c .before .before .before .before .before .before .before .frame-of-labels in
-    let bytes = c .before .before .before .before .before .slice-known16 .given in
-    λ T s. planned-read s _ _ (d .kept .1 .1 .1 .1 .1 .1 .1 .1 .1 .1 .1 .0 ∙ f) (d .ensures _ (decide-again f (s .decide))) (o .ensures) (o .kept .1 .1 .1 .1 .1 .0)
-    (c .before .before .before .before .before .before .before .before .before .before .before .before .before .before .before .before .before .before .before .before .before .before .before .before .before .before .before .before .before .before .before .set-filler .ensures) (λ k i. omega (arith, bytes k)) (c .before .before .copy .ensures)
+    let bytes = c .before .before .before .before .before .slice-known8 .given in
+    λ T s. planned-read s _ _ (d .kept .1 .1 .1 .1 .1 .1 .1 .0 ∙ f) (d .ensures _ (decide-again f (s .decide))) (o .ensures) (o .kept .1 .1 .1 .1 .1 .0)
+    (c .before .before .before .before .before .before .before .before .before .before .before .before .before .before .before .before .before .before .before .set-filler .ensures) (λ k i. omega (arith, bytes k)) (c .before .before .copy .ensures)
 
 pub read-planned-spec : {M : Type 1} → statement M
 read-planned-spec =
@@ -77,8 +65,4 @@ read-planned-spec =
     same-length-2
     same-length-3
     same-length-4
-    same-length-5
-    same-length-6
-    same-length-7
-    same-length-8
     returns)
