@@ -44,7 +44,7 @@ use Rattle.plan.specs.declared.PlanSizes.{PlanSizes}
 use Rattle.symbol.proofs.Answers.{size-is, inputs-read}
 use Rattle.symbol.proofs.TablePlan.{the-plan, held-fits, tones-most}
 use Rattle.nearest.specs.Entries.{Decidable}
-use Rattle.nearest.specs.Planned.{workFor, afterLists, EntriesFit, ChecksLists, ModeNeeds, DecideSupposes, NearestSupposes, ReadsPlanned}
+use Rattle.nearest.specs.Planned.{workFor, inputsBy, afterLists, EntriesFit, ChecksLists, Passed, ListsSuppose, ModeNeeds, DecideSupposes, NearestSupposes, ReadsPlanned}
 use Rattle.nearest.proofs.Laid.{layouts-length, tone-layouts, laid-out}
 use Rattle.nearest.proofs.NearestInputs.{work-fits}
 use Rattle.nearest.proofs.NearestPlan.{decidable, uncoded-own, work-pairs, no-pairs, entries-count, decided-within, bits-nearest}
@@ -55,11 +55,6 @@ use Rattle.nearest.proofs.NearestPlan.{decidable, uncoded-own, work-pai
 pub entries-fit : (T : Tables) (planned : Planned) {layouts entries places drawing : List ℕ} → Plans T planned layouts entries places drawing → EntriesFit planned
 entries-fit T (Lists p) w = omega (arith, w .made .entriesMost, tones-most T (number-none (w .answer)))
 entries-fit T (PlanRefused x) w = tt
-
-pub record Passed (T : Tables) (v : PlanSizes → Verdict) (p : PlanSizes) (layouts entries places drawing : List ℕ) : Type 0 where
-  pub tablesPass : accepted (p .size) ≡ tableVerdict T
-  pub inputsPass : accepted (p .size) ≡ v p
-  pub plan : PlanIs T p layouts entries places drawing
 
 pub passed : {T : Tables} {v : PlanSizes → Verdict} {planned r : Planned} {layouts entries places drawing : List ℕ} → Plans T planned layouts entries places drawing → ChecksLists v planned r
     → {p : PlanSizes} → r ≡ Lists p → Passed T v p layouts entries places drawing
@@ -128,10 +123,6 @@ work-is T ok p is n = go (T .mode) refl
     go : (m : Mode) → T .mode ≡ m → workFor m (p .«entry_count») ≡ workBytes T
     go Uncoded e = omega (arith, no-pairs T ok p is e)
     go Coded e = omega (arith, work-pairs T ok p is e, entries-count T ok p is n)
-
--- what the inputs are tested for, by the plan
-abbrev pub inputsBy : Tables → ℕ → ℕ → ℕ → ℕ → ℕ → ℕ → PlanSizes → Verdict
-inputsBy T start x y f w r p = nearestInputs start (p .size) (length (T .tones)) (workFor (T .mode) (p .«entry_count»)) x y f w r
 
 pub nearest-refused : (T : Tables) (xs ys : List ℤ) (r start : ℕ) (f work : List ℕ) (planned q : Planned) {x : Refusal} {layouts entries places drawing : List ℕ}
     → Arrays layouts entries places drawing → Plans T planned layouts entries places drawing
@@ -261,3 +252,47 @@ module _ (T : Tables) (xs ys : List ℤ) (r start : ℕ) (f work : List ℕ) (p 
             within = λ ls k m e. decided-within T ok p (h .plan) xs ys (others .0 .0 .0) (others .0 .0 .1) in-range (T .mode) refl ls k e;
             bitsNearest = λ s ls k m e. bits-nearest T ok p (h .plan) xs ys (others .0 .0 .0) (others .0 .0 .1) in-range (T .mode) refl s start (others .1) ls k e;
           }
+
+-- ---- the same for lists that some tables were planned to
+
+module _ {T : Tables} {m : Mode} {p : PlanSizes} {layouts entries places drawing : List ℕ} {xs ys : List ℤ} {r : ℕ} {f : List ℕ} {start : ℕ} {work : List ℕ}
+    (s : ListsSuppose T m p layouts entries places drawing xs ys r f start work) where
+  tonesFew : length (T .tones) ≤ mostTones
+  tonesFew = tones-most T (number-none (s .passed .tablesPass))
+
+  tones-are : length xs ≡ length (T .tones)
+  tones-are = others T xs ys r start f work p (s .arrays) (s .passed) .0 .0 .0
+
+  -- every list is inside its array
+  pub entries-inside : p .«entry_count» ≤ length entries
+  entries-inside = omega (arith, s .passed .plan .entriesMost, tonesFew, s .arrays .entriesLength)
+
+  pub places-inside : p .«entry_count» ≤ length places
+  places-inside = omega (arith, s .passed .plan .entriesMost, tonesFew, s .arrays .placesLength)
+
+  pub drawing-inside : p .«drawing_count» ≤ length drawing
+  drawing-inside = omega (arith, s .passed .plan .drawingMost, tonesFew, s .arrays .drawingLength)
+
+  pub points-few : length xs ≤ mostTones
+  points-few = omega (arith, tonesFew, tones-are)
+
+  pub layouts-inside : length xs ≤ length layouts
+  layouts-inside = omega (arith, points-few, s .arrays .layoutsLength)
+
+  pub lists-points : length ys ≡ length xs
+  lists-points = same-points T xs ys r start f work p (s .arrays) (s .passed)
+
+  pub lists-outside : {k : ℕ} → At k ≡ first (rangeTest (points xs ys)) (length xs) → ReadsNearest T xs ys r start f work (Refused (Range (record { 0 = k })) r) f work
+  lists-outside = range-refused T xs ys r start f work p (s .arrays) (s .passed)
+
+  module _ (range : first (rangeTest (points xs ys)) (length xs) ≡ Nothing) where
+    pub lists-nearest : (labels held : List ℕ) → length labels ≡ length xs → length held ≡ mostHeld
+        → NearestSupposes T m (p .«shared_from» .0) (p .size) (take (p .«entry_count») entries) (take (p .«entry_count») places) (take (p .«drawing_count») drawing) (take (length xs) layouts) xs ys labels held f start work
+    lists-nearest labels held n nh =
+        subst (λ (k : Mode). NearestSupposes T k (p .«shared_from» .0) (p .size) (take (p .«entry_count») entries) (take (p .«entry_count») places) (take (p .«drawing_count») drawing) (take (length xs) layouts) xs ys labels held f start work) (s .modeIs)
+        (subst (λ (k : ℕ). NearestSupposes T (T .mode) (p .«shared_from» .0) (p .size) (take (p .«entry_count») entries) (take (p .«entry_count») places) (take (p .«drawing_count») drawing) (take k layouts) xs ys labels held f start work) (sym tones-are)
+        (nearest-of T xs ys r start f work p (s .arrays) (s .passed) range labels held (n ∙ tones-are) nh))
+
+    pub lists-done : {answer : Nearest} {after workAfter : List ℕ} → length workAfter ≡ length work → ReadsPlanned T (points xs ys) r start answer after
+        → ReadsNearest T xs ys r start f work answer after workAfter
+    lists-done = read-done T xs ys r start f work p (s .arrays) (s .passed) range

@@ -11,9 +11,9 @@ use Rattle.cosets.specs.Meters.{Meter}
 use Rattle.frame.specs.Labels.{bitsOfLabels, Within, labelsAt, Placed}
 use Rattle.g9932.specs.Answers.{Report}
 use Rattle.g9932.specs.Filler.{afterDraws, registerAfter}
-use Rattle.g9932.specs.Nearest.{NearestFrame, nearestOf, totalIn}
+use Rattle.g9932.specs.Nearest.{NearestFrame, nearestInputs, ReadsNearest, nearestOf, totalIn}
 use Rattle.g9932.specs.Order.{pairsOf}
-use Rattle.g9932.specs.Refusals.{numberOf, placeOf, Verdict, refused, accepted}
+use Rattle.g9932.specs.Refusals.{numberOf, placeOf, Verdict, refused, accepted, tableVerdict}
 use Rattle.g9932.specs.Sizes.{Tables, entry, Point, points, bytesFor, pack, mostTones, mostBits, mostHeld}
 use Rattle.g9932.specs.Symbol.{classesOf, sizeOf}
 use Rattle.g9932.specs.Trellis.{frame, readingOf}
@@ -22,7 +22,7 @@ use Rattle.g9932.specs.declared.Mode.the-variants.{Uncoded, Coded}
 use Rattle.g9932.specs.declared.Nearest.{Nearest}
 use Rattle.mapper.specs.Writing.{FillerNeeds}
 use Rattle.passes.specs.ReadSymbol.{HeldFits}
-use Rattle.plan.specs.Plan.{leastOwn, plannedVerdict}
+use Rattle.plan.specs.Plan.{Arrays, PlanIs, leastOwn, plannedVerdict}
 use Rattle.plan.specs.declared.Planned.{Planned}
 use Rattle.plan.specs.declared.Planned.the-variants.{Lists, Refused}
 use Rattle.plan.specs.declared.PlanSizes.{PlanSizes}
@@ -147,3 +147,29 @@ pub record ReadsPlanned (T : Tables) (q : List Point) (r start : ℕ) (a : Neare
 abbrev pub ReadsAnyPlanned : Mode → ℕ → ℕ → List ℕ → List ℕ → List ℕ → List ℕ → List ℤ → List ℤ → List ℕ → List ℕ → List ℕ → ℕ → List ℕ → ℕ → Nearest → List ℕ → Type 0
 ReadsAnyPlanned m from size es ps ds layouts xs ys labels held f start work r a after =
     (T : Tables) → NearestSupposes T m from size es ps ds layouts xs ys labels held f start work → ReadsPlanned T (points xs ys) r start a after
+
+-- ---- a whole symbol, from the answers of planning and of checking the inputs
+
+-- what the inputs are tested for, by the plan
+abbrev pub inputsBy : Tables → ℕ → ℕ → ℕ → ℕ → ℕ → ℕ → PlanSizes → Verdict
+inputsBy T start x y f w r p = nearestInputs start (p .size) (length (T .tones)) (workFor (T .mode) (p .«entry_count»)) x y f w r
+
+-- nothing of 1 to 8 and 10 to 12 is refused, and the arrays hold the plan
+pub record Passed (T : Tables) (v : PlanSizes → Verdict) (p : PlanSizes) (layouts entries places drawing : List ℕ) : Type 0 where
+  pub tablesPass : accepted (p .size) ≡ tableVerdict T
+  pub inputsPass : accepted (p .size) ≡ v p
+  pub plan : PlanIs T p layouts entries places drawing
+
+pub record ListsSuppose (T : Tables) (m : Mode) (p : PlanSizes) (layouts entries places drawing : List ℕ) (xs ys : List ℤ) (r : ℕ) (f : List ℕ) (start : ℕ) (work : List ℕ) : Type 0 where
+  pub modeIs : T .mode ≡ m
+  pub arrays : Arrays layouts entries places drawing
+  pub passed : Passed T (inputsBy T start (length xs) (length ys) (length f) (length work) r) p layouts entries places drawing
+
+pub record ListsNeeds (m : Mode) (p : PlanSizes) (layouts entries places drawing : List ℕ) (xs ys : List ℤ) (r : ℕ) (f : List ℕ) (start : ℕ) (work : List ℕ) : Type 0 where
+  pub tables : Tables
+  pub supposes : ListsSuppose tables m p layouts entries places drawing xs ys r f start work
+
+-- whatever tables they are
+abbrev pub ReadsAnyLists : Mode → PlanSizes → List ℕ → List ℕ → List ℕ → List ℕ → List ℤ → List ℤ → ℕ → List ℕ → ℕ → List ℕ → Nearest → List ℕ → List ℕ → Type 0
+ReadsAnyLists m p layouts entries places drawing xs ys r f start work a after workAfter =
+    (T : Tables) → ListsSuppose T m p layouts entries places drawing xs ys r f start work → ReadsNearest T xs ys r start f work a after workAfter

@@ -1,6 +1,7 @@
 // The inputs of nearest reading besides the tables.
 ghost use mathlib.Core.Path.{_≡_};
 ghost use Prim.Native.Nat.{_≤_};
+ghost use lib.ListN.{length};
 ghost use Rattle.g9932.specs.Nearest.{nearestInputs};
 ghost use Rattle.g9932.specs.Sizes.{mostTones};
 ghost use Rattle.nearest.specs.Planned.{workFor, EntriesFit, ChecksLists};
@@ -24,26 +25,34 @@ pub fn check_inputs(
     planned: Planned,
     mode: Mode,
     nsc: usize,
-    x_len: usize,
-    y_len: usize,
-    frame_len: usize,
-    work_len: usize,
+    xs: &[i16],
+    ys: &[i16],
+    frame: &[u8],
+    work: &[u8],
     start: u8,
     register: u32,
 ) -> Planned
     requires { ⌜ EntriesFit planned ⌝ }
-    ensures { λ r. ⌜ ChecksLists (λ p. nearestInputs start (p .size) nsc (workFor mode (p .«entry_count»)) «x_len» «y_len» «frame_len» «work_len» register) planned r ⌝ }
+    ensures { λ r. ⌜ ChecksLists (λ p. nearestInputs start (p .size) nsc (workFor mode (p .«entry_count»)) (length (now (xs .entry))) (length (now (ys .entry))) (length (now (frame .entry))) (length (now (work .entry))) register) planned r ⌝ }
 {
     match planned {
         Planned::Refused(refusal) => {
             return Planned::Refused(refusal);
         }
         Planned::Lists(p) => {
-            if work_len != work_bytes(mode, p.entry_count) {
+            if work.len() != work_bytes(mode, p.entry_count) {
                 return Planned::Refused(Refusal::Room);
             }
             let lists = Planned::Lists(p);
-            symbol::reading::check_inputs(lists, nsc, x_len, y_len, frame_len, start, register)
+            symbol::reading::check_inputs(
+                lists,
+                nsc,
+                xs.len(),
+                ys.len(),
+                frame.len(),
+                start,
+                register,
+            )
         }
     }
 }

@@ -6,7 +6,7 @@ mod range;
 ghost use Rattle.g9932.specs.Nearest.{ReadsNearest};
 ghost use Rattle.g9932.specs.Sizes.{tables};
 ghost use Rattle.nearest.specs.Deciding.{CostNeeds};
-ghost use Rattle.nearest.specs.Planned.{LowNeeds, Lows, DecideNeeds, DecidesAny, NearestNeeds, ReadsAnyPlanned};
+ghost use Rattle.nearest.specs.Planned.{LowNeeds, Lows, DecideNeeds, DecidesAny, NearestNeeds, ReadsAnyPlanned, ListsNeeds, ReadsAnyLists};
 use g9932::Found;
 use g9932::MOST_HELD;
 use g9932::MOST_TONES;
@@ -14,6 +14,7 @@ use g9932::Mode;
 use g9932::Nearest;
 use g9932::Place;
 use g9932::Refusal;
+use plan::PlanSizes;
 use plan::Planned;
 
 // The two lowest bits of the labels at their entries' places, by the costs there, and the total of squared distances. Coded, `work` holds
@@ -134,6 +135,56 @@ fn read_planned(
     }
 }
 
+// The nearest frame by the plan of accepted tables: every input is known to pass but for 23, which looks at every place.
+fn read_lists(
+    mode: Mode,
+    p: PlanSizes,
+    layouts: &[u16],
+    entries: &[u8],
+    places: &[u16],
+    drawing: &[u16],
+    xs: &[i16],
+    ys: &[i16],
+    register: u32,
+    frame: &mut [u8],
+    start: u8,
+    work: &mut [u8],
+) -> Nearest
+    requires { ⌜ ListsNeeds mode p (now layouts) (now entries) (now places) (now drawing) (now xs) (now ys) register (now frame) start (now work) ⌝ }
+    ensures { λ r. ⌜ ReadsAnyLists mode p (now (layouts .entry)) (now (entries .entry)) (now (places .entry)) (now (drawing .entry)) (now (xs .entry)) (now (ys .entry)) register (now (frame .entry)) start
+        (now (work .entry)) r (now (frame .exit)) (now (work .exit)) ⌝ }
+{
+    let mut labels = [0u16; MOST_TONES];
+    let mut held = [0u8; MOST_HELD];
+    let outside = range::first_outside(xs, ys);
+    if let Found::At(k) = outside {
+        return Nearest::Refused {
+            refusal: Refusal::Range(Place(k)),
+            register,
+        };
+    }
+    let n = xs.len();
+    let e = p.entry_count;
+    let d = p.drawing_count;
+    read_planned(
+        mode,
+        p.shared_from,
+        p.size,
+        &entries[..e],
+        &places[..e],
+        &drawing[..d],
+        &layouts[..n],
+        xs,
+        ys,
+        register,
+        &mut labels[..n],
+        &mut held,
+        frame,
+        start,
+        work,
+    )
+}
+
 // Reads received points into a frame that starts at a bit of its first byte: refusals 1 to 8, 10 to 12, of 11 the start alone, and 23 at
 // every place. Where nothing is refused, writes all of a nearest frame, zeros around its bits, and answers L, the register after the draws
 // and the total of squared distances; else writes nothing. `work` has 16 bytes a coded pair. A call takes some 140 KiB of stack, no
@@ -157,8 +208,6 @@ pub fn read(
     let mut entries = [0u8; MOST_TONES];
     let mut places = [0u16; MOST_TONES];
     let mut drawing = [0u16; MOST_TONES];
-    let mut labels = [0u16; MOST_TONES];
-    let mut held = [0u8; MOST_HELD];
     let n = tones.len();
     let planned = plan::plan_tables(
         mode,
@@ -170,46 +219,22 @@ pub fn read(
         &mut places,
         &mut drawing,
     );
-    let checked = inputs::check_inputs(
-        planned,
-        mode,
-        n,
-        xs.len(),
-        ys.len(),
-        frame.len(),
-        work.len(),
-        start,
-        register,
-    );
+    let checked = inputs::check_inputs(planned, mode, n, xs, ys, frame, work, start, register);
     match checked {
         Planned::Refused(refusal) => Nearest::Refused { refusal, register },
-        Planned::Lists(p) => {
-            let outside = range::first_outside(xs, ys);
-            if let Found::At(k) = outside {
-                return Nearest::Refused {
-                    refusal: Refusal::Range(Place(k)),
-                    register,
-                };
-            }
-            let e = p.entry_count;
-            let d = p.drawing_count;
-            read_planned(
-                mode,
-                p.shared_from,
-                p.size,
-                &entries[..e],
-                &places[..e],
-                &drawing[..d],
-                &layouts[..n],
-                xs,
-                ys,
-                register,
-                &mut labels[..n],
-                &mut held,
-                frame,
-                start,
-                work,
-            )
-        }
+        Planned::Lists(p) => read_lists(
+            mode,
+            p,
+            &layouts,
+            &entries,
+            &places,
+            &drawing,
+            xs,
+            ys,
+            register,
+            frame,
+            start,
+            work,
+        ),
     }
 }

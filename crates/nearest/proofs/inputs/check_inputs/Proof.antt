@@ -1,5 +1,5 @@
-use mathlib.Core.Path.{_≡_, sym, _∙_}
 use Rattle.nearest.proofs.NearestInputs.{work-room, work-fits, tables-refused, work-refused, others-say}
+use mathlib.Core.Path.{_≡_, sym, _∙_}
 use borrow.Author.Needs.{needs}
 use Rattle.nearest.proofs.inputs.check_inputs.Statement.{statement}
 use Rattle.nearest.proofs.inputs.check_inputs.Tie as tie
@@ -18,7 +18,7 @@ enum-known-planned-2 : tie.Need-enum-known-planned-2
 enum-known-planned-2 c = search needs
 
 work-bytes-requires : tie.Need-work-bytes-requires
-work-bytes-requires c κs = rw (c .before .planned2 .given .1) at (c .before .before .before .pre)
+work-bytes-requires c κs = rw (c .before .planned2 .given .1) at (c .before .before .before .before .before .pre)
 
 returns-2 : tie.Need-returns-2
 returns-2 c = work-refused (c .before .before .before .planned2 .given .1) _ (work-room _ _ _ _ _ _ _ _ _ (λ e. c .if1 .taken (e ∙ sym (c .before .work-bytes .ensures))))
