@@ -1,5 +1,5 @@
 -- The nearest place of the rectangles is the nearest point of the coset.
-use Prim.Native.Nat.{ℕ, zero, suc, _+_, _-_, _*_, _/_, _%_, _^_, _≤_, _<_, min}
+use Prim.Native.Nat.{ℕ, zero, suc, _+_, _-_, _*_, _/_, _%_, _^_, _≤_, min}
 use mathlib.Core.Bool.{Bool, true, false, not}
 use mathlib.Core.List.{List, [], _∷_}
 use mathlib.Core.Logic.{_⊎_, inl, inr, ⊎-elim}
@@ -12,13 +12,12 @@ use Rattle.g9932.specs.Bits.{_⊕_, bit, weight, num, odd}
 use Rattle.g9932.specs.Trellis.{same}
 use Rattle.g9932.specs.Points.{pointOf, twosComplement}
 use Rattle.g9932.specs.Sizes.{Point}
-use Rattle.g9932.proofs.Words.{weight-le, odd-weight}
-use Rattle.g9932.proofs.Coordinates.{coords, coords-length, coords-low, axisBits, axisBits-pos}
-use Rattle.g9932.proofs.Constellations.{axesPoint, point-coords}
+use Rattle.g9932.proofs.Coordinates.{coords, coords-length, coords-low, axisBits-pos}
+use Rattle.g9932.proofs.Constellations.{point-coords}
 use Rattle.cosets.specs.declared.Near.{Near}
 use Rattle.cosets.specs.Nearest.{Raised, RaisedPoint, Nearest, CosetCost}
 use Rattle.g9932.specs.Nearest.{squaredDistance}
-use Rattle.cosets.specs.Grid.{Within, gap, square, NearestIn, SquareTo, inner, outer}
+use Rattle.cosets.specs.Grid.{Within, square, NearestIn, SquareTo, inner, outer}
 use Rattle.cosets.proofs.Spots.{spot, spot-low, spot-raised, apart-raised}
 use borrow.Author.Tests.{leb-true, leb-false}
 use lib.Dec.{leb}
@@ -218,9 +217,6 @@ module _ (x y i j xi yi xo yo : ℕ) (v1 v0 : Bool) (hi : i ≡ weight v1) (hj :
   pub alike-cost : v1 ⊕ v0 ≡ false → (p : Point) → RaisedPoint p x y → CosetCost 3 v1 v0 p (xo + yi)
   alike-cost e p rp =
       record { x = 2 * sxo .u + 1; y = 2 * syi .u + 1; near = three-alike x y i j v1 v0 (nearOf sxo syi) hi hj (near-in sxo syi) e p rp }
-
-pub small-square : {x a low d : ℕ} → SquareTo x a low d → d ≤ 4194304
-small-square s = s .small
 
 -- ---- one bit
 

@@ -1,23 +1,22 @@
 -- Every label's place is in the rectangles, and every place there is a label's.
-use Prim.Native.Nat.{ℕ, zero, suc, _+_, _-_, _*_, _/_, _%_, _^_, _≤_, _<_}
-use mathlib.Core.Bool.{Bool, true, false, not, _&&_, _||_, cond, and-eq-true-iff, false≢true}
+use Prim.Native.Nat.{ℕ, zero, suc, _+_, _-_, _*_, _/_, _%_, _≤_}
+use mathlib.Core.Bool.{Bool, true, false, not, _&&_, _||_, and-eq-true-iff, false≢true}
 use mathlib.Core.List.{List, [], _∷_}
 use mathlib.Core.Logic.{_⊎_, inl, inr, ⊎-elim}
 use mathlib.Core.Path.{_≡_, refl, sym, ap, subst, _∙_}
 use native.Mathlib.Omega.{arith}
-use borrow.Author.Tests.{ltb-true, leb-true, eqb-true, eq-eqb, lt-ltb, le-leb, not-false}
+use borrow.Author.Tests.{eqb-true, lt-ltb, le-leb}
 use lib.Dec.{ltb, leb, eqb}
-use lib.ListN.{length, drop}
-use Rattle.g9932.specs.Bits.{bit, weight, num, odd, bits, first}
+use lib.ListN.{length}
+use Rattle.g9932.specs.Bits.{weight, num, odd, bits, first}
 use Rattle.g9932.specs.declared.Found.the-variants.{Nothing}
 use Rattle.g9932.proofs.Words.{weight-odd, weight-le}
 use Rattle.g9932.specs.Trellis.{same}
 use Rattle.g9932.proofs.Search.{first-no}
 use Rattle.g9932.proofs.Identities.{bits-agree}
-use Rattle.g9932.proofs.Coordinates.{Axes, push, three, five, coords, back}
+use Rattle.g9932.proofs.Coordinates.{three, five, back}
 use Rattle.cosets.specs.Grid.{Within, inner, outer}
-use Rattle.cosets.proofs.Spots.{spot}
-use Rattle.cosets.proofs.Regions.{Cross, cross-two, cross-half, crossTest, withinTest, cross-by, within-by, inner-two, outer-two, inner-even, ux, uy, Pushed, pushed}
+use Rattle.cosets.proofs.Regions.{Cross, cross-two, cross-half, crossTest, withinTest, cross-by, within-by, inner-two, outer-two, inner-even, ux, uy, pushed}
 
 -- ---- labels to places
 

@@ -1,19 +1,16 @@
 -- The places of the labels of b bits are those of two rectangles.
-use Prim.Native.Nat.{ℕ, zero, suc, _+_, _-_, _*_, _/_, _%_, _^_, _≤_, _<_}
-use mathlib.Core.Bool.{Bool, true, false, not, _&&_, _||_, cond, and-eq-true-iff}
+use Prim.Native.Nat.{ℕ, zero, suc, _+_, _-_, _*_, _/_, _%_, _^_, _≤_}
+use mathlib.Core.Bool.{Bool, true, false, _&&_, _||_, and-eq-true-iff}
 use mathlib.Core.List.{List, [], _∷_}
 use mathlib.Core.Logic.{_⊎_, inl, inr, ⊎-elim}
-use mathlib.Core.Path.{_≡_, refl, sym, ap, subst, _∙_}
+use mathlib.Core.Path.{_≡_, refl, ap, _∙_}
 use native.Mathlib.Nat.{pow-suc}
 use native.Mathlib.Omega.{arith}
-use borrow.Author.Tests.{ltb-true, leb-true, eqb-true, eq-eqb}
-use lib.Dec.{ltb, leb, eqb}
-use lib.ListN.{length, drop}
-use Rattle.g9932.specs.Bits.{bit, weight, num, odd, bits, first}
-use Rattle.g9932.proofs.Words.{weight-odd, weight-le}
-use Rattle.g9932.proofs.Search.{first-no}
-use Rattle.g9932.proofs.Identities.{bits-agree}
-use Rattle.g9932.proofs.Coordinates.{Axes, push, three, five, coords, coords-length, axisBits, axisBits-pos, back}
+use borrow.Author.Tests.{ltb-true, leb-true}
+use lib.Dec.{ltb, leb}
+use lib.ListN.{length}
+use Rattle.g9932.specs.Bits.{weight}
+use Rattle.g9932.proofs.Coordinates.{push, coords, coords-length, axisBits, axisBits-pos}
 use Rattle.cosets.specs.Grid.{Within, inner, outer}
 use Rattle.cosets.proofs.Spots.{spot, spot-cons}
 

@@ -1,7 +1,7 @@
 -- The shape of a constellation, from its layout; and what is nearest, by shape.
-use Prim.Native.Nat.{ℕ, zero, suc, _+_, _*_, _/_, _%_, _^_, _≤_, _<_, min}
+use Prim.Native.Nat.{ℕ, zero, suc, _+_, _*_, _/_, _%_, _≤_, _<_, min}
 use mathlib.Core.Bool.{Bool, true, false, not, _&&_, _||_, true≢false}
-use mathlib.Core.Path.{_≡_, refl, sym, ap, subst, _∙_}
+use mathlib.Core.Path.{_≡_, refl, sym, ap, _∙_}
 use native.Mathlib.Nat.{le-of-lt}
 use native.Mathlib.Omega.{arith}
 use borrow.Author.Tests.{ltb-true, ltb-false, eqb-true, eqb-false}
@@ -17,7 +17,7 @@ use Rattle.cosets.specs.declared.Near.{Near}
 use Rattle.cosets.specs.declared.Shape.{Shape}
 use Rattle.cosets.specs.declared.Costs.{Costs}
 use Rattle.cosets.specs.declared.Sides.{Sides}
-use Rattle.cosets.specs.Grid.{inner, outer, NearestIn, SidesOf, SidesFit, ShapeOf, Sided}
+use Rattle.cosets.specs.Grid.{inner, outer, NearestIn, SidesOf, ShapeOf, Sided}
 use Rattle.cosets.specs.Nearest.{RaisedPoint, Nearest, CostsOf}
 use Rattle.cosets.proofs.Chosen.{half-more, first-nearest, second-nearest, three-mixed, three-alike, cross-cost, mixed-cost, alike-cost}
 
@@ -45,9 +45,6 @@ pub not-one : (b s : ℕ) → 2 ≤ b → b ≤ 15 → s ≡ layoutOf b → s �
 not-one zero s l m e z = omega arith
 not-one (suc zero) s l m e z = omega arith
 not-one (suc (suc j)) s l m e z = eqb-false (layoutOf (suc (suc j))) 33088 (one-by j (omega arith)) (sym e ∙ z)
-
-pub is-one : (s : ℕ) → s ≡ layoutOf 1 → s ≡ 33088
-is-one s e = e
 
 pub side-fits : (s : ℕ) → ToneLayout s → (1 ≤ upper s) × (upper s ≤ 64)
 side-fits s t =
@@ -87,9 +84,6 @@ mixed-is true true e = sym e
 mixed-is false false e = sym e
 mixed-is true false e = refl
 mixed-is false true e = refl
-
-three-sides : (inner 3 ≡ 1) × (outer 3 ≡ 2)
-three-sides = (refl, refl)
 
 module _ (x y i j b : ℕ) (h : Shape) (p q : Near) (lb : 2 ≤ b) (mb : b ≤ 15) (shape : ShapeOf b h) (w1 w0 : Bool) (hi : i ≡ weight w1) (hj : j ≡ weight w0)
     (np : NearestIn x y (h .inner) (h .outer) i j p) (nq : NearestIn x y (h .outer) (h .inner) i j q) where

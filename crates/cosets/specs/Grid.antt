@@ -1,7 +1,5 @@
 -- Points on the grid of odd numbers: the coordinate 2 u − 1,023 has the place u, so 2 u + 1 is it raised by 1,024.
-use Prim.Native.Nat.{ℕ, zero, suc, _+_, _-_, _*_, _/_, _%_, _^_, _≤_, _<_}
-use mathlib.Core.Bool.{Bool, true, false}
-use mathlib.Core.Logic.{_⊎_}
+use Prim.Native.Nat.{ℕ, _+_, _-_, _*_, _/_, _%_, _^_, _≤_, _<_}
 use mathlib.Core.Path.{_≡_}
 use lib.Dec.{eqb}
 use Rattle.constellation.specs.Layouts.{layoutOf}

@@ -1,8 +1,8 @@
 -- From the costs and labels of the places to those of the entries.
-use Prim.Native.Nat.{ℕ, zero, suc, _+_, _-_, _*_, _/_, _%_, _^_, _≤_, _<_}
+use Prim.Native.Nat.{ℕ, suc, _+_, _-_, _/_, _%_, _^_, _≤_, _<_}
 use mathlib.Core.Bool.{Bool, true, false}
-use mathlib.Core.List.{List, [], _∷_, _++_}
-use mathlib.Core.Path.{_≡_, refl, sym, ap, subst, _∙_}
+use mathlib.Core.List.{List, [], _∷_}
+use mathlib.Core.Path.{_≡_, refl, sym, ap, _∙_}
 use native.Mathlib.Numerals.{add-one}
 use native.Mathlib.Omega.{arith}
 use borrow.Author.Tests.{lt-ltb, ltb-true, ltb-false}
@@ -11,15 +11,13 @@ use lib.IntN.{ℤ}
 use Rattle.constellation.specs.Layouts.{layoutOf}
 use lib.ListN.{length, getD}
 use Rattle.cosets.proofs.Labels.{shared-least, shared-label, best-label, best-one}
-use Rattle.cosets.specs.Meters.{Meter, toneMeter, shared, costOf, LeastOf, CosetLabel, BestLabel, leastCost, LeastCoset}
-use Rattle.cosets.specs.declared.Coset.{Coset}
-use Rattle.cosets.specs.declared.Costs.{Costs}
+use Rattle.cosets.specs.Meters.{toneMeter, costOf, LeastOf, BestLabel, leastCost, LeastCoset}
 use Rattle.frame.proofs.Labels.{at-get}
 use Rattle.frame.specs.Labels.{bitsOfLabels, Within, labelsAt}
 use Rattle.g9932.specs.Bits.{weight, odd, bits}
-use Rattle.g9932.specs.Sizes.{entry, Point, points, origin}
-use Rattle.nearest.specs.Entries.{meterBy, metersIn, meterAt, Decidable}
-use Rattle.nearest.specs.Deciding.{costsOf, Costed, entryCosts, costBy, CostLists, EntryNeeds, noMeter, loneIn, MeterCosts, upperAt, lowerAt, lowNumber, LowTraced, CosetNumber, Traced, PlaceLabels, LeastLow, LeastLows, leastTotal, BestAll, none, more}
+use Rattle.g9932.specs.Sizes.{entry, Point, origin}
+use Rattle.nearest.specs.Entries.{meterBy, metersIn, Decidable}
+use Rattle.nearest.specs.Deciding.{costsOf, Costed, costBy, CostLists, EntryNeeds, loneIn, MeterCosts, upperAt, lowerAt, lowNumber, LowTraced, CosetNumber, Traced, PlaceLabels, LeastLow, LeastLows, leastTotal, BestAll, none, more}
 use Rattle.nearest.specs.Planned.{LaidOut}
 use Rattle.nearest.proofs.PathLabels.{meters-length, meters-get}
 

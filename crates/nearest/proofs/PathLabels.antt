@@ -1,5 +1,5 @@
 -- Nearest labels of the entries, with the lowest bits that the survivors give, are nearest labels along the survivors' path.
-use Prim.Native.Nat.{ℕ, zero, suc, _+_, _*_, _/_, _%_, _^_, _≤_, _<_}
+use Prim.Native.Nat.{ℕ, zero, suc, _+_, _*_, _/_, _%_, _≤_, _<_}
 use mathlib.Core.Bool.{Bool, true, false}
 use mathlib.Core.List.{List, [], _∷_, _++_, append-assoc}
 use mathlib.Core.Path.{_≡_, refl, sym, ap, subst, _∙_}
@@ -16,12 +16,12 @@ use Rattle.g9932.proofs.Words.{length-bits}
 use Rattle.g9932.specs.Bits.{bits}
 use Rattle.g9932.specs.Order.{isOne}
 use Rattle.g9932.specs.Sizes.{entry, Point}
-use Rattle.g9932.specs.Trellis.{width, zeroState}
+use Rattle.g9932.specs.Trellis.{zeroState}
 use Rattle.g9932.specs.declared.LowBits.{LowBits}
-use Rattle.paths.specs.Frames.{PairMeter, pairBy, PairLabels, Labelled}
+use Rattle.paths.specs.Frames.{PairMeter, PairLabels, Labelled}
 use Rattle.paths.specs.Survivors.{follow, stateAt, lowAt}
 use Rattle.nearest.specs.Entries.{meterBy, metersIn, meterAt, Decidable}
-use Rattle.nearest.specs.Deciding.{metersInTwos, noMeter, meterInFront, pairMeters, loneIn, upperAt, lowerAt, CosetNumber, Traced}
+use Rattle.nearest.specs.Deciding.{metersInTwos, noMeter, pairMeters, loneIn, upperAt, lowerAt, CosetNumber, Traced}
 use Rattle.nearest.proofs.Tracing.{even-low, odd-low}
 
 -- what is known of entry i: its bits, at least 2, and a nearest label with the lowest bits of entry t, counting the zero in front

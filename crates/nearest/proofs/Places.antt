@@ -1,9 +1,8 @@
 -- The loops over the places: what each step adds.
-use Prim.Native.Nat.{ℕ, zero, suc, _+_, _-_, _*_, _/_, _%_, _^_, _≤_, _<_}
+use Prim.Native.Nat.{ℕ, suc, _+_, _-_, _*_, _%_, _≤_, _<_}
 use mathlib.Core.Bool.{Bool, true, false}
 use mathlib.Core.List.{List, [], _∷_}
 use mathlib.Core.Path.{_≡_, refl, sym, ap, subst, _∙_}
-use native.Mathlib.Numerals.{add-one}
 use native.Mathlib.Omega.{arith}
 use borrow.Author.Count.{below-more}
 use borrow.Author.Tests.{ltb-true, ltb-false}
@@ -12,7 +11,7 @@ use lib.IntN.{ℤ, pos}
 use lib.ListN.{length, getD, set, drop, length-set, drop-of-length-le}
 use lib.Seq.{drop-cons, getD-set-same, getD-set-other}
 use Rattle.cosets.proofs.Shapes.{not-one}
-use Rattle.cosets.specs.Meters.{costOf, CostsBy, PointBy, LabelOf, leastCost, LeastCoset}
+use Rattle.cosets.specs.Meters.{CostsBy, PointBy, LabelOf, leastCost, LeastCoset}
 use Rattle.cosets.specs.Nearest.{IsReceived}
 use Rattle.cosets.specs.declared.Coset.{Coset}
 use Rattle.cosets.specs.declared.Costs.{Costs}

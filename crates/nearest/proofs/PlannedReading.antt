@@ -1,7 +1,7 @@
 -- Nearest reading from the plan on: what its steps ask one after the other, and what they find together.
 use Prim.Native.Nat.{ℕ, _+_, _*_, _/_, _≤_}
 use mathlib.Core.List.{List}
-use mathlib.Core.Path.{_≡_, refl, sym, ap, subst, _∙_}
+use mathlib.Core.Path.{_≡_, sym, ap, subst, _∙_}
 use native.Mathlib.Omega.{arith}
 use lib.IntN.{ℤ}
 use lib.ListN.{length, take}
@@ -12,7 +12,7 @@ use Rattle.g9932.specs.Answers.{breakIn, frameIn}
 use Rattle.g9932.specs.Filler.{registerAfter}
 use Rattle.g9932.specs.Nearest.{NearestFrame, nearestOf}
 use Rattle.g9932.specs.Sizes.{Tables, Point, points, bytesFor, pack}
-use Rattle.g9932.specs.Symbol.{classesOf, sizeOf}
+use Rattle.g9932.specs.Symbol.{classesOf}
 use Rattle.g9932.specs.declared.Found.{Found}
 use Rattle.g9932.specs.declared.Mode.{Mode}
 use Rattle.g9932.specs.declared.Mode.the-variants.{Uncoded, Coded}

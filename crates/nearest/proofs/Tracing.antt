@@ -1,5 +1,5 @@
 -- The trace back: the two lowest bits of each entry's label, by the survivors from the zero state.
-use Prim.Native.Nat.{ℕ, zero, suc, _+_, _-_, _*_, _/_, _%_, _≤_, _<_}
+use Prim.Native.Nat.{ℕ, suc, _+_, _-_, _/_, _%_, _≤_, _<_}
 use mathlib.Core.Bool.{Bool, true, false}
 use mathlib.Core.List.{List}
 use mathlib.Core.Path.{_≡_, refl, sym, ap, subst, _∙_}
@@ -10,7 +10,6 @@ use lib.Dec.{ltb}
 use lib.ListN.{length, set, length-set}
 use lib.Seq.{getD-set-same, getD-set-other}
 use Rattle.frame.specs.Labels.{Rising}
-use Rattle.g9932.specs.Bits.{weight}
 use Rattle.g9932.specs.Sizes.{entry}
 use Rattle.g9932.specs.Trellis.{zeroState}
 use Rattle.g9932.specs.declared.LowBits.{LowBits}

@@ -1,38 +1,33 @@
 -- Nearest reading from the answers of planning and of checking the inputs: refused by the tables, by the inputs or by a coordinate, or a
 -- nearest frame.
-use Prim.Native.Nat.{ℕ, _+_, _*_, _/_, _≤_, _<_}
+use Prim.Native.Nat.{ℕ, _+_, _*_, _/_, _≤_}
 use mathlib.Core.Bool.{Bool, true, false, not, _||_, true≢false}
 use mathlib.Core.List.{List}
 use mathlib.Core.Path.{_≡_, refl, sym, ap, subst, _∙_}
 use native.Mathlib.Omega.{arith}
-use borrow.Author.Tests.{eq-eqb, eqb-true, eqb-false}
+use borrow.Author.Tests.{eq-eqb, eqb-true}
 use lib.Dec.{eqb}
 use lib.IntN.{ℤ}
 use lib.ListN.{length, take}
-use lib.Seq.{length-take-le}
 use Rattle.g9932.proofs.Accepted.{accepted-tables}
 use Rattle.g9932.proofs.Identities.{or-false}
 use Rattle.g9932.proofs.Sent.{length-classes}
 use Rattle.g9932.proofs.Verdicts.{test-none, number-none, number-some, found-here, found-past, and-refused, and-accepted, report-refused, report-done}
-use Rattle.g9932.specs.Answers.{reportBy, readInputs, verdictOf}
+use Rattle.g9932.specs.Answers.{verdictOf}
 use Rattle.g9932.specs.Bits.{first}
 use Rattle.g9932.specs.Filler.{afterDraws, registerAfter}
-use Rattle.g9932.specs.Nearest.{rangeTest, workBytes, nearestInputs, rangeVerdict, nearestVerdict, ReadsNearest, nearestOf, totalIn}
-use Rattle.g9932.specs.Refusals.{numberOf, placeOf, Verdict, refused, accepted, roomTest, tableVerdict}
-use Rattle.g9932.specs.Sizes.{Tables, Point, points, bytesFor, mostTones, mostHeld}
-use Rattle.g9932.specs.Symbol.{classesOf, pairsIn, sizeOf}
-use Rattle.g9932.specs.declared.Answer.the-variants.{Done as Answered, Refused as NotAnswered}
+use Rattle.g9932.specs.Nearest.{rangeTest, workBytes, nearestInputs, rangeVerdict, nearestVerdict, ReadsNearest}
+use Rattle.g9932.specs.Refusals.{numberOf, Verdict, accepted, roomTest, tableVerdict}
+use Rattle.g9932.specs.Sizes.{Tables, points, bytesFor, mostTones, mostHeld}
+use Rattle.g9932.specs.Symbol.{classesOf, sizeOf}
 use Rattle.g9932.specs.declared.Checked.the-variants.{Refused as NotAccepted}
-use Rattle.g9932.specs.declared.Found.{Found}
 use Rattle.g9932.specs.declared.Found.the-variants.{At, Nothing}
 use Rattle.g9932.specs.declared.Mode.{Mode}
 use Rattle.g9932.specs.declared.Mode.the-variants.{Uncoded, Coded}
 use Rattle.g9932.specs.declared.Nearest.{Nearest}
-use Rattle.g9932.specs.declared.Nearest.the-variants.{Done, Refused}
-use Rattle.g9932.specs.declared.Place.{Place}
+use Rattle.g9932.specs.declared.Nearest.the-variants.{Refused}
 use Rattle.g9932.specs.declared.Refusal.{Refusal}
 use Rattle.g9932.specs.declared.Refusal.the-variants.{Range}
-use Rattle.mapper.specs.Writing.{FillerNeeds}
 use Rattle.passes.proofs.FillerPlaces.{register-places}
 use Rattle.passes.proofs.PlanLabels.{where-inside, plan-placed}
 use Rattle.passes.specs.ReadSymbol.{HeldFits}

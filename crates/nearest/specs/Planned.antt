@@ -9,7 +9,6 @@ use lib.ListN.{length}
 use Rattle.constellation.specs.Layouts.{layoutOf}
 use Rattle.cosets.specs.Meters.{Meter}
 use Rattle.frame.specs.Labels.{bitsOfLabels, Within, labelsAt, Placed}
-use Rattle.g9932.specs.Answers.{Report}
 use Rattle.g9932.specs.Filler.{afterDraws, registerAfter}
 use Rattle.g9932.specs.Nearest.{NearestFrame, nearestInputs, ReadsNearest, nearestOf, totalIn}
 use Rattle.g9932.specs.Order.{pairsOf}

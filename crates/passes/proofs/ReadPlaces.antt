@@ -15,7 +15,7 @@ use Rattle.frame.specs.declared.BitWriter.{BitWriter}
 use Rattle.g9932.proofs.PointLists.{length-points}
 use Rattle.g9932.proofs.Search.{found-not}
 use Rattle.g9932.proofs.Verdicts.{found-here, found-past}
-use Rattle.g9932.specs.Answers.{breakIn, frameIn}
+use Rattle.g9932.specs.Answers.{frameIn}
 use Rattle.g9932.specs.Bits.{num, bits, first}
 use Rattle.g9932.specs.Filler.{drawn, afterDraws}
 use Rattle.g9932.specs.Order.{pairsOf}

@@ -1,3 +1,4 @@
+-- `cosets::coordinate_at` meets its contract: 2 u + 1 is the coordinate, raised by 1,024.
 use Prim.Native.Nat.{_+_, _*_}
 use mir.ValLaws.{toZ-ofZ}
 use mir.Syntax.{w16}

@@ -1,3 +1,4 @@
+-- `cosets::coset_costs` meets its contract: of 3 bits one rectangle has the coset, else the nearer of two.
 use native.Mathlib.Omega.{arith}
 use Rattle.cosets.proofs.Shapes.{three-costs, cross-costs}
 use borrow.Author.Needs.{needs}

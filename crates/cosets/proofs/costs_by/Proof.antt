@@ -1,7 +1,6 @@
-use mathlib.Core.Path.{_≡_}
+-- `cosets::costs_by` meets its contract, by the layout: of 1 bit, and of more.
 use Rattle.cosets.proofs.Shapes.{not-one}
 use Rattle.cosets.proofs.Labels.{tone-least}
-use borrow.Author.Needs.{needs}
 use Rattle.cosets.proofs.costs_by.Statement.{statement}
 use Rattle.cosets.proofs.costs_by.Tie as tie
 use Rattle.cosets.proofs.costs_by.Reads as reads

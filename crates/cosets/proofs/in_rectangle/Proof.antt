@@ -1,6 +1,6 @@
+-- `cosets::in_rectangle` meets its contract: nearest on each axis is nearest in the rectangle.
 use native.Mathlib.Omega.{arith}
 use Rattle.cosets.proofs.Places.{rectangle}
-use borrow.Author.Needs.{needs}
 use Rattle.cosets.proofs.in_rectangle.Statement.{statement}
 use Rattle.cosets.proofs.in_rectangle.Tie as tie
 use Rattle.cosets.proofs.in_rectangle.Reads as reads

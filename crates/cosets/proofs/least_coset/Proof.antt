@@ -1,4 +1,4 @@
-use mathlib.Core.Path.{refl}
+-- `cosets::least_coset` meets its contract: the nearer of the nearer two.
 use Rattle.cosets.proofs.Labels.{coset-of}
 use borrow.Author.Needs.{needs}
 use Rattle.cosets.proofs.least_coset.Statement.{statement}

@@ -1,7 +1,7 @@
+-- `cosets::nearer` meets its contract, by its test.
 use native.Mathlib.Omega.{arith}
 use mathlib.Core.Path.{refl}
 use mathlib.Core.Logic.{inl, inr}
-use borrow.Author.Needs.{needs}
 use Rattle.cosets.proofs.nearer.Statement.{statement}
 use Rattle.cosets.proofs.nearer.Tie as tie
 use Rattle.cosets.proofs.nearer.Reads as reads

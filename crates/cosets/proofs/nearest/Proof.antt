@@ -1,6 +1,6 @@
+-- `cosets::nearest` meets its contract: of 3 bits one rectangle has the coset, else the nearer of two.
 use native.Mathlib.Omega.{arith}
 use Rattle.cosets.proofs.Shapes.{takes-first, takes-second}
-use borrow.Author.Needs.{needs}
 use Rattle.cosets.proofs.nearest.Statement.{statement}
 use Rattle.cosets.proofs.nearest.Tie as tie
 use Rattle.cosets.proofs.nearest.Reads as reads

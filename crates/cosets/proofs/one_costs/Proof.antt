@@ -1,8 +1,8 @@
+-- `cosets::one_costs` meets its contract: the two points of 1 bit by their places.
 use mathlib.Core.Path.{refl, sym, _∙_}
 use Prim.Native.Nat.{_+_}
 use native.Mathlib.Omega.{arith}
 use Rattle.cosets.proofs.Chosen.{one-distance}
-use borrow.Author.Needs.{needs}
 use Rattle.cosets.proofs.one_costs.Statement.{statement}
 use Rattle.cosets.proofs.one_costs.Tie as tie
 use Rattle.cosets.proofs.one_costs.Reads as reads

@@ -1,7 +1,7 @@
+-- `cosets::place` meets its contract: the nearest place of a parity, clamped to the first and the last.
 use Rattle.cosets.proofs.Places.{place-nearest}
 use Prim.Native.Nat.{min, _-_, _+_, _/_}
 use mathlib.Core.Path.{_∙_, ap}
-use native.Mathlib.Omega.{arith}
 use borrow.Author.Needs.{needs}
 use Rattle.cosets.proofs.place.Statement.{statement}
 use Rattle.cosets.proofs.place.Tie as tie

@@ -1,3 +1,4 @@
+-- `cosets::point_by` meets its contract: whatever label is found for the nearest point is a nearest label.
 use Prim.Native.Nat.{_+_, _*_, _/_, _%_}
 use mathlib.Core.Path.{_≡_}
 use mir.ValLaws.{toZ-ofZ}

@@ -1,3 +1,4 @@
+-- `cosets::raise` meets its contract: 32,768 was added before, and 31,744 taken off.
 use mir.ValLaws.{toZ-ofZ}
 use mir.Syntax.{w16}
 use native.Mathlib.Omega.{arith}

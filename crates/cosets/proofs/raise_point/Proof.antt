@@ -1,4 +1,4 @@
-use mathlib.Core.Path.{_≡_}
+-- `cosets::raise_point` meets its contract: both coordinates are raised.
 use mir.ValLaws.{toZ-ofZ}
 use mir.Syntax.{w16}
 use borrow.Author.Needs.{needs}

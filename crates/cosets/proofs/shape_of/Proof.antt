@@ -1,3 +1,4 @@
+-- `cosets::shape_of` meets its contract, by the fields of a layout.
 use Prim.Native.Nat.{_/_, _%_}
 use native.Mathlib.Omega.{arith}
 use Rattle.cosets.proofs.Chosen.{half-more}

@@ -1,4 +1,5 @@
-use Prim.Native.Nat.{_+_, _*_, _≤_}
+-- `cosets::square_at` meets its contract: no width cuts the signed difference or its square.
+use Prim.Native.Nat.{_+_, _*_}
 use native.Mathlib.Omega.{arith}
 use Rattle.cosets.proofs.Squares.{square-gap}
 use borrow.Author.Needs.{needs}

@@ -1,4 +1,5 @@
-use mathlib.Core.Path.{_≡_, _∙_}
+-- `nearest::decide_by_costs` meets its contract: costs, then the lowest bits by them, then the labels by these.
+use mathlib.Core.Path.{_∙_}
 use Rattle.nearest.proofs.PlannedReading.{low-needs, decided}
 use borrow.Author.Needs.{needs}
 use Rattle.nearest.proofs.decide_by_costs.Statement.{statement}

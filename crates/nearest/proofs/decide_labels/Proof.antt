@@ -1,5 +1,6 @@
+-- `nearest::decide_labels` meets its contract: its own arrays have a place for every tone.
 use lib.Seq.{length-take-le}
-use lib.ListN.{length, take, replicate}
+use lib.ListN.{replicate}
 use mathlib.Core.Path.{sym}
 use Prim.Native.Nat.{ℕ}
 use borrow.Author.Needs.{needs}

@@ -1,5 +1,5 @@
-use mathlib.Core.Path.{_≡_, _∙_}
-use native.Mathlib.Omega.{arith}
+-- `nearest::decide_low` meets its contract, by the mode.
+use mathlib.Core.Path.{_∙_}
 use borrow.Author.Needs.{needs}
 use Rattle.nearest.proofs.decide_low.Statement.{statement}
 use Rattle.nearest.proofs.decide_low.Tie as tie

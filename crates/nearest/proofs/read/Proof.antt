@@ -1,7 +1,8 @@
+-- `nearest::read` meets its contract: refused by the tables or by the inputs, or read from the plan.
 use Rattle.nearest.proofs.WholeNearest.{entries-fit, passed, nearest-refused}
 use Rattle.plan.specs.Plan.{Arrays}
 use Rattle.g9932.specs.Sizes.{tables}
-use mathlib.Core.Path.{_≡_, refl}
+use mathlib.Core.Path.{refl}
 use borrow.Author.Needs.{needs}
 use Rattle.nearest.proofs.read.Statement.{statement}
 use Rattle.nearest.proofs.read.Tie as tie

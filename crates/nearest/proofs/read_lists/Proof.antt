@@ -1,7 +1,8 @@
+-- `nearest::read_lists` meets its contract: refused by a coordinate, or a nearest frame; every list is inside its array.
 use Rattle.nearest.proofs.WholeNearest.{entries-inside, places-inside, drawing-inside, points-few, layouts-inside, lists-points, lists-outside, lists-nearest, lists-done}
 use lib.Seq.{length-take-le}
-use lib.ListN.{length, take, replicate}
-use mathlib.Core.Path.{_≡_, refl, sym, _∙_}
+use lib.ListN.{replicate}
+use mathlib.Core.Path.{refl, sym, _∙_}
 use Prim.Native.Nat.{ℕ}
 use borrow.Author.Needs.{needs}
 use Rattle.nearest.proofs.read_lists.Statement.{statement}

@@ -1,6 +1,7 @@
+-- `nearest::read_planned` meets its contract: the decided labels are those of a nearest frame.
 use Rattle.nearest.proofs.PlannedReading.{decide-again, frame-labels, frame-fits, planned-read}
 use native.Mathlib.Omega.{arith}
-use mathlib.Core.Path.{_≡_, _∙_}
+use mathlib.Core.Path.{_∙_}
 use borrow.Author.Needs.{needs}
 use Rattle.nearest.proofs.read_planned.Statement.{statement}
 use Rattle.nearest.proofs.read_planned.Tie as tie

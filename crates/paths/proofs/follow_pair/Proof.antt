@@ -1,3 +1,4 @@
+-- `paths::follow_pair` meets its contract: the step of the surviving word.
 use Prim.Native.Nat.{_+_, _*_}
 use mathlib.Core.Path.{_≡_, ap, _∙_}
 use lib.ListN.{getD}

@@ -1,3 +1,4 @@
+-- `paths::four_at` meets its contract: four numbers of a list in a row.
 use Prim.Native.Nat.{_+_}
 use mathlib.Core.Path.{refl}
 use borrow.Author.Needs.{needs}

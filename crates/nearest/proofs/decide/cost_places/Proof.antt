@@ -1,3 +1,4 @@
+-- `nearest::decide::cost_places` meets its contract. The invariant: the places before i have their costs. The measure is the places left.
 use Prim.Native.Nat.{_-_, _≤_}
 use native.Mathlib.Omega.{arith}
 use mir.ValLaws.{toZ-ofZ}

@@ -1,11 +1,11 @@
+-- `nearest::decide::entry_costs` meets its contract: an entry of its own, or one that two 1-bit tones share.
 use Prim.Native.Nat.{_+_, _<_}
 use lib.ListN.{length}
-use mathlib.Core.Path.{_≡_, sym, ap, _∙_}
+use mathlib.Core.Path.{sym, _∙_}
 use native.Mathlib.Omega.{arith}
 use native.Mathlib.Numerals.{add-one}
 use Rattle.cosets.specs.Meters.{sharedCosts}
 use Rattle.nearest.proofs.Selecting.{own-costs, both-costs}
-use borrow.Author.Needs.{needs}
 use Rattle.nearest.proofs.decide.entry_costs.Statement.{statement}
 use Rattle.nearest.proofs.decide.entry_costs.Tie as tie
 use Rattle.nearest.proofs.decide.entry_costs.Reads as reads

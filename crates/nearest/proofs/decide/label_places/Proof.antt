@@ -1,7 +1,8 @@
+-- `nearest::decide::label_places` meets its contract: its own arrays have a place for every tone.
 use lib.Seq.{length-take-le}
-use lib.ListN.{length, take, replicate}
+use lib.ListN.{replicate}
 use lib.IntN.{ℤ, pos}
-use mathlib.Core.Path.{_≡_, sym}
+use mathlib.Core.Path.{sym}
 use Prim.Native.Nat.{ℕ}
 use borrow.Author.Needs.{needs}
 use Rattle.nearest.proofs.decide.label_places.Statement.{statement}

@@ -1,3 +1,4 @@
+-- `nearest::decide::label_points` meets its contract: the labels that are found for nearest points are nearest labels.
 use Rattle.nearest.proofs.Places.{labels-are}
 use mathlib.Core.Path.{sym, _∙_}
 use native.Mathlib.Omega.{arith}

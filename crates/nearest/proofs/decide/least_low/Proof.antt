@@ -1,5 +1,7 @@
+-- `nearest::decide::least_low` meets its contract. The invariant: the entries from k on have the two lowest bits of a nearest label, and the total
+-- is what these cost. The measure is k.
 use Prim.Native.Nat.{_-_, _≤_}
-use mathlib.Core.Path.{_≡_, sym, ap, _∙_}
+use mathlib.Core.Path.{_≡_, sym, _∙_}
 use lib.ListN.{length}
 use native.Mathlib.Omega.{arith}
 use Rattle.nearest.proofs.Places.{LowsFrom, lows-none, lows-more, lows-all}

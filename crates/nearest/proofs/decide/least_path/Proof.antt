@@ -1,4 +1,4 @@
-use mathlib.Core.Path.{_≡_, _∙_}
+-- `nearest::decide::least_path` meets its contract, with a first pair of x = 0 and without.
 use native.Mathlib.Omega.{arith}
 use Rattle.nearest.proofs.Selecting.{path-lone, path-even, whole-small}
 use borrow.Author.Needs.{needs}

@@ -1,3 +1,5 @@
+-- `nearest::decide::nearest_points` meets its contract. The invariant: the places before i have their nearest points. The measure is the places
+-- left.
 use Rattle.nearest.proofs.Places.{point-of, points-more}
 use Rattle.nearest.specs.Deciding.{PlacePoints}
 use Rattle.passes.proofs.SymbolPoints.{point-at}

@@ -1,3 +1,5 @@
+-- `nearest::decide::put_labels` meets its contract. The invariant: the places before i have their labels, the others what stood there. The
+-- measure is the places left.
 use Rattle.nearest.proofs.Places.{puts-more}
 use Rattle.nearest.specs.Deciding.{PutsLabels}
 use lib.ListN.{length}

@@ -1,4 +1,6 @@
-use Prim.Native.Nat.{_-_, _+_, _*_, _/_, _%_, _^_, _≤_, _<_}
+-- `nearest::decide::select_pairs` meets its contract. The invariant: the metrics are the least costs of the pairs from j on, and the survivors of
+-- these pairs give them. The measure is j.
+use Prim.Native.Nat.{_-_, _+_, _*_, _/_, _%_, _≤_}
 use mathlib.Core.Path.{_≡_, refl, _∙_}
 use mathlib.Core.List.{List}
 use lib.ListN.{length, drop}

@@ -1,5 +1,6 @@
+-- `nearest::decide::trace_first` meets its contract, with a first pair of x = 0 and without.
 use Prim.Native.Nat.{_%_}
-use mathlib.Core.Path.{_≡_, refl, sym, ap, subst, _∙_}
+use mathlib.Core.Path.{_≡_, sym, ap, subst, _∙_}
 use lib.ListN.{length}
 use native.Mathlib.Omega.{arith}
 use Rattle.paths.specs.Survivors.{stateAt}

@@ -1,5 +1,7 @@
-use Prim.Native.Nat.{_-_, _%_}
-use mathlib.Core.Path.{_≡_, refl, sym, ap, subst, _∙_}
+-- `nearest::decide::trace_low` meets its contract. The invariant: the entries before k have the lowest bits that the survivors give, and the
+-- state is the one before entry k. The measure is the entries left.
+use Prim.Native.Nat.{_-_}
+use mathlib.Core.Path.{_≡_, sym, subst, _∙_}
 use lib.ListN.{length}
 use native.Mathlib.Omega.{arith}
 use Rattle.frame.specs.Labels.{Rising}

@@ -1,5 +1,6 @@
+-- `nearest::inputs::check_inputs` meets its contract: the working buffer's length, and then the inputs of exact reading.
 use Rattle.nearest.proofs.NearestInputs.{work-room, work-fits, tables-refused, work-refused, others-say}
-use mathlib.Core.Path.{_≡_, sym, _∙_}
+use mathlib.Core.Path.{sym, _∙_}
 use borrow.Author.Needs.{needs}
 use Rattle.nearest.proofs.inputs.check_inputs.Statement.{statement}
 use Rattle.nearest.proofs.inputs.check_inputs.Tie as tie

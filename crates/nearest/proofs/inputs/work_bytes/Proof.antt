@@ -1,3 +1,4 @@
+-- `nearest::inputs::work_bytes` meets its contract, by the mode.
 use mathlib.Core.Path.{refl}
 use borrow.Author.Needs.{needs}
 use Rattle.nearest.proofs.inputs.work_bytes.Statement.{statement}

@@ -1,3 +1,4 @@
+-- `passes::read::frame_of_labels` meets its contract, by the mode.
 use Rattle.passes.proofs.ReadPlaces.{collect-needs, trellis-needs, collected, broken-found, none-broken, read-fits, collect-fits}
 use borrow.Author.Needs.{needs}
 use Rattle.passes.proofs.read.frame_of_labels.Statement.{statement}

@@ -1,3 +1,4 @@
+-- `passes::read::read_frame` meets its contract: labels that are joined where tones share an entry are the entries' labels.
 use Rattle.passes.proofs.ReadPlaces.{join-needs, joined-labels, joined-reads}
 use borrow.Author.Needs.{needs}
 use Rattle.passes.proofs.read.read_frame.Statement.{statement}
