@@ -1,7 +1,7 @@
 -- The promises over the definitions of document 01: demand 3, in full; of demand 2, how many bits go on the tones, and which go where;
--- what else is shown of the definitions; and of request R-13, nearest reading against exact reading. That the code gives what they say
--- is the `ensures` of each operation. Each proof cites the part that shows it. The words are those of specs/Words.antt and of crate
--- g9932.
+-- what else is shown of the definitions; and of request R-13, nearest reading, by itself and against exact reading. That the code gives
+-- what they say is the `ensures` of each operation. Each proof cites the part that shows it. The words are those of specs/Words.antt and
+-- of crate g9932.
 use Prim.Native.Nat.{ℕ, _+_, _-_, _*_, _/_, _%_, _^_, _≤_, _<_}
 use mathlib.Core.Bool.{Bool, true, false, cond, not}
 use mathlib.Core.List.{List, [], _∷_, map}
@@ -10,7 +10,7 @@ use mathlib.Core.Path.{_≡_, sym, _∙_}
 use lib.Dec.{eqb}
 use lib.IntN.{ℤ}
 use lib.ListN.{length, take, drop, getD}
-use Rattle.g9932.specs.Bits.{_⊕_, bits, bit, num, odd}
+use Rattle.g9932.specs.Bits.{_⊕_, bits, bit, num, odd, first}
 use Rattle.g9932.specs.Sizes.{Tables, entry, bytesFor, pack, frameBits, unusedBits, Point, origin, points}
 use Rattle.g9932.specs.Refusals.{numberOf, accepted, refused, someOne, tableVerdict}
 use Rattle.g9932.specs.Order.{sum, count, filter, oneBit, bitsOf, entryCount, entries, pairCount}
@@ -20,7 +20,7 @@ use Rattle.g9932.specs.Filler.{nextRegister, drawn, afterDraws, registerAfter}
 use Rattle.g9932.specs.Symbol.{reorderedTonesOf, reorderedBitsOf, classesOf, pairsIn, sizeOf, sentIn, writtenPoints, firstMonitored}
 use Rattle.g9932.specs.Answers.{reorderOf, encodeAt, Read, readAt, toneDone, mapLabel, readPoint, drawAnswer}
 use Rattle.g9932.specs.Aligned.{encodeOf, readOf}
-use Rattle.g9932.specs.Nearest.{frameTotal, NearestFrame, workBytes, nearestOf, totalIn, ReadsNearest}
+use Rattle.g9932.specs.Nearest.{frameTotal, NearestFrame, rangeTest, workBytes, nearestVerdict, nearestOf, totalIn, ReadsNearest}
 use Rattle.g9932.specs.Figures.{MarkedFigures}
 use Rattle.g9932.specs.declared.Class.the-variants.{Monitored, Silent}
 use Rattle.g9932.specs.declared.Found.the-variants.{At, Nothing}
@@ -32,13 +32,15 @@ use Rattle.g9932.proofs.Figures as Figures
 use Rattle.g9932.proofs.Packed as Packed
 use Rattle.g9932.proofs.Reordering as Reordering
 use Rattle.g9932.proofs.Verdicts as Verdicts
-use Rattle.guarantees.specs.Words.{Bytes, AcceptedTables, AcceptedFrame, ValidRegister, RightLength, Ready, nonZero, pairAt, wordsIn, stateAfter, labelsOf, lowest, lowestAt, oneBitTones, firstOfTwo, sharedEntry, table10-2, bitOne, zeroBitTones, fillerBit, turned, SameUnloaded}
+use Rattle.guarantees.specs.Words.{Bytes, AcceptedTables, AcceptedFrame, ValidRegister, RightLength, Ready, nonZero, pairAt, wordsIn, stateAfter, labelsOf, lowest, lowestAt, oneBitTones, firstOfTwo, sharedEntry, table10-2, bitOne, zeroBitTones, fillerBit, turned, SameUnloaded, SameLoaded}
 use Rattle.guarantees.proofs.Coded as Coded
 use Rattle.guarantees.proofs.EntryBits as EntryBits
 use Rattle.guarantees.proofs.HalfTurn as HalfTurn
 use Rattle.guarantees.proofs.Mapping as Mapping
 use Rattle.guarantees.proofs.NearestAnswers as NearestAnswers
 use Rattle.guarantees.proofs.NearestFrames as NearestFrames
+use Rattle.guarantees.proofs.NearestTotals as NearestTotals
+use Rattle.guarantees.proofs.NearestVerdicts as NearestVerdicts
 use Rattle.guarantees.proofs.Operations as Operations
 use Rattle.guarantees.proofs.RoundTrip as RoundTrip
 use Rattle.guarantees.proofs.Totals as Totals
@@ -341,7 +343,7 @@ marked-figures = Figures.marked-figures
 -- ---- nearest reading (request R-13)
 
 -- `NearestFrame` is all that is promised of the frame f and the total n that points are read as, so what follows holds of every answer
--- that nearest reading can give. The total looks at loaded tones only. No accepted frame has less, so neither has the one that was sent,
+-- that nearest reading can give. No accepted frame has less, so neither has the one that was sent,
 pub nearest-most : (T : Tables) (q : List Point) (r start : ℕ) (f : List ℕ) (n : ℕ) → NearestFrame T q r start f n
     → (g : List ℕ) → AcceptedFrame T start g → n ≤ frameTotal T q r start g
 nearest-most T q r start f n near = NearestFrames.most near
@@ -350,6 +352,20 @@ nearest-most T q r start f n near = NearestFrames.most near
 pub nearest-same-total : (T : Tables) (q : List Point) (r start : ℕ) (f g : List ℕ) (n m : ℕ)
     → NearestFrame T q r start f n → NearestFrame T q r start g m → n ≡ m
 nearest-same-total T q r start f g n m near = NearestFrames.same-total near g m
+
+-- The total looks at loaded tones only: point lists of one length that agree there have the same total, for every frame.
+pub nearest-loaded-only : (T : Tables) (p q : List Point) → length p ≡ length q → SameLoaded T p q → (r start : ℕ) (f : List ℕ)
+    → frameTotal T p r start f ≡ frameTotal T q r start f
+nearest-loaded-only = NearestTotals.loaded-only
+
+-- It is the same with any register,
+pub nearest-any-register : (T : Tables) (q : List Point) (r s start : ℕ) (f : List ℕ) → frameTotal T q r start f ≡ frameTotal T q s start f
+nearest-any-register = NearestTotals.any-register
+
+-- and so are the frames that are nearest.
+pub nearest-frame-any-register : (T : Tables) (q : List Point) (r s start : ℕ) (f : List ℕ) (n : ℕ)
+    → NearestFrame T q r start f n → NearestFrame T q s start f n
+nearest-frame-any-register = NearestTotals.any-register-nearest
 
 -- As in demand 3, for X and Y of the right length and a nearest frame f of bytes, with total n:
 module _ (T : Tables) (r start : ℕ) (xs ys : List ℤ) (f₀ : List ℕ) (ready : Ready T r start xs ys f₀) (X Y : List ℤ) (right : RightLength T X Y)
@@ -389,7 +405,8 @@ module _ (T : Tables) (r start : ℕ) (xs ys : List ℤ) (f₀ : List ℕ) (read
   pub nearest-half-turn-other : n ≡ 0 → f ≢ g
   nearest-half-turn-other = NearestFrames.nearest-half-turn-other T r start xs ys f₀ ready m g ok f n near
 
-  -- Exact reading reads the turned symbol exactly when the total is 0 and no tone is monitored; with a monitored tone it is MONITOR.
+  -- Exact reading reads the turned symbol exactly when the total is 0 and no tone is monitored
+  -- (with a monitored tone: `half-turn-monitored`).
   pub nearest-half-turn-exactly :
       (readAt T (turned (encodeAt T start g r xs ys .xs)) (turned (encodeAt T start g r xs ys .ys)) r start f₀ .report .verdict .number ≡ 0)
       ↔ ((firstMonitored T ≡ Nothing) × (n ≡ 0))
@@ -402,7 +419,8 @@ module _ (T : Tables) (X Y : List ℤ) (r start : ℕ) (f₀ work : List ℕ) (a
   pub nearest-answer : nearestOf a .verdict .number ≡ 0 → NearestFrame T (points X Y) r start f (totalIn a)
   nearest-answer = NearestAnswers.nearest-answer T X Y r start f₀ work a f work′ reads
 
-  -- On points that exact reading reads it answers the same number, place, L and register and the same frame, with total 0.
+  -- With a working buffer of its exact length, on points that exact reading reads it answers the same number, place, L and register and
+  -- the same frame, with total 0.
   pub nearest-as-exact : length work ≡ workBytes T → Bytes f → readAt T X Y r start f₀ .report .verdict .number ≡ 0
       → (nearestOf a ≡ readAt T X Y r start f₀ .report) × (totalIn a ≡ 0) × (f ≡ readAt T X Y r start f₀ .frame)
   nearest-as-exact = NearestAnswers.nearest-as-exact T X Y r start f₀ work a f work′ reads
@@ -415,6 +433,50 @@ module _ (T : Tables) (X Y : List ℤ) (r start : ℕ) (f₀ work : List ℕ) (a
 -- No answer has number 9.
 pub nine-nearest : (a : Nearest) → nearestOf a .verdict .number ≢ 9
 nine-nearest = NearestAnswers.nine-nearest
+
+-- `nearestVerdict` is the number, place and L that it answers. Whatever the inputs, the number is not 13, 14 or 15.
+pub nearest-never-exact : (T : Tables) (xs ys : List ℤ) (r start frameLength workLength n : ℕ) → 13 ≤ n → n ≤ 15
+    → nearestVerdict T xs ys r start frameLength workLength .number ≢ n
+nearest-never-exact = NearestVerdicts.never-exact
+
+-- In accepted tables, from any start and with any register:
+module _ (T : Tables) (ok : AcceptedTables T) (xs ys : List ℤ) (start r : ℕ) (f₀ work : List ℕ) where
+  -- A wrong length is ROOM: that of X or Y, of the frame, or of the working buffer.
+  pub room-nearest : (RightLength T xs ys × (length f₀ ≡ bytesFor start (sizeOf T)) × (length work ≡ workBytes T) → ⊥)
+      → nearestVerdict T xs ys r start (length f₀) (length work) ≡ refused 10 0
+  room-nearest = NearestVerdicts.room-nearest T ok xs ys start r f₀ work
+
+  -- Where ROOM does not apply:
+  module _ (right : RightLength T xs ys) (fits : length f₀ ≡ bytesFor start (sizeOf T)) (room : length work ≡ workBytes T) where
+    -- A start above 7 is FRAME, whatever the register and the points.
+    pub start-above-7-nearest : 7 < start → nearestVerdict T xs ys r start (length f₀) (length work) ≡ refused 11 0
+    start-above-7-nearest = NearestVerdicts.start-above-7-nearest T ok xs ys start r f₀ work right fits room
+
+    -- After it comes SEED, whatever the points;
+    pub seed-nearest : start ≤ 7 → (ValidRegister r → ⊥) → nearestVerdict T xs ys r start (length f₀) (length work) ≡ refused 12 0
+    seed-nearest = NearestVerdicts.seed-nearest T ok xs ys start r f₀ work right fits room
+
+    -- then RANGE, at the first place with a coordinate that is not −1,023 to 1,023, whatever the tone's class;
+    pub range-nearest : start ≤ 7 → ValidRegister r → (k : ℕ) → first (rangeTest (points xs ys)) (length (T .tones)) ≡ At k
+        → nearestVerdict T xs ys r start (length f₀) (length work) ≡ refused 23 k
+    range-nearest = NearestVerdicts.range-nearest T ok xs ys start r f₀ work right fits room
+
+    -- and where there is no such place it is DONE, with L.
+    pub done-nearest : start ≤ 7 → ValidRegister r → first (rangeTest (points xs ys)) (length (T .tones)) ≡ Nothing
+        → nearestVerdict T xs ys r start (length f₀) (length work) ≡ accepted (sizeOf T)
+    done-nearest = NearestVerdicts.done-nearest T ok xs ys start r f₀ work right fits room
+
+-- The working buffer: coded, it has 16 bytes a pair, and the pairs are N/2, rounded up;
+pub work-coded : (T : Tables) → T .mode ≡ Coded → workBytes T ≡ 16 * ((nonZero T + 1) / 2)
+work-coded = Totals.work-coded
+
+-- uncoded, it has none;
+pub work-uncoded : (T : Tables) → T .mode ≡ Uncoded → workBytes T ≡ 0
+work-uncoded = Totals.work-uncoded
+
+-- in accepted tables it has at most 32,768.
+pub work-most : (T : Tables) → AcceptedTables T → workBytes T ≤ 32_768
+work-most = Totals.work-most
 
 -- As in demand 3, with a working buffer of its exact length:
 module _ (T : Tables) (r start : ℕ) (xs ys : List ℤ) (f₀ : List ℕ) (ready : Ready T r start xs ys f₀) (work : List ℕ)

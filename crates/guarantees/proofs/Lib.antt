@@ -6,6 +6,8 @@ pub mod HalfTurn
 pub mod Mapping
 pub mod NearestAnswers
 pub mod NearestFrames
+pub mod NearestTotals
+pub mod NearestVerdicts
 pub mod Operations
 pub mod RoundTrip
 pub mod Totals

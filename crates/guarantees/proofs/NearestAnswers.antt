@@ -6,14 +6,14 @@ use mathlib.Core.List.{List}
 use mathlib.Core.Logic.{_↔_, _≢_}
 use mathlib.Core.Path.{_≡_, refl, sym, ap, _∙_}
 use native.Mathlib.Omega.{arith}
-use borrow.Author.Tests.{eq-eqb, ne-eqb, le-ltb}
+use borrow.Author.Tests.{ne-eqb}
 use lib.IntN.{ℤ}
 use lib.ListN.{length}
-use Rattle.g9932.specs.Sizes.{Tables, bytesFor, Point, points}
-use Rattle.g9932.specs.Refusals.{Verdict, accepted, tableVerdict}
+use Rattle.g9932.specs.Sizes.{Tables, Point, points}
+use Rattle.g9932.specs.Refusals.{Verdict, accepted}
 use Rattle.g9932.specs.Symbol.{sizeOf, sentIn, writtenPoints}
 use Rattle.g9932.specs.Answers.{Report, reportBy, Encoded, encodeAt, Read, readAt}
-use Rattle.g9932.specs.Nearest.{NearestFrame, rangeTest, workBytes, nearestInputs, rangeVerdict, nearestVerdict, nearestOf, totalIn, ReadsNearest}
+use Rattle.g9932.specs.Nearest.{NearestFrame, rangeTest, workBytes, nearestVerdict, nearestOf, totalIn, ReadsNearest}
 use Rattle.g9932.specs.declared.Mode.the-variants.{Coded}
 use Rattle.g9932.specs.declared.Nearest.{Nearest}
 use Rattle.g9932.specs.declared.Nearest.the-variants.{Done, Refused}
@@ -22,12 +22,13 @@ use Rattle.g9932.proofs.Distances.{written-range, opposite-range}
 use Rattle.g9932.proofs.Packed.{start-most}
 use Rattle.g9932.proofs.Search.{first-all}
 use Rattle.g9932.proofs.Sent.{length-classes}
-use Rattle.g9932.proofs.Verdicts.{test-past, found-past, number-none, nine-unused, and-past, and-accepted}
+use Rattle.g9932.proofs.Verdicts.{number-none, nine-unused}
 use Rattle.guarantees.specs.Words.{Bytes, AcceptedFrame, Ready, nonZero, turned}
 use Rattle.guarantees.proofs.HalfTurn.{right, are-points}
 use Rattle.guarantees.proofs.Operations.{done, encoded, read-ready}
 use Rattle.guarantees.proofs.RoundTrip.{length-sentIn, X-of, Y-of, answered}
 use Rattle.guarantees.proofs.NearestFrames.{written-read, read-written, nearest-exact, nearest-half-turn}
+use Rattle.guarantees.proofs.NearestVerdicts.{done-nearest}
 
 no-size : (a : Nearest) → nearestOf a .verdict .number ≢ 0 → nearestOf a .verdict .size ≡ 0
 no-size (Done l r n) h = absurd (h refl)
@@ -49,20 +50,9 @@ module _ (T : Tables) (X Y : List ℤ) (r start : ℕ) (f₀ work : List ℕ) wh
   -- where everything is in order
   in-order : Ready T r start X Y f₀ → start ≤ 7 → length work ≡ workBytes T
       → ((k : ℕ) → k < length (T .tones) → rangeTest (points X Y) k ≡ false) → accepted (sizeOf T) ≡ verdict
-  unfolding nearestVerdict nearestInputs rangeVerdict
   in-order ready small room range =
-      let inputs : accepted (sizeOf T)
-      ≡ nearestInputs start (sizeOf T) (length (T .tones)) (workBytes T) (length X) (length Y) (length f₀) (length work) r =
-      test-past 10
-      (rw (
-        eq-eqb (length X) (length (T .tones)) (ready .lists .xsLength),
-        eq-eqb (length Y) (length (T .tones)) (ready .lists .ysLength),
-        eq-eqb (length f₀) (bytesFor start (sizeOf T)) (ready .frame),
-        eq-eqb (length work) (workBytes T) room,
-      ))
-      (test-past 11 (le-ltb 7 start small) (test-past 12 (ready .register) refl)) in
-      and-past (tableVerdict T) (ready .tables)
-      (and-accepted (sizeOf T) inputs (found-past 23 (first-all (rangeTest (points X Y)) (length (T .tones)) range) refl))
+      sym (done-nearest T (ready .tables) X Y start r f₀ work (ready .lists) (ready .frame) room small (ready .register)
+      (first-all (rangeTest (points X Y)) (length (T .tones)) range))
 
   module _ (a : Nearest) (f work′ : List ℕ) (reads : ReadsNearest T X Y r start f₀ work a f work′) where
     number-is : nearestOf a .verdict .number ≡ verdict .number

@@ -130,3 +130,7 @@ Bytes f = (k : ℕ) → k < length f → getD f k 0 < 256
 -- two point lists agree at the tones that carry no data: at each monitored or silent place in t'
 abbrev pub SameUnloaded : Tables → List Point → List Point → Type 0
 SameUnloaded T p q = (k : ℕ) → k < length (T .tones) → load (getD (classesOf T) k Silent) ≡ 0 → getD p k origin ≡ getD q k origin
+
+-- and at the tones that carry data: at each loaded place in t'
+abbrev pub SameLoaded : Tables → List Point → List Point → Type 0
+SameLoaded T p q = (k : ℕ) → k < length (T .tones) → 0 < load (getD (classesOf T) k Silent) → getD p k origin ≡ getD q k origin
