@@ -1,9 +1,9 @@
 -- Points by place: each place before i has its point, or its label, or none.
-use Prim.Native.Nat.{ℕ, _+_, _≤_, _<_, _-_}
+use Prim.Native.Nat.{ℕ, zero, suc, _+_, _≤_, _<_, _-_}
 use native.Mathlib.Omega.{arith}
 use borrow.Author.Count.{below-more}
 use mathlib.Core.Bool.{Bool, true, false, _&&_, and-eq-true-iff, true≢false}
-use mathlib.Core.List.{List}
+use mathlib.Core.List.{List, [], _∷_}
 use mathlib.Core.Path.{_≡_, refl, _∙_, sym}
 use lib.IntN.{ℤ, pos}
 use lib.ListN.{length, set, length-set, take, drop, length-drop, getD}
@@ -12,11 +12,19 @@ use Rattle.constellation.proofs.DemapByLayout.{on-or-off}
 use Rattle.constellation.specs.DemapByLayout.{Demaps}
 use Rattle.constellation.specs.MapByLayout.{MapsTo}
 use Rattle.constellation.specs.declared.demap.PointLabel.{PointLabel}
-use Rattle.g9932.specs.Sizes.{entry, Point, point}
+use Rattle.g9932.specs.Sizes.{entry, Point, point, points, origin}
 use Rattle.g9932.specs.declared.Found.{Found}
 use Rattle.g9932.specs.declared.Found.the-variants.{Nothing}
 use Rattle.mapper.specs.Writing.{PutsPoints}
 use Rattle.mapper.specs.Reading.{pointAt, DemapNeeds, LabelIs, Off, Told, DemapsAll, OffAt, DemapsPoints, OnOrOff, DemapAllNeeds}
+
+-- the point at a place of two lists
+pub point-at : (xs ys : List ℤ) (i : ℕ) → i < length xs → length ys ≡ length xs → getD (points xs ys) i origin ≡ pointAt xs ys i
+unfolding points
+point-at [] ys i h k = absurd (omega arith)
+point-at (x ∷ xs) [] i h k = absurd (omega arith)
+point-at (x ∷ xs) (y ∷ ys) zero h k = refl
+point-at (x ∷ xs) (y ∷ ys) (suc i) h k = point-at xs ys i (omega arith) (omega arith)
 
 -- ---- points put
 

@@ -16,10 +16,10 @@ use Rattle.frame.proofs.Labels.{at-get}
 use Rattle.frame.specs.Labels.{bitsOfLabels, Within, labelsAt}
 use Rattle.g9932.specs.Bits.{weight, odd, bits}
 use Rattle.g9932.specs.Sizes.{entry, Point, origin}
-use Rattle.nearest.specs.Entries.{meterBy, metersIn, Decidable}
-use Rattle.nearest.specs.Deciding.{costsOf, Costed, costBy, CostLists, EntryNeeds, loneIn, MeterCosts, upperAt, lowerAt, lowNumber, LowTraced, CosetNumber, Traced, PlaceLabels, LeastLow, LeastLows, leastTotal, BestAll, none, more}
+use Rattle.decisions.specs.Entries.{meterBy, metersIn, Decidable}
+use Rattle.decisions.specs.Deciding.{costsOf, Costed, costBy, CostLists, EntryNeeds, loneIn, MeterCosts, upperAt, lowerAt, lowNumber, LowTraced, CosetNumber, Traced, PlaceLabels, LeastLow, LeastLows, leastTotal, BestAll, none, more}
 use Rattle.nearest.specs.Planned.{LaidOut}
-use Rattle.nearest.proofs.PathLabels.{meters-length, meters-get}
+use Rattle.decisions.proofs.PathLabels.{meters-length, meters-get}
 
 -- ---- numbers of two bits
 

@@ -1,7 +1,3 @@
-pub mod Places
-pub mod Selecting
-pub mod Tracing
-pub mod PathLabels
 pub mod Entries
 pub mod PlanMeters
 pub mod Laid

@@ -31,14 +31,14 @@ use Rattle.g9932.specs.declared.Found.the-variants.{Nothing}
 use Rattle.g9932.specs.declared.Mode.{Mode}
 use Rattle.g9932.specs.declared.Mode.the-variants.{Uncoded, Coded}
 use Rattle.passes.proofs.PlanLabels.{plan-placed}
-use Rattle.passes.proofs.SymbolPoints.{point-at}
+use Rattle.mapper.proofs.PointLoop.{point-at}
 use Rattle.paths.specs.Frames.{pairBy, pairsBy, sentCost, Labelled, LeastFrame}
 use Rattle.plan.specs.Plan.{leastOwn, sharing, PlanIs}
 use Rattle.plan.specs.declared.PlanSizes.{PlanSizes}
 use Rattle.symbol.proofs.TablePlan.{known, the-plan, entries-by, plain-sum, coded-pairs}
-use Rattle.nearest.specs.Deciding.{pairMeters, BestAll, none, more}
-use Rattle.nearest.specs.Entries.{metersIn, Decidable}
-use Rattle.nearest.proofs.PathLabels.{traced-within, traced-labelled}
+use Rattle.decisions.specs.Deciding.{pairMeters, BestAll, none, more}
+use Rattle.decisions.specs.Entries.{metersIn, Decidable}
+use Rattle.decisions.proofs.PathLabels.{traced-within, traced-labelled}
 use Rattle.nearest.specs.Planned.{Decides, NearestBits}
 use Rattle.g9932.proofs.PointLists.{length-points}
 use Rattle.paths.proofs.Frames.{least-frame}

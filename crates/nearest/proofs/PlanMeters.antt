@@ -25,8 +25,8 @@ use Rattle.passes.proofs.PlanLabels.{all-count, where-inside, plan-placed}
 use Rattle.paths.specs.Frames.{pairsBy, sentCost}
 use Rattle.plan.specs.Classes.{PlanOf}
 use Rattle.plan.specs.Plan.{ClassBits, placesWhere, everySecond}
-use Rattle.nearest.specs.Deciding.{metersInTwos, noMeter, meterInFront, pairMeters}
-use Rattle.nearest.specs.Entries.{meterBy, metersIn}
+use Rattle.decisions.specs.Deciding.{metersInTwos, noMeter, meterInFront, pairMeters}
+use Rattle.decisions.specs.Entries.{meterBy, metersIn}
 
 -- what the bits of labels cost, one label after the other
 unfoldable pub metersCost : List Meter → List Bool → ℕ

@@ -21,8 +21,8 @@ use Rattle.mapper.specs.Writing.{SetsFiller}
 use Rattle.passes.proofs.Points.{framed-bytes}
 use Rattle.passes.specs.ReadSymbol.{FrameLabels, ReadsFrame}
 use Rattle.plan.specs.Plan.{leastOwn}
-use Rattle.nearest.specs.Deciding.{Costed, PlaceLabels}
-use Rattle.nearest.specs.Entries.{metersIn}
+use Rattle.decisions.specs.Deciding.{Costed, PlaceLabels}
+use Rattle.decisions.specs.Entries.{metersIn}
 use Rattle.nearest.specs.Planned.{DecideSupposes, LowNeeds, Lows, Decides, NearestSupposes, ReadsPlanned}
 use Rattle.nearest.proofs.Entries.{cost-lists, entry-needs, meter-costs, traced-all, tones-within, tones-best}
 

@@ -38,7 +38,7 @@ use Rattle.plan.specs.declared.Planned.the-variants.{Lists, Refused as PlanRefu
 use Rattle.plan.specs.declared.PlanSizes.{PlanSizes}
 use Rattle.symbol.proofs.Answers.{size-is, inputs-read}
 use Rattle.symbol.proofs.TablePlan.{the-plan, held-fits, tones-most}
-use Rattle.nearest.specs.Entries.{Decidable}
+use Rattle.decisions.specs.Entries.{Decidable}
 use Rattle.nearest.specs.Planned.{workFor, inputsBy, afterLists, EntriesFit, ChecksLists, Passed, ListsSuppose, ModeNeeds, DecideSupposes, NearestSupposes, ReadsPlanned}
 use Rattle.nearest.proofs.Laid.{layouts-length, tone-layouts, laid-out}
 use Rattle.nearest.proofs.NearestInputs.{work-fits}

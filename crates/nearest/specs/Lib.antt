@@ -1,4 +1,2 @@
--- Nearest reading between the plan of the tables and the answer: what the labels of each entry cost, and the labels that are decided.
-pub mod Entries
-pub mod Deciding
+-- Nearest reading between the plan of the tables and the answer.
 pub mod Planned

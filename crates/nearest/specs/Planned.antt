@@ -25,8 +25,8 @@ use Rattle.plan.specs.Plan.{Arrays, PlanIs, leastOwn, plannedVerdict}
 use Rattle.plan.specs.declared.Planned.{Planned}
 use Rattle.plan.specs.declared.Planned.the-variants.{Lists, Refused}
 use Rattle.plan.specs.declared.PlanSizes.{PlanSizes}
-use Rattle.nearest.specs.Entries.{metersIn, Decidable}
-use Rattle.nearest.specs.Deciding.{PlaceNeeds, pairMeters, MeterCosts, PathNeeds, LeastPath, TraceNeeds, LowTraced, Traced, ToneNeeds, LeastLows, BestAll}
+use Rattle.decisions.specs.Entries.{metersIn, Decidable}
+use Rattle.decisions.specs.Deciding.{PlaceNeeds, pairMeters, MeterCosts, PathNeeds, LeastPath, TraceNeeds, LowTraced, Traced, ToneNeeds, LeastLows, BestAll}
 
 -- ---- the inputs
 

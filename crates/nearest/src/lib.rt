@@ -1,11 +1,10 @@
 // Reading points that were received off the grid: the frame whose written points are nearest to them.
-mod decide;
 mod inputs;
 mod range;
 
 ghost use Rattle.g9932.specs.Nearest.{ReadsNearest};
 ghost use Rattle.g9932.specs.Sizes.{tables};
-ghost use Rattle.nearest.specs.Deciding.{CostNeeds};
+ghost use Rattle.decisions.specs.Deciding.{CostNeeds};
 ghost use Rattle.nearest.specs.Planned.{LowNeeds, Lows, DecideNeeds, DecidesAny, NearestNeeds, ReadsAnyPlanned, ListsNeeds, ReadsAnyLists};
 use g9932::Found;
 use g9932::MOST_HELD;
@@ -34,10 +33,10 @@ fn decide_low(
     ensures { λ r. ⌜ Lows mode («shared_from» .0) (now (places .entry)) (now (k0 .entry)) (now (k1 .entry)) (now (k2 .entry)) (now (k3 .entry)) (now (labels .exit)) r ⌝ }
 {
     match mode {
-        Mode::Uncoded => decide::least_low(places, k0, k1, k2, k3, labels),
+        Mode::Uncoded => decisions::least_low(places, k0, k1, k2, k3, labels),
         Mode::Coded => {
-            let total = decide::least_path(places, shared_from, k0, k1, k2, k3, work);
-            decide::trace_low(places, work, labels);
+            let total = decisions::least_path(places, shared_from, k0, k1, k2, k3, work);
+            decisions::trace_low(places, work, labels);
             total
         }
     }
@@ -61,9 +60,9 @@ fn decide_by_costs(
     requires { ⌜ DecideNeeds mode («shared_from» .0) (now places) (now layouts) (now xs) (now ys) (now work) (now labels) × CostNeeds (now layouts) (now xs) (now ys) (now k0) (now k1) (now k2) (now k3) ⌝ }
     ensures { λ r. ⌜ DecidesAny mode («shared_from» .0) (now (places .entry)) (now (layouts .entry)) (now (xs .entry)) (now (ys .entry)) (now (work .entry)) (now (labels .entry)) (now (labels .exit)) r ⌝ }
 {
-    decide::cost_places(layouts, xs, ys, k0, k1, k2, k3);
+    decisions::cost_places(layouts, xs, ys, k0, k1, k2, k3);
     let total = decide_low(mode, shared_from, places, k0, k1, k2, k3, work, labels);
-    decide::label_places(layouts, xs, ys, labels);
+    decisions::label_places(layouts, xs, ys, labels);
     total
 }
 

@@ -23,6 +23,7 @@ use Rattle.g9932.specs.declared.Class.{Class}
 use Rattle.g9932.specs.declared.Class.the-variants.{Data, Monitored, Silent}
 use Rattle.g9932.specs.declared.Found.{Found}
 use Rattle.g9932.specs.declared.Found.the-variants.{At, Nothing}
+use Rattle.mapper.proofs.PointLoop.{point-at}
 use Rattle.mapper.specs.Reading.{pointAt, LabelIs, OffAt, passesFiller}
 use Rattle.plan.specs.Plan.{ClassBits, isDrawing}
 use Rattle.passes.proofs.FillerPlaces.{filled}
@@ -96,14 +97,6 @@ pub tone-layout : (c : Class) → ClassBits c → ToneLayout (classLayout c)
 tone-layout (Data n) h = carries n (h .0) (h .1) refl
 tone-layout Monitored h = carries 2 (omega arith) (omega arith) refl
 tone-layout Silent h = nothing refl
-
--- the point at a place of two lists
-pub point-at : (xs ys : List ℤ) (i : ℕ) → i < length xs → length ys ≡ length xs → getD (points xs ys) i origin ≡ pointAt xs ys i
-unfolding points
-point-at [] ys i h k = absurd (omega arith)
-point-at (x ∷ xs) [] i h k = absurd (omega arith)
-point-at (x ∷ xs) (y ∷ ys) zero h k = refl
-point-at (x ∷ xs) (y ∷ ys) (suc i) h k = point-at xs ys i (omega arith) (omega arith)
 
 -- ---- all tones
 

@@ -6,8 +6,8 @@ use Rattle.nearest.proofs.decide_by_costs.Statement.{statement}
 use Rattle.nearest.proofs.decide_by_costs.Tie as tie
 use Rattle.nearest.proofs.decide_by_costs.Reads as reads
 use Rattle.nearest.proofs.decide_by_costs.Lts as lts
-use Rattle.nearest.proofs.decide.cost_places.Reads as cost-places-reads
-use Rattle.nearest.proofs.decide.label_places.Reads as label-places-reads
+use Rattle.decisions.proofs.cost_places.Reads as cost-places-reads
+use Rattle.decisions.proofs.label_places.Reads as label-places-reads
 use Rattle.nearest.proofs.decide_low.Reads as decide-low-reads
 
 cost-places-requires : tie.Need-cost-places-requires

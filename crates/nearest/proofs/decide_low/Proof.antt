@@ -5,9 +5,9 @@ use Rattle.nearest.proofs.decide_low.Statement.{statement}
 use Rattle.nearest.proofs.decide_low.Tie as tie
 use Rattle.nearest.proofs.decide_low.Reads as reads
 use Rattle.nearest.proofs.decide_low.Lts as lts
-use Rattle.nearest.proofs.decide.least_low.Reads as least-low-reads
-use Rattle.nearest.proofs.decide.least_path.Reads as least-path-reads
-use Rattle.nearest.proofs.decide.trace_low.Reads as trace-low-reads
+use Rattle.decisions.proofs.least_low.Reads as least-low-reads
+use Rattle.decisions.proofs.least_path.Reads as least-path-reads
+use Rattle.decisions.proofs.trace_low.Reads as trace-low-reads
 
 enum-told : tie.Need-enum-told
 enum-told c = search needs

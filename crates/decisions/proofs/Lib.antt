@@ -1,0 +1,4 @@
+pub mod Places
+pub mod Selecting
+pub mod Tracing
+pub mod PathLabels

@@ -1,0 +1,129 @@
+-- The trace back: the two lowest bits of each entry's label, by the survivors from the zero state.
+use Prim.Native.Nat.{ℕ, suc, _+_, _-_, _/_, _%_, _≤_, _<_}
+use mathlib.Core.Bool.{Bool, true, false}
+use mathlib.Core.List.{List}
+use mathlib.Core.Path.{_≡_, refl, sym, ap, subst, _∙_}
+use native.Mathlib.Numerals.{add-one}
+use native.Mathlib.Omega.{arith}
+use borrow.Author.Tests.{ltb-true, ltb-false}
+use lib.Dec.{ltb}
+use lib.ListN.{length, set, length-set}
+use lib.Seq.{getD-set-same, getD-set-other}
+use Rattle.frame.specs.Labels.{Rising}
+use Rattle.g9932.specs.Sizes.{entry}
+use Rattle.g9932.specs.Trellis.{zeroState}
+use Rattle.g9932.specs.declared.LowBits.{LowBits}
+use Rattle.g9932.specs.declared.TrellisState.{TrellisState}
+use Rattle.paths.specs.Paths.{after, lowBy}
+use Rattle.paths.specs.Survivors.{survivor, stateAt, lowAt}
+use Rattle.decisions.specs.Deciding.{loneIn, upperAt, lowerAt, lowNumber, LowTraced}
+
+-- ---- one entry more
+
+module _ {ps σ labels : List ℕ} (rising : Rising ps (length labels)) where
+  pub traced-more : {n l : ℕ} {after : List ℕ} → n < length ps → LowTraced ps σ labels n → after ≡ set labels (entry ps n) l → l ≡ lowNumber (upperAt σ (loneIn ps + n)) (lowerAt σ (loneIn ps + n))
+      → LowTraced ps σ after (suc n)
+  traced-more {n} {l} {after} h old put is = record { low = λ k q. by (ltb k n) k refl q }
+    where
+      here : entry after (entry ps n) ≡ lowNumber (upperAt σ (loneIn ps + n)) (lowerAt σ (loneIn ps + n))
+      here = ap (λ (z : List ℕ). entry z (entry ps n)) put ∙ getD-set-same labels (entry ps n) l 0 (rising .below n h) ∙ is
+
+      there : (k : ℕ) → k < n → entry after (entry ps k) ≡ entry labels (entry ps k)
+      there k q =
+          let r = rising .rises k n q h in
+          ap (λ (z : List ℕ). entry z (entry ps k)) put ∙ getD-set-other labels (entry ps n) (entry ps k) l 0 (λ e. omega (arith, r, e))
+
+      by : (b : Bool) (k : ℕ) → ltb k n ≡ b → k < suc n → entry after (entry ps k) ≡ lowNumber (upperAt σ (loneIn ps + k)) (lowerAt σ (loneIn ps + k))
+      by true k e q = there k (ltb-true k n e) ∙ old .low k (ltb-true k n e)
+      by false k e q =
+          let z : n ≡ k = omega (arith, ltb-false k n e) in
+          subst (λ (i : ℕ). entry after (entry ps i) ≡ lowNumber (upperAt σ (loneIn ps + i)) (lowerAt σ (loneIn ps + i))) z here
+
+-- nothing yet
+pub traced-none : {ps σ labels : List ℕ} → LowTraced ps σ labels 0
+traced-none = record { low = λ k l. absurd (omega arith) }
+
+-- ---- the lowest bits of an entry, by its place in its pair
+
+pub even-low : (σ : List ℕ) (t j : ℕ) → t % 2 ≡ 0 → t / 2 ≡ j → (upperAt σ t ≡ lowAt σ j .v1) × (lowerAt σ t ≡ lowAt σ j .v0)
+even-low σ t j e f = (rw (e, f) refl, rw (e, f) refl)
+
+pub odd-low : (σ : List ℕ) (t j : ℕ) → t % 2 ≡ 1 → t / 2 ≡ j → (upperAt σ t ≡ lowAt σ j .w1) × (lowerAt σ t ≡ lowAt σ j .w0)
+odd-low σ t j e f = (rw (e, f) refl, rw (e, f) refl)
+
+-- ---- pair by pair
+
+abbrev after-pair : List ℕ → TrellisState → ℕ → TrellisState
+after-pair σ s j = after s (survivor σ j s)
+
+abbrev low-pair : List ℕ → TrellisState → ℕ → LowBits
+low-pair σ s j = lowBy s (survivor σ j s)
+
+pub state-none : (σ : List ℕ) → zeroState ≡ stateAt σ 0
+unfolding stateAt
+state-none σ = refl
+
+pub state-first : (σ : List ℕ) {s : TrellisState} → s ≡ zeroState → after-pair σ s 0 ≡ stateAt σ 1
+unfolding stateAt
+state-first σ e = ap (λ (z : TrellisState). after-pair σ z 0) e
+
+pub low-first : (σ : List ℕ) {s : TrellisState} → s ≡ zeroState → low-pair σ s 0 ≡ lowAt σ 0
+unfolding stateAt
+low-first σ e = ap (λ (z : TrellisState). low-pair σ z 0) e
+
+-- the entries before k, and the state before the pair that begins there
+pub record Tracing (ps : List ℕ) (n : ℕ) (σ labels : List ℕ) (s : TrellisState) (k : ℕ) : Type 0 where
+  pub parity : k % 2 ≡ loneIn ps
+  pub inside : k ≤ length ps
+  pub state : s ≡ stateAt σ ((k + loneIn ps) / 2)
+  pub traced : LowTraced ps σ labels k
+  pub labelsLength : length labels ≡ n
+
+module _ {ps σ : List ℕ} (labels : List ℕ) (rising : Rising ps (length labels)) (many : 1 ≤ length ps) where
+  -- a first pair with x = 0
+  pub traced-first : {low : LowBits} {p l : ℕ} {after : List ℕ} → loneIn ps ≡ 1 → low ≡ lowAt σ 0 → after ≡ set labels p l → p ≡ entry ps 0 → l ≡ lowNumber (low .w1) (low .w0)
+      → LowTraced ps σ after (loneIn ps)
+  traced-first {low} {p} {l} {after} e is put at n =
+      let o = odd-low σ (loneIn ps + 0) 0 (omega (arith, e)) (omega (arith, e)) in
+      let f : l ≡ lowNumber (upperAt σ (loneIn ps + 0)) (lowerAt σ (loneIn ps + 0)) =
+      n ∙ ap (λ (z : LowBits). lowNumber (z .w1) (z .w0)) is ∙ (λ i. lowNumber (sym (o .0) i) (sym (o .1) i)) in
+      subst (LowTraced ps σ after) (sym e) (traced-more {labels = labels} rising many traced-none (put ∙ ap (λ (z : ℕ). set labels z l) at) f)
+
+  pub tracing-start : {s : TrellisState} → s ≡ stateAt σ (loneIn ps) → LowTraced ps σ labels (loneIn ps) → Tracing ps (length labels) σ labels s (loneIn ps)
+  tracing-start e t =
+      let h : (loneIn ps + loneIn ps) / 2 ≡ loneIn ps = omega arith in
+      record { parity = omega arith; inside = omega arith; state = e ∙ ap (stateAt σ) (sym h); traced = t; labelsLength = refl }
+
+module _ {ps σ labels : List ℕ} {n : ℕ} {s : TrellisState} {k : ℕ} (rising : Rising ps n) (t : Tracing ps n σ labels s k) (h : k < length ps) where
+  -- both of its entries are there
+  pub second-inside : k + 1 < length ps
+  second-inside = omega (arith, t .parity)
+
+  pub tracing-more : {next : TrellisState} {low : LowBits} {mid after : List ℕ} {p q x y : ℕ} → next ≡ after-pair σ s ((k + loneIn ps) / 2) → low ≡ low-pair σ s ((k + loneIn ps) / 2)
+      → mid ≡ set labels p x → p ≡ entry ps k → x ≡ lowNumber (low .v1) (low .v0) → after ≡ set mid q y → q ≡ entry ps (k + 1) → y ≡ lowNumber (low .w1) (low .w0)
+      → Tracing ps n σ after next (k + 2)
+  unfolding stateAt
+  tracing-more {next} {low} {mid} {after} {p} {q} {x} {y} en el pm pp px qm qq qy =
+      let j : ℕ = (k + loneIn ps) / 2 in
+      let l : low ≡ lowAt σ j = el ∙ ap (λ (z : TrellisState). low-pair σ z j) (t .state) in
+      let a = even-low σ (loneIn ps + k) j (omega (arith, t .parity)) (omega arith) in
+      let b = odd-low σ (loneIn ps + (k + 1)) j (omega (arith, t .parity)) (omega (arith, t .parity)) in
+      let ex : x ≡ lowNumber (upperAt σ (loneIn ps + k)) (lowerAt σ (loneIn ps + k)) =
+      px ∙ ap (λ (z : LowBits). lowNumber (z .v1) (z .v0)) l ∙ (λ i. lowNumber (sym (a .0) i) (sym (a .1) i)) in
+      let ey : y ≡ lowNumber (upperAt σ (loneIn ps + (k + 1))) (lowerAt σ (loneIn ps + (k + 1))) =
+      qy ∙ ap (λ (z : LowBits). lowNumber (z .w1) (z .w0)) l ∙ (λ i. lowNumber (sym (b .0) i) (sym (b .1) i)) in
+      let r1 : Rising ps (length labels) = subst (Rising ps) (sym (t .labelsLength)) rising in
+      let nm : length mid ≡ n = ap length pm ∙ length-set labels p x ∙ t .labelsLength in
+      let r2 : Rising ps (length mid) = subst (Rising ps) (sym nm) rising in
+      let t1 = traced-more r1 h (t .traced) (pm ∙ ap (λ (z : ℕ). set labels z x) pp) ex in
+      let t1' = subst (LowTraced ps σ mid) (sym (add-one k)) t1 in
+      let t2 = traced-more r2 second-inside t1' (qm ∙ ap (λ (z : ℕ). set mid z y) qq) ey in
+      let e : suc (k + 1) ≡ k + 2 = omega arith in
+      let f : (k + 2 + loneIn ps) / 2 ≡ suc j = omega arith in
+      record {
+        parity = omega (arith, t .parity);
+        inside = omega (arith, second-inside);
+        state = en ∙ ap (λ (z : TrellisState). after-pair σ z j) (t .state) ∙ ap (stateAt σ) (sym f);
+        traced = subst (LowTraced ps σ after) e t2;
+        labelsLength = ap length qm ∙ length-set mid q y ∙ nm;
+      }
