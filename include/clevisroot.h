@@ -303,8 +303,8 @@ clevisroot_answer clevisroot_read_at(
     uint8_t *frame, size_t frame_len, uint8_t start);
 
 /*
- * Decides received points to the nearest frame and writes it so that it starts at this bit of its
- * first byte: (start + L + 7) / 8 bytes, zeros before the start and after the end. Of all frames with
+ * Reads received points as a nearest frame and writes it so that it starts at this bit of its first
+ * byte: (start + L + 7) / 8 bytes, zeros before the start and after the end. Of all frames with
  * this start, none has points, as clevisroot_encode_at writes them, with a smaller total of squared
  * distances to x and y; the answer has that total. The register moves as in clevisroot_read_at.
  * Refusals 1 to 8; then 10 if x or y has not NSC entries, the frame not (start + L + 7) / 8 bytes,
