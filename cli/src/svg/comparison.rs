@@ -17,9 +17,8 @@ pub fn draw(compared: &Compared) -> String {
     let mut pen = Pen::default();
     pen.text((MARGIN, 32.0), "title", &title);
     pen.text((MARGIN, 52.0), "plain", &symbol.caption);
-    let head = "Received and decided points by bit count";
-    pen.text((MARGIN, 86.0), "head", head);
-    pen.text((MARGIN + 325.0, 86.0), "plain", &note(&groups));
+    pen.text((MARGIN, 86.0), "head", "Received and decided points");
+    pen.text((MARGIN + 250.0, 86.0), "plain", &note(&groups));
     let panels = vector_panels::lay(&groups, 122.0);
     legend::draw(&mut pen, &vector_signs(&panels), (MARGIN, 110.0));
     let end = vector_panels::draw(&mut pen, &panels, 122.0);

@@ -21,7 +21,7 @@ fn a_line_from_each_decided_point_to_the_received_one() {
                    over 5 loaded tones";
     for words in [
         caption,
-        "Received and decided points by bit count",
+        "Received and decided points",
         "How far off",
         "half way to a neighbour on the grid",
         "by the filler bits",
