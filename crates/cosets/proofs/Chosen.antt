@@ -1,14 +1,12 @@
 -- The nearest place of the rectangles is the nearest point of the coset.
-use Prim.Native.Nat.{ℕ, zero, suc, _+_, _-_, _*_, _/_, _%_, _^_, _≤_, min}
+use Prim.Native.Nat.{ℕ, zero, suc, _+_, _*_, _/_, _%_, _≤_, min}
 use mathlib.Core.Bool.{Bool, true, false, not}
 use mathlib.Core.List.{List, [], _∷_}
-use mathlib.Core.Logic.{_⊎_, inl, inr, ⊎-elim}
+use mathlib.Core.Logic.{inl, inr, ⊎-elim}
 use mathlib.Core.Path.{_≡_, refl, sym, ap, subst, _∙_}
-use native.Mathlib.Nat.{one-mul, mod-eq-of-lt}
 use native.Mathlib.Omega.{arith}
-use lib.Pow.{pow-lt, pow-pos, pow-mono}
 use lib.ListN.{length, drop}
-use Rattle.g9932.specs.Bits.{_⊕_, bit, weight, num, odd}
+use Rattle.g9932.specs.Bits.{_⊕_, bit, weight, odd}
 use Rattle.g9932.specs.Trellis.{same}
 use Rattle.g9932.specs.Points.{pointOf, twosComplement}
 use Rattle.g9932.specs.Sizes.{Point}
@@ -175,11 +173,6 @@ three-alike x y i j v1 v0 r hi hj nr e =
 
 -- ---- sizes in the code
 
-pub shifted : (k : ℕ) → k ≤ 6 → (1 * 2 ^ k % 2 ^ 32 ≡ 2 ^ k) × (1 ≤ 1 * 2 ^ k % 2 ^ 32) × (1 * 2 ^ k % 2 ^ 32 ≤ 64)
-shifted k h =
-    let e : 1 * 2 ^ k % 2 ^ 32 ≡ 2 ^ k = ap (λ (x : ℕ). x % 2 ^ 32) (one-mul (2 ^ k)) ∙ mod-eq-of-lt (pow-lt {j = 32} (omega arith)) in
-    (e, omega (arith, e, pow-pos k), omega (arith, e, pow-mono {i = k} {j = 6} h))
-
 pub half-more : (r i : ℕ) → r ≤ 1 → i ≤ 64 → r * ((i + 1) / 2) ≤ 32
 half-more zero i h g = omega arith
 half-more (suc zero) i h g = omega arith
@@ -217,10 +210,3 @@ module _ (x y i j xi yi xo yo : ℕ) (v1 v0 : Bool) (hi : i ≡ weight v1) (hj :
   pub alike-cost : v1 ⊕ v0 ≡ false → (p : Point) → RaisedPoint p x y → CosetCost 3 v1 v0 p (xo + yi)
   alike-cost e p rp =
       record { x = 2 * sxo .u + 1; y = 2 * syi .u + 1; near = three-alike x y i j v1 v0 (nearOf sxo syi) hi hj (near-in sxo syi) e p rp }
-
--- ---- one bit
-
-pub one-distance : (p : Point) (x y : ℕ) → RaisedPoint p x y
-    → (squaredDistance p (pointOf 1 (false ∷ [])) ≡ square x 512 + square y 512) × (squaredDistance p (pointOf 1 (true ∷ [])) ≡ square x 511 + square y 511)
-unfolding num weight
-one-distance p x y r = (distance-is (false ∷ []) p x y (omega arith) (omega arith) r, distance-is (true ∷ []) p x y (omega arith) (omega arith) r)

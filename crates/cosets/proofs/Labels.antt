@@ -5,8 +5,8 @@ use mathlib.Core.List.{List, [], _∷_}
 use mathlib.Core.Logic.{_⊎_, ⊎-elim}
 use mathlib.Core.Path.{_≡_, refl, sym, ap, subst, _∙_}
 use native.Mathlib.Omega.{arith}
-use borrow.Author.Tests.{le-ltb, ltb-true, ltb-false}
-use lib.Dec.{ltb}
+use borrow.Author.Tests.{le-ltb, ltb-true, ltb-false, eq-eqb, ne-eqb}
+use lib.Dec.{ltb, eqb}
 use lib.IntN.{ℤ, pos, negsuc, _+ℤ_, _-ℤ_}
 use lib.ListN.{length}
 use mir.Syntax.{w16}
@@ -16,15 +16,16 @@ use Rattle.g9932.specs.Bits.{bit, weight, odd, num, bits}
 use Rattle.g9932.specs.Nearest.{squaredDistance}
 use Rattle.g9932.specs.Points.{pointOf, labelOf, isLabel, labelBits}
 use Rattle.g9932.specs.Sizes.{Point, point}
+use Rattle.g9932.proofs.Constellations.{point-coords}
 use Rattle.g9932.proofs.Labels.{label-point}
 use Rattle.g9932.proofs.TwosComplement.{pos-inj}
-use Rattle.g9932.proofs.Words.{bits-num, num-lt, weight-odd}
+use Rattle.g9932.proofs.Words.{bits-num, num-lt, weight-le, weight-odd}
 use Rattle.constellation.specs.Reading.{FoundLabelIs}
 use Rattle.constellation.specs.declared.FoundLabel.{FoundLabel}
 use Rattle.cosets.specs.declared.Costs.{Costs}
 use Rattle.cosets.specs.declared.Coset.{Coset}
 use Rattle.cosets.specs.Nearest.{InRange, Raised, Nearest, CosetCost, CostsOf, OneCostsOf}
-use Rattle.cosets.specs.Meters.{Meter, toneMeter, shared, costOf, LeastOf, CosetLabel, BestLabel, sharedCosts, LeastCoset}
+use Rattle.cosets.specs.Meters.{Meter, toneMeter, shared, costOf, bitCost, LeastOf, CosetLabel, BestLabel, sharedCosts, LeastAmong, LeastCoset}
 
 -- ---- coordinates, raised and back
 
@@ -91,16 +92,27 @@ tone-least {b = b} {p = p} {r = r} h =
       least = λ w l. coset b p r h (bit w 1) (bit w 0) .near .least w l refl refl;
     }
 
+-- the points of 1 bit are those of 2 bits with the labels 00 and 11
+pub one-costs : {p : Point} {r : Costs} → CostsOf 2 p r → OneCostsOf p r
+one-costs {p = p} {r = r} h = record { is0 = by false (h .is0 .near); is1 = by true (h .is3 .near) }
+  where
+    both : (z : Bool) (v : List Bool) → length v ≡ 2 → bit v 1 ≡ z → bit v 0 ≡ z → v ≡ z ∷ z ∷ []
+    both z [] l e1 e0 = absurd (omega arith)
+    both z (a ∷ []) l e1 e0 = absurd (omega arith)
+    both z (a ∷ b ∷ []) l e1 e0 = λ i. e0 i ∷ e1 i ∷ []
+    both z (a ∷ b ∷ c ∷ v) l e1 e0 = absurd (omega arith)
+
+    by : {x y d : ℕ} (z : Bool) → Nearest 2 z z p x y d → squaredDistance p (pointOf 1 (z ∷ [])) ≡ d
+    by z n =
+        let e = point-coords (z ∷ []) ∙ sym (point-coords (z ∷ z ∷ [])) ∙ ap (pointOf 2) (sym (both z (n .label) (n .size) (n .low1) (n .low0))) in
+        ap (squaredDistance p) e ∙ n .cost
+
 -- each label has a coset of its own
 abbrev oneLabel : Bool → Bool → List Bool
 oneLabel v1 v0 = v0 ∷ v1 ∷ []
 
--- the two costs of a 1-bit tone, by its bit
-abbrev oneCost : Costs → Bool → ℕ
-oneCost c true = c .c1
-oneCost c false = c .c0
-
-one-cost : {p : Point} {c : Costs} → OneCostsOf p c → (z : Bool) → squaredDistance p (pointOf 1 (z ∷ [])) ≡ oneCost c z
+one-cost : {p : Point} {c : Costs} → OneCostsOf p c → (z : Bool) → squaredDistance p (pointOf 1 (z ∷ [])) ≡ bitCost c (weight z)
+unfolding weight
 one-cost h true = h .is1
 one-cost h false = h .is0
 
@@ -116,7 +128,7 @@ shared-least {p = p} {q = q} {a = a} {b = b} ha hb =
       least = go;
     }
   where
-    by : (v1 v0 : Bool) → oneCost a v0 + oneCost b v1 ≡ costOf (sharedCosts a b) (weight v0 + 2 * weight v1)
+    by : (v1 v0 : Bool) → bitCost a (weight v0) + bitCost b (weight v1) ≡ costOf (sharedCosts a b) (weight v0 + 2 * weight v1)
     by true true = refl
     by true false = refl
     by false true = refl
@@ -155,60 +167,75 @@ coset-cost {m = m} {c = c} {v1 = v1} {v0 = v0} {v = v} l h =
 abbrev pub Nearer : Coset → Coset → Coset → Type 0
 Nearer a b r = (r .cost ≡ min (a .cost) (b .cost)) × ((r ≡ a) ⊎ ((r ≡ b) × (b .cost < a .cost)))
 
-pub coset-of : (c : Costs) (m n r : Coset) → Nearer (record { low = 0; cost = c .c0 }) (record { low = 1; cost = c .c1 }) m → Nearer (record { low = 2; cost = c .c2 }) (record { low = 3; cost = c .c3 }) n
-    → Nearer m n r → LeastCoset c r
-coset-of c m n r hm hn hr =
-    let w = ⊎-elim {C = Found} (λ g. ⊎-elim {C = Found} (λ f. here (g ∙ f) (omega arith) refl (omega arith)) (λ f. here (g ∙ f .0) (omega arith) refl (omega arith)) (hm .1))
-    (λ g. let l = g .1 in ⊎-elim {C = Found} (λ f. there (g .0 ∙ f) (omega arith) refl l) (λ f. there (g .0 ∙ f .0) (omega arith) refl l) (hn .1)) (hr .1) in
-    record { small = w .0; is = w .1; least = hr .0 ∙ (λ i. min (hm .0 i) (hn .0 i)); bit = w .2 }
+module _ (c : Costs) (m n r : Coset) (hm : Nearer (record { low = 0; cost = c .c0 }) (record { low = 1; cost = c .c1 }) m)
+    (hn : Nearer (record { low = 2; cost = c .c2 }) (record { low = 3; cost = c .c3 }) n) (hr : Nearer m n r) where
+  -- one of the four, of the first two unless another is nearer
+  abbrev Found : Coset → Type 0
+  Found k = (k .low < 4) × (k .cost ≡ costOf c (k .low)) × (m .cost ≤ n .cost → k .low < 2)
+
+  found : Found r
+  found =
+      ⊎-elim
+      (λ g. subst Found (sym g) (⊎-elim (λ f. subst Found (sym f) (omega arith, refl, λ _. omega arith)) (λ f. subst Found (sym (f .0)) (omega arith, refl, λ _. omega arith)) (hm .1)))
+      (λ g. subst Found (sym (g .0)) (⊎-elim (λ f. subst Found (sym f) (omega arith, refl, λ h. absurd (omega (arith, g .1)))) (λ f. subst Found (sym (f .0)) (omega arith, refl, λ h. absurd (omega (arith, g .1)))) (hn .1)))
+      (hr .1)
+
+  under : (i : ℕ) → i < 4 → r .cost ≤ costOf c i
+  under zero h = omega (arith, hr .0, hm .0)
+  under (suc zero) h = omega (arith, hr .0, hm .0)
+  under (suc (suc zero)) h = omega (arith, hr .0, hn .0)
+  under (suc (suc (suc zero))) h = omega (arith, hr .0, hn .0)
+  under (suc (suc (suc (suc i)))) h = absurd (omega arith)
+
+  four-least : LeastAmong 4 (costOf c) r
+  four-least = record { small = found .0; is = found .1; least = under }
+
+  two-least : c .c2 ≡ c .c0 → c .c3 ≡ c .c1 → LeastAmong 2 (costOf c) r
+  two-least e f = record { small = found .2 (omega (arith, hm .0, hn .0)); is = found .1; least = λ i h. under i (omega arith) }
+
+pub coset-of : (layout : ℕ) (c : Costs) (c1 c2 : ℕ) (m n r : Coset) → c1 ≡ cond (eqb layout 33088) (c .c3) (c .c1) → c2 ≡ cond (eqb layout 33088) (c .c0) (c .c2)
+    → Nearer (record { low = 0; cost = c .c0 }) (record { low = 1; cost = c1 }) m → Nearer (record { low = 2; cost = c2 }) (record { low = 3; cost = c .c3 }) n → Nearer m n r → LeastCoset layout c r
+coset-of layout c c1 c2 m n r e1 e2 hm hn hr =
+    record {
+      tone = λ z. let b = ne-eqb layout 33088 z in four-least c m n r (rw (e1, b) at hm) (rw (e2, b) at hn) hr;
+      one = λ z. let b = eq-eqb layout 33088 z in
+          let k = two-least doubled m n r (rw (e1, b) at hm) (rw (e2, b) at hn) hr refl refl in
+          record { small = k .small; is = k .is ∙ bits-are (r .low) (k .small); least = λ i h. rw (← (bits-are i h)) (k .least i h) };
+    }
   where
-    Found : Type 0
-    Found = (r .low < 4) × (r .cost ≡ costOf c (r .low)) × (c .c2 ≡ c .c0 → c .c3 ≡ c .c1 → r .low < 2)
+    doubled : Costs
+    doubled = record { c0 = c .c0; c1 = c .c3; c2 = c .c0; c3 = c .c3 }
 
-    here : {k : Coset} → r ≡ k → k .low < 4 → k .cost ≡ costOf c (k .low) → k .low < 2 → Found
-    here q l h t = subst (λ (z : Coset). (z .low < 4) × (z .cost ≡ costOf c (z .low)) × (c .c2 ≡ c .c0 → c .c3 ≡ c .c1 → z .low < 2)) (sym q) (l, h, λ _ _. t)
-
-    there : {k : Coset} → r ≡ k → k .low < 4 → k .cost ≡ costOf c (k .low) → n .cost < m .cost → Found
-    there q l h t =
-        subst (λ (z : Coset). (z .low < 4) × (z .cost ≡ costOf c (z .low)) × (c .c2 ≡ c .c0 → c .c3 ≡ c .c1 → z .low < 2)) (sym q)
-        (l, h, λ e f. absurd (omega (arith, hm .0, hn .0, e, f, t)))
+    bits-are : (i : ℕ) → i < 2 → costOf doubled i ≡ bitCost c i
+    bits-are zero h = refl
+    bits-are (suc zero) h = refl
+    bits-are (suc (suc i)) h = absurd (omega arith)
 
 -- a number of two bits, by its bits
 two-numbers : (n : ℕ) → n < 4 → weight (odd n) + 2 * weight (odd (n / 2)) ≡ n
 two-numbers n h = let a = weight-odd n in let b = weight-odd (n / 2) in omega arith
 
 -- the nearest label of the nearest coset
-pub best-label : {m : Meter} {c : Costs} {r : Coset} {v : List Bool} → LeastOf m (costOf c) → LeastCoset c r → CosetLabel m (odd (r .low / 2)) (odd (r .low)) v → BestLabel m v (r .cost)
-unfolding weight
+pub best-label : {m : Meter} {c : Costs} {r : Coset} {v : List Bool} → LeastOf m (costOf c) → LeastAmong 4 (costOf c) r → CosetLabel m (odd (r .low / 2)) (odd (r .low)) v → BestLabel m v (r .cost)
 best-label {m = m} {c = c} {r = r} {v = v} l k h =
     record { size = h .size; cost = coset-cost l h ∙ ap (costOf c) (two-numbers (r .low) (k .small)) ∙ sym (k .is); least = go }
   where
-    under : (v1 v0 : Bool) → r .cost ≤ costOf c (weight v0 + 2 * weight v1)
-    under false false = omega (arith, k .least)
-    under false true = omega (arith, k .least)
-    under true false = omega (arith, k .least)
-    under true true = omega (arith, k .least)
-
     le-by : (x y z : ℕ) → x ≤ y → y ≤ z → x ≤ z
     le-by x y z p q = omega arith
 
     go : (w : List Bool) → length w ≡ m .bits → r .cost ≤ m .cost w
-    go w e = le-by (r .cost) (costOf c (weight (bit w 0) + 2 * weight (bit w 1))) (m .cost w) (under (bit w 1) (bit w 0)) (l .least w e)
+    go w e =
+        let n : ℕ = weight (bit w 0) + 2 * weight (bit w 1) in
+        let s : n < 4 = omega (arith, weight-le (bit w 0), weight-le (bit w 1)) in
+        le-by (r .cost) (costOf c n) (m .cost w) (k .least n s) (l .least w e)
 
--- of 1 bit, where each cost stands twice
-pub best-one : {p : Point} {c : Costs} {r : Coset} → OneCostsOf p c → c .c2 ≡ c .c0 → c .c3 ≡ c .c1 → LeastCoset c r → BestLabel (toneMeter 1 p) (odd (r .low) ∷ []) (r .cost)
-unfolding odd
-best-one {p = p} {c = c} {r = r} o e2 e3 k = record { size = refl; cost = one-cost o (odd (r .low)) ∙ sym (is (r .low) (k .small)) ∙ sym (k .is); least = go }
+-- the nearest bit
+pub best-one : {p : Point} {c : Costs} {r : Coset} → OneCostsOf p c → LeastAmong 2 (bitCost c) r → BestLabel (toneMeter 1 p) (odd (r .low) ∷ []) (r .cost)
+best-one {p = p} {c = c} {r = r} o k =
+    let e : weight (odd (r .low)) ≡ r .low = omega (arith, weight-odd (r .low), k .small) in
+    record { size = refl; cost = one-cost o (odd (r .low)) ∙ ap (bitCost c) e ∙ sym (k .is); least = go }
   where
-    is : (n : ℕ) → n < 4 → costOf c n ≡ oneCost c (odd n)
-    is zero h = refl
-    is (suc zero) h = refl
-    is (suc (suc zero)) h = e2
-    is (suc (suc (suc zero))) h = e3
-    is (suc (suc (suc (suc n)))) h = absurd (omega arith)
-
     go : (w : List Bool) → length w ≡ 1 → r .cost ≤ squaredDistance p (pointOf 1 w)
     go [] e = absurd (omega arith)
-    go (true ∷ []) e = rw (one-cost o true) (omega (arith, k .least))
-    go (false ∷ []) e = rw (one-cost o false) (omega (arith, k .least))
+    go (z ∷ []) e = rw (one-cost o z) (k .least (weight z) (omega (arith, weight-le z)))
     go (x ∷ y ∷ w) e = absurd (omega arith)

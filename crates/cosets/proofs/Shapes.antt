@@ -56,7 +56,7 @@ pub sided : (s : ℕ) → ToneLayout s → Sided s (record { inner = upper s; ou
 sided s t =
     let f = side-fits s t in
     let m = half-more (s / 128 % 2) (upper s) (omega arith) (f .1) in
-    record { fits = record { innerLeast = f .0; innerMost = f .1; outerLeast = omega arith; outerMost = omega arith }; shaped = go }
+    record { fits = record { innerLeast = f .0; innerMost = f .1; outerLeast = omega arith; outerMost = omega arith }; shaped = go; one = λ e. record { innerIs = ap upper e; outerIs = ap (λ (z : ℕ). upper z + z / 128 % 2 * ((upper z + 1) / 2)) e; threeIs = ap (λ (z : ℕ). eqb z 448) e } }
   where
     go : (b : ℕ) → 2 ≤ b → b ≤ 15 → s ≡ layoutOf b → ShapeOf b (record { inner = upper s; outer = upper s + s / 128 % 2 * ((upper s + 1) / 2); three = eqb s 448 })
     go zero l m e = absurd (omega arith)

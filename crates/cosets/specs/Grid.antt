@@ -70,6 +70,8 @@ pub record ShapeOf (b : ℕ) (h : Shape) : Type 0 where
   pub outerIs : h .outer ≡ outer b
   pub threeIs : h .three ≡ eqb b 3
 
+-- by layout, whatever the bits are that it is the layout of; 1 bit has the shape of 2
 pub record Sided (layout : ℕ) (h : Shape) : Type 0 where
   pub fits : SidesFit h
   pub shaped : (b : ℕ) → 2 ≤ b → b ≤ 15 → layout ≡ layoutOf b → ShapeOf b h
+  pub one : layout ≡ layoutOf 1 → ShapeOf 2 h

@@ -1,5 +1,5 @@
 -- What the labels of an entry cost: the squared distances of their points from received ones.
-use Prim.Native.Nat.{ℕ, _+_, _*_, _/_, _^_, _≤_, _<_, min}
+use Prim.Native.Nat.{ℕ, _+_, _*_, _/_, _^_, _≤_, _<_}
 use mathlib.Core.Bool.{Bool}
 use mathlib.Core.List.{List, [], _∷_}
 use mathlib.Core.Path.{_≡_}
@@ -33,6 +33,10 @@ shared a b = record { bits = 2; cost = λ v. a .cost (take 1 v) + b .cost (take 
 abbrev pub costOf : Costs → ℕ → ℕ
 costOf c i = getD (c .c0 ∷ c .c1 ∷ c .c2 ∷ c .c3 ∷ []) i 0
 
+-- the two of a 1-bit tone, by its bit
+abbrev pub bitCost : Costs → ℕ → ℕ
+bitCost c i = getD (c .c0 ∷ c .c3 ∷ []) i 0
+
 -- c is the least cost of the labels, by their two lowest bits
 pub record LeastOf (m : Meter) (c : ℕ → ℕ) : Type 0 where
   pub label : Bool → Bool → List Bool
@@ -57,11 +61,10 @@ pub record BestLabel (m : Meter) (v : List Bool) (n : ℕ) : Type 0 where
 
 -- ---- by layout, whatever the bits are that it is the layout of
 
--- the costs of a tone; of 1 bit those of its bit, twice
+-- the costs of a tone; of 1 bit those of its bit
 pub record CostsBy (layout : ℕ) (s : Received) (r : Costs) : Type 0 where
   pub tone : (b : ℕ) → 2 ≤ b → b ≤ 15 → layout ≡ layoutOf b → (p : Point) → IsReceived p s → LeastOf (toneMeter b p) (costOf r)
   pub one : layout ≡ layoutOf 1 → (p : Point) → IsReceived p s → OneCostsOf p r
-  pub again : layout ≡ layoutOf 1 → (r .c2 ≡ r .c0) × (r .c3 ≡ r .c1)
   pub small : SmallCosts r
 
 -- a nearest point of the coset with the two lowest bits `low`, by the label that is found for it
@@ -76,14 +79,15 @@ pub record LabelOf (layout found low r : ℕ) : Type 0 where
 
 -- two tones that share an entry
 abbrev pub sharedCosts : Costs → Costs → Costs
-sharedCosts v w = record { c0 = v .c0 + w .c0; c1 = v .c1 + w .c0; c2 = v .c0 + w .c1; c3 = v .c1 + w .c1 }
+sharedCosts v w = record { c0 = v .c0 + w .c0; c1 = v .c3 + w .c0; c2 = v .c0 + w .c3; c3 = v .c3 + w .c3 }
 
--- the coset of the least cost; where the costs stand twice, one of the first two
-abbrev pub leastCost : Costs → ℕ
-leastCost c = min (min (c .c0) (c .c1)) (min (c .c2) (c .c3))
+-- the coset of the least cost among the first n
+pub record LeastAmong (n : ℕ) (cost : ℕ → ℕ) (r : Coset) : Type 0 where
+  pub small : r .low < n
+  pub is : r .cost ≡ cost (r .low)
+  pub least : (i : ℕ) → i < n → r .cost ≤ cost i
 
-pub record LeastCoset (c : Costs) (r : Coset) : Type 0 where
-  pub small : r .low < 4
-  pub is : r .cost ≡ costOf c (r .low)
-  pub least : r .cost ≡ leastCost c
-  pub bit : c .c2 ≡ c .c0 → c .c3 ≡ c .c1 → r .low < 2
+-- of a tone; of 1 bit, its bit
+pub record LeastCoset (layout : ℕ) (c : Costs) (r : Coset) : Type 0 where
+  pub tone : (layout ≡ layoutOf 1 → ⊥) → LeastAmong 4 (costOf c) r
+  pub one : layout ≡ layoutOf 1 → LeastAmong 2 (bitCost c) r

@@ -65,7 +65,7 @@ pub record CostsOf (b : ℕ) (p : Point) (r : Costs) : Type 0 where
 -- the squared distances of the two points of a 1-bit tone
 pub record OneCostsOf (p : Point) (r : Costs) : Type 0 where
   pub is0 : squaredDistance p (pointOf 1 (false ∷ [])) ≡ r .c0
-  pub is1 : squaredDistance p (pointOf 1 (true ∷ [])) ≡ r .c1
+  pub is1 : squaredDistance p (pointOf 1 (true ∷ [])) ≡ r .c3
 
 -- ---- what the steps find, whatever the bits are that they have the shape of
 
@@ -84,10 +84,4 @@ pub record SmallCosts (r : Costs) : Type 0 where
 
 pub record CostsFor (h : Shape) (s : Received) (r : Costs) : Type 0 where
   pub costs : (b : ℕ) → 2 ≤ b → b ≤ 15 → ShapeOf b h → (p : Point) → RaisedPoint p (s .x) (s .y) → CostsOf b p r
-  pub small : SmallCosts r
-
-pub record OneCostsFor (s : Received) (r : Costs) : Type 0 where
-  pub costs : (p : Point) → RaisedPoint p (s .x) (s .y) → OneCostsOf p r
-  pub again2 : r .c2 ≡ r .c0
-  pub again3 : r .c3 ≡ r .c1
   pub small : SmallCosts r

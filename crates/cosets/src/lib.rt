@@ -2,13 +2,14 @@
 // coset are odd numbers four apart on each axis, in a rectangle or in the union of two, and the nearest one is found by clamping.
 // Coordinates are raised by 1,024, so that they are positive; the coordinate 2 u + 1, raised, has the place u. Numbers have sixteen bits and
 // the steps are the same for every tone, so that a loop over many takes several at a time. Proved code alone calls what has a `requires`.
+ghost use mathlib.Core.Bool.{cond};
 ghost use mathlib.Core.Logic.{_⊎_};
 ghost use mathlib.Core.Path.{_≡_};
 ghost use Prim.Native.Nat.{_+_, _*_, _≤_, _<_, min, max};
 ghost use Rattle.constellation.specs.Layouts.{ToneLayout};
 ghost use Rattle.g9932.specs.Sizes.{point};
 ghost use Rattle.cosets.specs.Grid.{square, NearestPlace, NearestIn, SquareTo, SidesOf, SidesFit, Sided};
-ghost use Rattle.cosets.specs.Nearest.{Raised, InRange, IsReceived, Bounded, NearestBy, CostsFor, OneCostsFor};
+ghost use Rattle.cosets.specs.Nearest.{Raised, InRange, IsReceived, Bounded, NearestBy, CostsFor};
 ghost use Rattle.cosets.specs.Meters.{CostsBy, PointBy, LabelOf, sharedCosts, LeastCoset};
 use constellation::Coordinates;
 
@@ -40,6 +41,12 @@ fn cheaper(m: u32, n: u32) -> u32
     ensures { λ r. ⌜ r ≡ min m n ⌝ }
 {
     if n < m { n } else { m }
+}
+
+fn pick(first: bool, m: u32, n: u32) -> u32
+    ensures { λ r. ⌜ r ≡ cond first m n ⌝ }
+{
+    if first { m } else { n }
 }
 
 // The nearest place of a parity among the a on each side of the origin.
@@ -120,7 +127,7 @@ pub struct Sides {
     pub outer1: u32,
 }
 
-// The cost of each number (v1 v0) of a label's two lowest bits.
+// The cost of each number (v1 v0) of a label's two lowest bits; of 1 bit, c0 and c3 are those of its bit, and c1 and c2 mean nothing.
 pub struct Costs {
     pub c0: u32,
     pub c1: u32,
@@ -170,43 +177,24 @@ fn coset_costs(h: Shape, s: Received) -> Costs
     }
 }
 
-// The costs of a 1-bit tone by its bit, twice: (1, 1) has the places 512, (−1, −1) the places 511.
-fn one_costs(s: Received) -> Costs
-    requires { ⌜ Bounded s ⌝ }
-    ensures { λ r. ⌜ OneCostsFor s r ⌝ }
-{
-    let d0 = square_at(s.x, 512) + square_at(s.y, 512);
-    let d1 = square_at(s.x, 511) + square_at(s.y, 511);
-    Costs {
-        c0: d0,
-        c1: d1,
-        c2: d0,
-        c3: d1,
-    }
-}
-
-// The costs of a tone, by its layout: of its cosets, of 1 bit those of its bit.
+// The costs of a tone, by its layout. 1 bit has the shape of 2 bits, and its points are those of their labels 00 and 11: one way serves all.
 pub fn costs_by(layout: u16, s: Received) -> Costs
     requires { ⌜ ToneLayout layout × Bounded s ⌝ }
     ensures { λ r. ⌜ CostsBy layout s r ⌝ }
 {
-    let h = shape_of(layout);
-    if layout == ONE {
-        return one_costs(s);
-    }
-    coset_costs(h, s)
+    coset_costs(shape_of(layout), s)
 }
 
 // The costs of an entry that two 1-bit tones share: the first has its lowest bit.
 pub fn shared_costs(v: Costs, w: Costs) -> Costs
-    requires { ⌜ (v .c0 ≤ 8388608) × (v .c1 ≤ 8388608) × (w .c0 ≤ 8388608) × (w .c1 ≤ 8388608) ⌝ }
+    requires { ⌜ (v .c0 ≤ 8388608) × (v .c3 ≤ 8388608) × (w .c0 ≤ 8388608) × (w .c3 ≤ 8388608) ⌝ }
     ensures { λ r. ⌜ r ≡ sharedCosts v w ⌝ }
 {
     Costs {
         c0: v.c0 + w.c0,
-        c1: v.c1 + w.c0,
-        c2: v.c0 + w.c1,
-        c3: v.c1 + w.c1,
+        c1: v.c3 + w.c0,
+        c2: v.c0 + w.c3,
+        c3: v.c3 + w.c3,
     }
 }
 
@@ -268,11 +256,15 @@ fn nearer(a: Coset, b: Coset) -> Coset
     if b.cost < a.cost { b } else { a }
 }
 
-// The nearest coset, the first of several. Of 1 bit, whose costs stand twice, it is the nearest bit.
-pub fn least_coset(c: Costs) -> Coset
-    ensures { λ r. ⌜ LeastCoset c r ⌝ }
+// The nearest coset, the first of several; of 1 bit, the nearest bit. Its two costs stand for 0 and 1, and for 2 and 3 once more, so that the
+// steps are the same for every tone.
+pub fn least_coset(layout: u16, c: Costs) -> Coset
+    ensures { λ r. ⌜ LeastCoset layout c r ⌝ }
 {
-    let plain = nearer(Coset { low: 0, cost: c.c0 }, Coset { low: 1, cost: c.c1 });
-    let other = nearer(Coset { low: 2, cost: c.c2 }, Coset { low: 3, cost: c.c3 });
+    let one = layout == ONE;
+    let c1 = pick(one, c.c3, c.c1);
+    let c2 = pick(one, c.c0, c.c2);
+    let plain = nearer(Coset { low: 0, cost: c.c0 }, Coset { low: 1, cost: c1 });
+    let other = nearer(Coset { low: 2, cost: c2 }, Coset { low: 3, cost: c.c3 });
     nearer(plain, other)
 }

@@ -1,30 +1,28 @@
 -- The loops over the places: what each step adds.
-use Prim.Native.Nat.{ℕ, suc, _+_, _-_, _*_, _%_, _≤_, _<_}
-use mathlib.Core.Bool.{Bool, true, false}
-use mathlib.Core.List.{List, [], _∷_}
-use mathlib.Core.Path.{_≡_, refl, sym, ap, subst, _∙_}
+use Prim.Native.Nat.{ℕ, _+_, _%_, _≤_, _<_}
+use mathlib.Core.Bool.{Bool}
+use mathlib.Core.List.{List}
+use mathlib.Core.Path.{_≡_, sym, ap, _∙_}
+use native.Mathlib.Numerals.{add-one}
 use native.Mathlib.Omega.{arith}
 use borrow.Author.Count.{below-more}
-use borrow.Author.Tests.{ltb-true, ltb-false}
-use lib.Dec.{ltb}
 use lib.IntN.{ℤ, pos}
 use lib.ListN.{length, getD, set, drop, length-set, drop-of-length-le}
 use lib.Seq.{drop-cons, getD-set-same, getD-set-other}
 use Rattle.cosets.proofs.Shapes.{not-one}
-use Rattle.cosets.specs.Meters.{CostsBy, PointBy, LabelOf, leastCost, LeastCoset}
+use Rattle.cosets.specs.Meters.{CostsBy, PointBy, LabelOf, LeastCoset}
 use Rattle.cosets.specs.Nearest.{IsReceived}
 use Rattle.cosets.specs.declared.Coset.{Coset}
 use Rattle.cosets.specs.declared.Costs.{Costs}
 use Rattle.cosets.specs.declared.Received.{Received}
-use Rattle.frame.specs.Labels.{Rising}
 use Rattle.g9932.specs.Sizes.{entry, Point, point, origin}
 use Rattle.mapper.specs.Reading.{pointAt, DemapsAll}
-use Rattle.decisions.specs.Deciding.{costsOf, PlaceCosts, Costed, CostLists, PlacePoint, PlacePoints, PutsLabels, PlaceLabels, leastTotal, LeastLow, LeastLows}
+use Rattle.decisions.specs.Deciding.{costsOf, PlaceCosts, Costed, PlacePoint, PlacePoints, PutsLabels, PlaceLabels, LeastAt, LeastPlaces, totalAt}
 
 -- ---- costs
 
 pub costs-of : {layout : ℕ} {p : Point} {s : Received} {r : Costs} → IsReceived p s → CostsBy layout s r → PlaceCosts layout p r
-costs-of {p = p} i c = record { tone = λ b l m e. c .tone b l m e p i; one = λ e. c .one e p i; again = c .again; small = c .small }
+costs-of {p = p} i c = record { tone = λ b l m e. c .tone b l m e p i; one = λ e. c .one e p i; small = c .small }
 
 costs-set : (k0 k1 k2 k3 : List ℕ) (i : ℕ) (r : Costs) → i < length k0 → i < length k1 → i < length k2 → i < length k3
     → costsOf (set k0 i (r .c0)) (set k1 i (r .c1)) (set k2 i (r .c2)) (set k3 i (r .c3)) i ≡ r
@@ -106,50 +104,29 @@ labels-are {layouts} k m p d l =
       labelsLength = l .labelsLength;
     }
 
--- ---- uncoded: the nearest coset, from the last entry to the first
+-- ---- uncoded: the nearest coset of every place, and the total
 
-pub record LowsFrom (ps k0 k1 k2 k3 labels : List ℕ) (k n : ℕ) : Type 0 where
-  pub low : (i : ℕ) → k ≤ i → i < length ps → LeastLow (costsOf k0 k1 k2 k3 (entry ps i)) (entry labels (entry ps i))
-  pub total : n ≡ leastTotal k0 k1 k2 k3 (drop k ps)
-  pub small : n ≤ 8388608 * (length ps - k)
-
-pub lows-none : (ps k0 k1 k2 k3 labels : List ℕ) → LowsFrom ps k0 k1 k2 k3 labels (length ps) 0
-lows-none ps k0 k1 k2 k3 labels =
-    let e : drop (length ps) ps ≡ [] = drop-of-length-le ps {i = length ps} (omega arith) in
-    record { low = λ i h l. absurd (omega arith); total = rw e refl; small = omega arith }
-
-module _ {ps k0 k1 k2 k3 labels : List ℕ} {k n : ℕ} (lists : CostLists k0 k1 k2 k3) (rising : Rising ps (length k0)) (same : length labels ≡ length k0) (above : 0 < k) (inside : k ≤ length ps)
-    (old : LowsFrom ps k0 k1 k2 k3 labels k n) where
-  pub lows-more : {p : ℕ} {r : Coset} {c : Costs} {after : List ℕ} → p ≡ entry ps (k - 1) → c ≡ costsOf k0 k1 k2 k3 p → LeastCoset c r → after ≡ set labels p (r .low)
-      → LowsFrom ps k0 k1 k2 k3 after (k - 1) (n + r .cost)
-  lows-more {p} {r} {c} {after} at is least put =
-      let i : ℕ = k - 1 in
-      let b : entry ps i < length k0 = rising .below i (omega arith) in
-      let is' : c ≡ costsOf k0 k1 k2 k3 (entry ps i) = is ∙ ap (costsOf k0 k1 k2 k3) at in
-      let put' : after ≡ set labels (entry ps i) (r .low) = put ∙ ap (λ (z : ℕ). set labels z (r .low)) at in
-      let e : suc i ≡ k = omega arith in
-      let cut : drop i ps ≡ entry ps i ∷ drop k ps = drop-cons ps i 0 (omega arith) ∙ ap (λ (z : ℕ). entry ps i ∷ drop z ps) e in
-      let cost : r .cost ≡ leastCost (costsOf k0 k1 k2 k3 (entry ps i)) = least .least ∙ ap leastCost is' in
+module _ {layouts k0 k1 k2 k3 lows costs : List ℕ} {i : ℕ} (old : LeastPlaces layouts k0 k1 k2 k3 lows costs i) where
+  pub least-more : {r : Coset} → i < length layouts → LeastCoset (entry layouts i) (costsOf costs k1 k2 k3 i) r → LeastPlaces layouts k0 k1 k2 k3 (set lows i (r .low)) (set costs i (r .cost)) (i + 1)
+  least-more {r} h c =
       record {
-        low = λ j h l. by (ltb i j) j put' is' refl h l;
-        total = (λ z. old .total z + cost z) ∙ ap (leastTotal k0 k1 k2 k3) (sym cut);
-        small = omega (arith, old .small, cost, lists .small (entry ps i) b .small0);
+        least = below-more has i (λ j l. let n : j ≡ i → ⊥ = λ e. omega (arith, e) in rw (getD-set-other lows i j (r .low) 0 n, getD-set-other costs i j (r .cost) 0 n) (old .least j l))
+            (rw (getD-set-same lows i (r .low) 0 (omega (arith, old .lowsLength)), getD-set-same costs i (r .cost) 0 (omega (arith, old .costsLength)), ← (old .kept i (omega arith))) c);
+        kept = λ j l. getD-set-other costs i j (r .cost) 0 (λ e. omega (arith, e)) ∙ old .kept j (omega arith);
+        lowsLength = length-set lows i (r .low) ∙ old .lowsLength;
+        costsLength = length-set costs i (r .cost) ∙ old .costsLength;
       }
     where
-      by : (t : Bool) (j : ℕ) → after ≡ set labels (entry ps (k - 1)) (r .low) → c ≡ costsOf k0 k1 k2 k3 (entry ps (k - 1)) → ltb (k - 1) j ≡ t → k - 1 ≤ j → j < length ps
-          → LeastLow (costsOf k0 k1 k2 k3 (entry ps j)) (entry after (entry ps j))
-      by true j put' is' t h l =
-          let q = ltb-true (k - 1) j t in
-          let d = rising .rises (k - 1) j q l in
-          rw (put', getD-set-other labels (entry ps (k - 1)) (entry ps j) (r .low) 0 (λ z. omega (arith, d, z))) (old .low j (omega arith) l)
-      by false j put' is' t h l =
-          let z : k - 1 ≡ j = omega (arith, ltb-false (k - 1) j t) in
-          let here : LeastLow (costsOf k0 k1 k2 k3 (entry ps (k - 1))) (entry after (entry ps (k - 1))) =
-          rw (put', getD-set-same labels (entry ps (k - 1)) (r .low) 0 (omega (arith, same, rising .below (k - 1) (omega arith))))
-          (subst (λ (x : Costs). LeastLow x (r .low)) is' (record { small = least .small; is = sym (least .is) ∙ least .least; bit = least .bit })) in
-          subst (λ (y : ℕ). LeastLow (costsOf k0 k1 k2 k3 (entry ps y)) (entry after (entry ps y))) z here
+      has : ℕ → Type 0
+      has j = LeastAt layouts k0 k1 k2 k3 (set lows i (r .low)) (set costs i (r .cost)) j
 
-pub lows-all : {ps k0 k1 k2 k3 labels : List ℕ} {k n : ℕ} → k ≡ 0 → LowsFrom ps k0 k1 k2 k3 labels k n → LeastLows ps k0 k1 k2 k3 labels n
-lows-all {ps} {k0} {k1} {k2} {k3} {labels} {k} {n} e l =
-    let z : LowsFrom ps k0 k1 k2 k3 labels 0 n = rw e at l in
-    record { low = λ i h. z .low i (omega arith) h; total = z .total }
+pub total-more : (costs ps : List ℕ) (k n p c : ℕ) → k < length ps → p ≡ entry ps k → c ≡ entry costs p → n + totalAt costs (drop k ps) ≡ totalAt costs ps → n + c + totalAt costs (drop (k + 1) ps) ≡ totalAt costs ps
+total-more costs ps k n p c h at is old =
+    let cut : totalAt costs (drop k ps) ≡ entry costs (entry ps k) + totalAt costs (drop (k + 1) ps) = ap (totalAt costs) (drop-cons ps k 0 h) ∙ ap (λ (z : ℕ). entry costs (entry ps k) + totalAt costs (drop z ps)) (sym (add-one k)) in
+    let e : c ≡ entry costs (entry ps k) = is ∙ ap (entry costs) at in
+    omega (arith, cut, e, old)
+
+pub total-all : (costs ps : List ℕ) (k n : ℕ) → length ps ≤ k → n + totalAt costs (drop k ps) ≡ totalAt costs ps → n ≡ totalAt costs ps
+total-all costs ps k n h old =
+    let e : totalAt costs (drop k ps) ≡ 0 = ap (totalAt costs) (drop-of-length-le ps {i = k} h) in
+    omega (arith, e, old)

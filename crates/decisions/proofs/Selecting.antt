@@ -72,7 +72,7 @@ module _ {from : ℕ} {ps k0 k1 k2 k3 : List ℕ} (ms : List Meter) (d : MeterCo
         })
 
   -- numbers stay small
-  pub metrics-small : {j : ℕ} {σ m : List ℕ} → j ≤ n → n ≤ 2048 → Selected (drop (2 * j - loneIn ps) ms) j σ m → Below (2 ^ 60) m
+  pub metrics-small : {j : ℕ} {σ m : List ℕ} → j ≤ n → n ≤ 2048 → Selected (drop (2 * j - loneIn ps) ms) j σ m → Below (2 ^ 59) m
   metrics-small {j} h l s i =
       let c : length (s .branches) ≤ 2048 = omega (arith, s .count, length-drop (2 * j - loneIn ps) ms, d .count) in
       omega (arith, s .surviving .small i, c)

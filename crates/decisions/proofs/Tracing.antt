@@ -1,4 +1,4 @@
--- The trace back: the two lowest bits of each entry's label, by the survivors from the zero state.
+-- Following the survivors: the two lowest bits of each entry's label, by the survivors from the zero state.
 use Prim.Native.Nat.{ℕ, suc, _+_, _-_, _/_, _%_, _≤_, _<_}
 use mathlib.Core.Bool.{Bool, true, false}
 use mathlib.Core.List.{List}
@@ -10,13 +10,16 @@ use lib.Dec.{ltb}
 use lib.ListN.{length, set, length-set}
 use lib.Seq.{getD-set-same, getD-set-other}
 use Rattle.frame.specs.Labels.{Rising}
+use Rattle.g9932.proofs.Words.{weight-le}
+use Rattle.g9932.specs.Bits.{odd}
 use Rattle.g9932.specs.Sizes.{entry}
-use Rattle.g9932.specs.Trellis.{zeroState}
 use Rattle.g9932.specs.declared.LowBits.{LowBits}
 use Rattle.g9932.specs.declared.TrellisState.{TrellisState}
 use Rattle.paths.specs.Paths.{after, lowBy}
-use Rattle.paths.specs.Survivors.{survivor, stateAt, lowAt}
-use Rattle.decisions.specs.Deciding.{loneIn, upperAt, lowerAt, lowNumber, LowTraced}
+use Rattle.paths.specs.Survivors.{survivor, Followed, stateAt, lowAt}
+use Rattle.trellis.specs.Steps.{stateAt as stateOf}
+use Rattle.trellis.specs.declared.pairs.NumberStep.{NumberStep}
+use Rattle.decisions.specs.Deciding.{loneIn, upperAt, lowerAt, lowNumber, StateBefore, LowTraced}
 
 -- ---- one entry more
 
@@ -53,77 +56,72 @@ odd-low σ t j e f = (rw (e, f) refl, rw (e, f) refl)
 
 -- ---- pair by pair
 
-abbrev after-pair : List ℕ → TrellisState → ℕ → TrellisState
-after-pair σ s j = after s (survivor σ j s)
+pub zero-before : (σ : List ℕ) → StateBefore σ 0 0
+unfolding stateOf stateAt odd
+zero-before σ = record { small = omega arith; is = refl }
 
-abbrev low-pair : List ℕ → TrellisState → ℕ → LowBits
-low-pair σ s j = lowBy s (survivor σ j s)
+pub lows-small : {σ : List ℕ} {j : ℕ} {s : TrellisState} {r : NumberStep} → Followed σ j s r → (r .v < 4) × (r .w < 4)
+lows-small {σ} {j} {s} {r} f =
+    let l : LowBits = lowBy s (survivor σ j s) in
+    (omega (arith, f .vIs, weight-le (l .v0), weight-le (l .v1)), omega (arith, f .wIs, weight-le (l .w0), weight-le (l .w1)))
 
-pub state-none : (σ : List ℕ) → zeroState ≡ stateAt σ 0
-unfolding stateAt
-state-none σ = refl
+module _ {σ : List ℕ} {j s : ℕ} {r : NumberStep} (b : StateBefore σ j s) (f : Followed σ j (stateOf s) r) where
+  pub next-before : StateBefore σ (suc j) (r .next .0)
+  unfolding stateAt
+  next-before = record { small = f .nextSmall; is = f .nextIs ∙ ap (λ (z : TrellisState). after z (survivor σ j z)) (b .is) }
 
-pub state-first : (σ : List ℕ) {s : TrellisState} → s ≡ zeroState → after-pair σ s 0 ≡ stateAt σ 1
-unfolding stateAt
-state-first σ e = ap (λ (z : TrellisState). after-pair σ z 0) e
+  v-low : r .v ≡ lowNumber (lowAt σ j .v1) (lowAt σ j .v0)
+  v-low = f .vIs ∙ ap (λ (z : TrellisState). let l = lowBy z (survivor σ j z) in lowNumber (l .v1) (l .v0)) (b .is)
 
-pub low-first : (σ : List ℕ) {s : TrellisState} → s ≡ zeroState → low-pair σ s 0 ≡ lowAt σ 0
-unfolding stateAt
-low-first σ e = ap (λ (z : TrellisState). low-pair σ z 0) e
+  pub w-low : r .w ≡ lowNumber (lowAt σ j .w1) (lowAt σ j .w0)
+  w-low = f .wIs ∙ ap (λ (z : TrellisState). let l = lowBy z (survivor σ j z) in lowNumber (l .w1) (l .w0)) (b .is)
 
--- the entries before k, and the state before the pair that begins there
-pub record Tracing (ps : List ℕ) (n : ℕ) (σ labels : List ℕ) (s : TrellisState) (k : ℕ) : Type 0 where
+-- the entries before k, and the number of the state before the pair that begins there
+pub record Tracing (ps : List ℕ) (n : ℕ) (σ labels : List ℕ) (s k : ℕ) : Type 0 where
   pub parity : k % 2 ≡ loneIn ps
   pub inside : k ≤ length ps
-  pub state : s ≡ stateAt σ ((k + loneIn ps) / 2)
+  pub state : StateBefore σ ((k + loneIn ps) / 2) s
   pub traced : LowTraced ps σ labels k
   pub labelsLength : length labels ≡ n
 
 module _ {ps σ : List ℕ} (labels : List ℕ) (rising : Rising ps (length labels)) (many : 1 ≤ length ps) where
   -- a first pair with x = 0
-  pub traced-first : {low : LowBits} {p l : ℕ} {after : List ℕ} → loneIn ps ≡ 1 → low ≡ lowAt σ 0 → after ≡ set labels p l → p ≡ entry ps 0 → l ≡ lowNumber (low .w1) (low .w0)
-      → LowTraced ps σ after (loneIn ps)
-  traced-first {low} {p} {l} {after} e is put at n =
+  pub traced-first : {p l : ℕ} {after : List ℕ} → loneIn ps ≡ 1 → after ≡ set labels p l → p ≡ entry ps 0 → l ≡ lowNumber (lowAt σ 0 .w1) (lowAt σ 0 .w0) → LowTraced ps σ after (loneIn ps)
+  traced-first {p} {l} {after} e put at n =
       let o = odd-low σ (loneIn ps + 0) 0 (omega (arith, e)) (omega (arith, e)) in
-      let f : l ≡ lowNumber (upperAt σ (loneIn ps + 0)) (lowerAt σ (loneIn ps + 0)) =
-      n ∙ ap (λ (z : LowBits). lowNumber (z .w1) (z .w0)) is ∙ (λ i. lowNumber (sym (o .0) i) (sym (o .1) i)) in
+      let f : l ≡ lowNumber (upperAt σ (loneIn ps + 0)) (lowerAt σ (loneIn ps + 0)) = n ∙ (λ i. lowNumber (sym (o .0) i) (sym (o .1) i)) in
       subst (LowTraced ps σ after) (sym e) (traced-more {labels = labels} rising many traced-none (put ∙ ap (λ (z : ℕ). set labels z l) at) f)
 
-  pub tracing-start : {s : TrellisState} → s ≡ stateAt σ (loneIn ps) → LowTraced ps σ labels (loneIn ps) → Tracing ps (length labels) σ labels s (loneIn ps)
-  tracing-start e t =
+  pub tracing-start : {s : ℕ} → StateBefore σ (loneIn ps) s → LowTraced ps σ labels (loneIn ps) → Tracing ps (length labels) σ labels s (loneIn ps)
+  tracing-start {s} b t =
       let h : (loneIn ps + loneIn ps) / 2 ≡ loneIn ps = omega arith in
-      record { parity = omega arith; inside = omega arith; state = e ∙ ap (stateAt σ) (sym h); traced = t; labelsLength = refl }
+      record { parity = omega arith; inside = omega arith; state = subst (λ (j : ℕ). StateBefore σ j s) (sym h) b; traced = t; labelsLength = refl }
 
-module _ {ps σ labels : List ℕ} {n : ℕ} {s : TrellisState} {k : ℕ} (rising : Rising ps n) (t : Tracing ps n σ labels s k) (h : k < length ps) where
+module _ {ps σ labels : List ℕ} {n s k : ℕ} (rising : Rising ps n) (t : Tracing ps n σ labels s k) (h : k < length ps) where
   -- both of its entries are there
   pub second-inside : k + 1 < length ps
   second-inside = omega (arith, t .parity)
 
-  pub tracing-more : {next : TrellisState} {low : LowBits} {mid after : List ℕ} {p q x y : ℕ} → next ≡ after-pair σ s ((k + loneIn ps) / 2) → low ≡ low-pair σ s ((k + loneIn ps) / 2)
-      → mid ≡ set labels p x → p ≡ entry ps k → x ≡ lowNumber (low .v1) (low .v0) → after ≡ set mid q y → q ≡ entry ps (k + 1) → y ≡ lowNumber (low .w1) (low .w0)
-      → Tracing ps n σ after next (k + 2)
-  unfolding stateAt
-  tracing-more {next} {low} {mid} {after} {p} {q} {x} {y} en el pm pp px qm qq qy =
+  pub tracing-more : {r : NumberStep} {mid after : List ℕ} {p q : ℕ} → Followed σ ((k + loneIn ps) / 2) (stateOf s) r
+      → mid ≡ set labels p (r .v) → p ≡ entry ps k → after ≡ set mid q (r .w) → q ≡ entry ps (k + 1) → Tracing ps n σ after (r .next .0) (k + 2)
+  tracing-more {r} {mid} {after} {p} {q} d pm pp qm qq =
       let j : ℕ = (k + loneIn ps) / 2 in
-      let l : low ≡ lowAt σ j = el ∙ ap (λ (z : TrellisState). low-pair σ z j) (t .state) in
       let a = even-low σ (loneIn ps + k) j (omega (arith, t .parity)) (omega arith) in
       let b = odd-low σ (loneIn ps + (k + 1)) j (omega (arith, t .parity)) (omega (arith, t .parity)) in
-      let ex : x ≡ lowNumber (upperAt σ (loneIn ps + k)) (lowerAt σ (loneIn ps + k)) =
-      px ∙ ap (λ (z : LowBits). lowNumber (z .v1) (z .v0)) l ∙ (λ i. lowNumber (sym (a .0) i) (sym (a .1) i)) in
-      let ey : y ≡ lowNumber (upperAt σ (loneIn ps + (k + 1))) (lowerAt σ (loneIn ps + (k + 1))) =
-      qy ∙ ap (λ (z : LowBits). lowNumber (z .w1) (z .w0)) l ∙ (λ i. lowNumber (sym (b .0) i) (sym (b .1) i)) in
+      let ev : r .v ≡ lowNumber (upperAt σ (loneIn ps + k)) (lowerAt σ (loneIn ps + k)) = v-low (t .state) d ∙ (λ i. lowNumber (sym (a .0) i) (sym (a .1) i)) in
+      let ew : r .w ≡ lowNumber (upperAt σ (loneIn ps + (k + 1))) (lowerAt σ (loneIn ps + (k + 1))) = w-low (t .state) d ∙ (λ i. lowNumber (sym (b .0) i) (sym (b .1) i)) in
       let r1 : Rising ps (length labels) = subst (Rising ps) (sym (t .labelsLength)) rising in
-      let nm : length mid ≡ n = ap length pm ∙ length-set labels p x ∙ t .labelsLength in
+      let nm : length mid ≡ n = ap length pm ∙ length-set labels p (r .v) ∙ t .labelsLength in
       let r2 : Rising ps (length mid) = subst (Rising ps) (sym nm) rising in
-      let t1 = traced-more r1 h (t .traced) (pm ∙ ap (λ (z : ℕ). set labels z x) pp) ex in
+      let t1 = traced-more r1 h (t .traced) (pm ∙ ap (λ (z : ℕ). set labels z (r .v)) pp) ev in
       let t1' = subst (LowTraced ps σ mid) (sym (add-one k)) t1 in
-      let t2 = traced-more r2 second-inside t1' (qm ∙ ap (λ (z : ℕ). set mid z y) qq) ey in
+      let t2 = traced-more r2 second-inside t1' (qm ∙ ap (λ (z : ℕ). set mid z (r .w)) qq) ew in
       let e : suc (k + 1) ≡ k + 2 = omega arith in
-      let f : (k + 2 + loneIn ps) / 2 ≡ suc j = omega arith in
+      let f : suc j ≡ (k + 2 + loneIn ps) / 2 = omega arith in
       record {
         parity = omega (arith, t .parity);
         inside = omega (arith, second-inside);
-        state = en ∙ ap (λ (z : TrellisState). after-pair σ z j) (t .state) ∙ ap (stateAt σ) (sym f);
+        state = subst (λ (i : ℕ). StateBefore σ i (r .next .0)) f (next-before (t .state) d);
         traced = subst (LowTraced ps σ after) e t2;
-        labelsLength = ap length qm ∙ length-set mid q y ∙ nm;
+        labelsLength = ap length qm ∙ length-set mid q (r .w) ∙ nm;
       }

@@ -1,5 +1,5 @@
--- What the labels of each place and of each entry cost, and labels decided by it: coded along the survivors of the trellis, uncoded tone by
--- tone.
+-- What the labels of each place and of each entry cost, and labels decided by it: coded along the survivors of the trellis, uncoded place
+-- by place.
 use Prim.Native.Nat.{ℕ, zero, suc, _+_, _*_, _/_, _%_, _^_, _≤_, _<_}
 use mathlib.Core.Bool.{Bool, true, false}
 use mathlib.Core.List.{List, [], _∷_, _++_}
@@ -10,7 +10,7 @@ use lib.ListN.{length, getD}
 use Rattle.constellation.specs.Layouts.{layoutOf, ToneLayout}
 use Rattle.constellation.specs.Reading.{FoundLabelIs}
 use Rattle.constellation.specs.declared.FoundLabel.{FoundLabel}
-use Rattle.cosets.specs.Meters.{Meter, toneMeter, costOf, LeastOf, CosetLabel, BestLabel, LabelOf, sharedCosts, leastCost}
+use Rattle.cosets.specs.Meters.{Meter, toneMeter, costOf, LeastOf, CosetLabel, BestLabel, LabelOf, sharedCosts, LeastCoset}
 use Rattle.cosets.specs.Nearest.{InRange, OneCostsOf, SmallCosts}
 use Rattle.cosets.specs.declared.Costs.{Costs}
 use Rattle.frame.specs.Labels.{Rising}
@@ -23,7 +23,8 @@ use Rattle.g9932.specs.declared.LowBits.{LowBits}
 use Rattle.mapper.specs.Reading.{pointAt}
 use Rattle.paths.specs.Frames.{PairMeter, Matches}
 use Rattle.paths.specs.Paths.{Branch, Shortest}
-use Rattle.paths.specs.Survivors.{follow, lowAt, Surviving}
+use Rattle.paths.specs.Survivors.{follow, stateAt, lowAt, Surviving}
+use Rattle.trellis.specs.Steps.{stateAt as stateOf}
 use Rattle.decisions.specs.Entries.{meterAt}
 
 -- ---- by place: four lists, one for each coset
@@ -47,11 +48,10 @@ pub record CostNeeds (layouts : List ℕ) (xs ys : List ℤ) (k0 k1 k2 k3 : List
   pub length2 : length k2 ≡ length xs
   pub length3 : length k3 ≡ length xs
 
--- what a tone that was received at p costs, whatever its bits; of 1 bit each cost stands twice
+-- what a tone that was received at p costs, whatever its bits
 pub record PlaceCosts (layout : ℕ) (p : Point) (r : Costs) : Type 0 where
   pub tone : (b : ℕ) → 2 ≤ b → b ≤ 15 → layout ≡ layoutOf b → LeastOf (toneMeter b p) (costOf r)
   pub one : layout ≡ layoutOf 1 → OneCostsOf p r
-  pub again : layout ≡ layoutOf 1 → (r .c2 ≡ r .c0) × (r .c3 ≡ r .c1)
   pub small : SmallCosts r
 
 -- of the first n places
@@ -134,7 +134,7 @@ pub record LeastPath (ms : List PairMeter) (σ : List ℕ) (n : ℕ) : Type 0 wh
   pub shortest : Shortest zeroState branches (follow σ (length branches) 0 zeroState) n
   pub matches : Matches ms branches
 
--- ---- the trace back
+-- ---- following the survivors
 
 -- the lowest bits of a pair's first or second label
 abbrev pub upperBy : ℕ → LowBits → Bool
@@ -161,6 +161,11 @@ pub record TraceNeeds (ps σ labels : List ℕ) : Type 0 where
   pub enough : 4 ≤ length ps
   pub many : length ps ≤ mostTones
   pub sixteens : length σ ≡ 16 * ((length ps + 1) / 2)
+
+-- n is the number of the state before pair j
+pub record StateBefore (σ : List ℕ) (j n : ℕ) : Type 0 where
+  pub small : n < 16
+  pub is : stateOf n ≡ stateAt σ j
 
 -- the first n entries have the lowest bits that the survivors give, at their places
 pub record LowTraced (ps σ labels : List ℕ) (n : ℕ) : Type 0 where
@@ -218,28 +223,45 @@ pub record PlaceLabels (layouts : List ℕ) (q : List Point) (lows labels : List
   pub labelled : (i : ℕ) → i < n → PlaceLabel (entry layouts i) (getD q i origin) (entry lows i % 4) (entry labels i)
   pub labelsLength : length labels ≡ length lows
 
--- ---- uncoded: the nearest coset of each tone
+-- ---- uncoded: the nearest coset of each place
 
-pub record ToneNeeds (ps k0 k1 k2 k3 labels : List ℕ) : Type 0 where
-  pub lists : CostLists k0 k1 k2 k3
-  pub rising : Rising ps (length k0)
+pub record LeastNeeds (layouts k0 k1 k2 k3 labels : List ℕ) : Type 0 where
+  pub length0 : length k0 ≡ length layouts
+  pub length1 : length k1 ≡ length layouts
+  pub length2 : length k2 ≡ length layouts
+  pub length3 : length k3 ≡ length layouts
+  pub labelsLength : length labels ≡ length layouts
+
+-- the nearest coset of a place, by its lowest bits and its cost
+abbrev pub LeastAt : List ℕ → List ℕ → List ℕ → List ℕ → List ℕ → List ℕ → List ℕ → ℕ → Type 0
+LeastAt layouts k0 k1 k2 k3 lows costs i = LeastCoset (entry layouts i) (costsOf k0 k1 k2 k3 i) (record { low = entry lows i; cost = entry costs i })
+
+-- of the first n places; the others have the first coset's cost
+pub record LeastPlaces (layouts k0 k1 k2 k3 lows costs : List ℕ) (n : ℕ) : Type 0 where
+  pub least : (i : ℕ) → i < n → LeastAt layouts k0 k1 k2 k3 lows costs i
+  pub kept : (i : ℕ) → n ≤ i → entry costs i ≡ entry k0 i
+  pub lowsLength : length lows ≡ length layouts
+  pub costsLength : length costs ≡ length layouts
+
+-- entries at places below n
+pub record PlacesBelow (ps : List ℕ) (n : ℕ) : Type 0 where
+  pub below : (k : ℕ) → k < length ps → entry ps k < n
   pub many : length ps ≤ mostTones
-  pub labelsLength : length labels ≡ length k0
 
--- the least cost of each place, added up
-abbrev pub leastTotal : List ℕ → List ℕ → List ℕ → List ℕ → List ℕ → ℕ
-leastTotal k0 k1 k2 k3 [] = 0
-leastTotal k0 k1 k2 k3 (p ∷ ps) = leastTotal k0 k1 k2 k3 ps + leastCost (costsOf k0 k1 k2 k3 p)
+-- the costs at the entries' places, added up
+abbrev pub totalAt : List ℕ → List ℕ → ℕ
+totalAt costs [] = 0
+totalAt costs (p ∷ ps) = entry costs p + totalAt costs ps
 
--- the coset at a place is the one of the least cost; where the costs stand twice, one of the first two
-pub record LeastLow (r : Costs) (low : ℕ) : Type 0 where
-  pub small : low < 4
-  pub is : costOf r low ≡ leastCost r
-  pub bit : r .c2 ≡ r .c0 → r .c3 ≡ r .c1 → low < 2
+pub record ToneNeeds (layouts ps k0 k1 k2 k3 labels : List ℕ) : Type 0 where
+  pub places : LeastNeeds layouts k0 k1 k2 k3 labels
+  pub entries : PlacesBelow ps (length layouts)
 
-pub record LeastLows (ps k0 k1 k2 k3 labels : List ℕ) (n : ℕ) : Type 0 where
-  pub low : (k : ℕ) → k < length ps → LeastLow (costsOf k0 k1 k2 k3 (entry ps k)) (entry labels (entry ps k))
-  pub total : n ≡ leastTotal k0 k1 k2 k3 ps
+-- the lowest bits of the nearest cosets, and what those of the entries cost
+pub record LeastLows (layouts ps k0 k1 k2 k3 lows : List ℕ) (n : ℕ) : Type 0 where
+  pub costs : List ℕ
+  pub least : (i : ℕ) → i < length layouts → LeastAt layouts k0 k1 k2 k3 lows costs i
+  pub total : n ≡ totalAt costs ps
 
 -- nearest labels one after the other, as bits, and their cost
 pub data BestAll : List Meter → List Bool → ℕ → Type 0 where

@@ -6,17 +6,16 @@ ghost use mathlib.Core.Path.{_≡_};
 ghost use Prim.Native.Nat.{_<_};
 ghost use lib.ListN.{length, drop};
 ghost use Rattle.cosets.specs.Meters.{Meter};
-ghost use Rattle.g9932.specs.Sizes.{points};
-ghost use Rattle.decisions.specs.Deciding.{costsOf, CostNeeds, Costed, entryCosts, EntryNeeds, CostLists, loneIn, pairMeters, MeterCosts, PathNeeds, Selected, LeastPath, TraceNeeds, LowTraced, PointNeeds, PlacePoints, PutNeeds, PutsLabels, LabelNeeds, PlaceLabels, ToneNeeds, LeastLows, lowNumber};
-ghost use Rattle.paths.specs.Survivors.{stateAt};
+ghost use Rattle.g9932.specs.Sizes.{entry, points};
+ghost use Rattle.decisions.specs.Deciding.{costsOf, CostNeeds, Costed, entryCosts, EntryNeeds, CostLists, loneIn, pairMeters, MeterCosts, PathNeeds, Selected, LeastPath, TraceNeeds, StateBefore, LowTraced, PointNeeds, PlacePoints, PutNeeds, PutsLabels, LabelNeeds, PlaceLabels, LeastNeeds, LeastPlaces, PlacesBelow, totalAt, ToneNeeds, LeastLows};
+ghost use Rattle.trellis.specs.Steps.{stepList};
 use cosets::Costs;
 use frame::by_place::place_at;
 use frame::by_place::put_label;
 use g9932::MOST_TONES;
 use g9932::Place;
-use g9932::TrellisState;
-use trellis::weight;
-use trellis::zero_state;
+use trellis::StateNumber;
+use trellis::step_table;
 
 // What the labels of every place cost, by coset.
 pub fn cost_places(
@@ -131,67 +130,116 @@ pub fn least_path(
     metric[0] / 8
 }
 
-// The two lowest bits of a label, as a number.
-fn low_number(v1: bool, v0: bool) -> u16
-    ensures { λ r. ⌜ r ≡ lowNumber v1 v0 ⌝ }
-{
-    (weight(v0) + 2 * weight(v1)) as u16
-}
-
-// The trace back of a first pair with x = 0, if there is one: it has no v. The state before the pairs with x at least 2.
-fn trace_first(places: &[u16], survivors: &[u8], labels: &mut [u16]) -> TrellisState
-    requires { ⌜ TraceNeeds (now places) (now survivors) (now labels) ⌝ }
-    ensures { λ r. ⌜ (r ≡ stateAt (now (survivors .entry)) (loneIn (now (places .entry)))) × LowTraced (now (places .entry)) (now (survivors .entry)) (now (labels .exit)) (loneIn (now (places .entry))) ⌝ }
+// Following the survivors, a first pair with x = 0, if there is one: it has no v. The state before the pairs with x at least 2.
+fn trace_first(
+    steps: &[u8; 128],
+    places: &[u16],
+    survivors: &[u8],
+    labels: &mut [u16],
+) -> StateNumber
+    requires { ⌜ (now steps ≡ stepList) × TraceNeeds (now places) (now survivors) (now labels) ⌝ }
+    ensures { λ r. ⌜ StateBefore (now (survivors .entry)) (loneIn (now (places .entry))) (r .0) × LowTraced (now (places .entry)) (now (survivors .entry)) (now (labels .exit)) (loneIn (now (places .entry))) ⌝ }
 {
     if places.len() % 2 == 0 {
-        return zero_state();
+        return StateNumber(0);
     }
-    let t = paths::follow_pair(survivors, 0, zero_state());
-    let low = t.low;
-    put_label(labels, place_at(places, 0), low_number(low.w1, low.w0));
+    let t = paths::follow_pair(steps, survivors, 0, StateNumber(0));
+    put_label(labels, place_at(places, 0), t.w as u16);
     t.next
 }
 
-// The trace back: the two lowest bits of each entry's label that the survivors give from the zero state, at its place.
-pub fn trace_low(places: &[u16], survivors: &[u8], labels: &mut [u16])
-    requires { ⌜ TraceNeeds (now places) (now survivors) (now labels) ⌝ }
+// Following the survivors, all pairs, by the lent table of steps.
+fn trace_by(steps: &[u8; 128], places: &[u16], survivors: &[u8], labels: &mut [u16])
+    requires { ⌜ (now steps ≡ stepList) × TraceNeeds (now places) (now survivors) (now labels) ⌝ }
     ensures { λ _. ⌜ LowTraced (now (places .entry)) (now (survivors .entry)) (now (labels .exit)) (length (now (places .entry))) ⌝ }
 {
-    let mut state = trace_first(places, survivors, labels);
+    let mut state = trace_first(steps, places, survivors, labels);
     let lone = places.len() % 2;
     let mut k = lone;
     while k < places.len() {
-        let t = paths::follow_pair(survivors, (k + lone) / 2, state);
-        let low = t.low;
-        put_label(labels, place_at(places, k), low_number(low.v1, low.v0));
-        put_label(labels, place_at(places, k + 1), low_number(low.w1, low.w0));
+        let t = paths::follow_pair(steps, survivors, (k + lone) / 2, state);
+        put_label(labels, place_at(places, k), t.v as u16);
+        put_label(labels, place_at(places, k + 1), t.w as u16);
         state = t.next;
         k += 2;
     }
 }
 
-// The two lowest bits of each entry's nearest label where any are free, at its place, and the total of the costs.
+// Following the survivors: the two lowest bits of each entry's label that they give from the zero state, at its place.
+pub fn trace_low(places: &[u16], survivors: &[u8], labels: &mut [u16])
+    requires { ⌜ TraceNeeds (now places) (now survivors) (now labels) ⌝ }
+    ensures { λ _. ⌜ LowTraced (now (places .entry)) (now (survivors .entry)) (now (labels .exit)) (length (now (places .entry))) ⌝ }
+{
+    let steps = step_table();
+    trace_by(&steps, places, survivors, labels);
+}
+
+// The two lowest bits of every place's nearest label, where any are free, and in `k0` what it costs.
+fn least_places(
+    layouts: &[u16],
+    k0: &mut [u32],
+    k1: &[u32],
+    k2: &[u32],
+    k3: &[u32],
+    labels: &mut [u16],
+)
+    requires { ⌜ LeastNeeds (now layouts) (now k0) (now k1) (now k2) (now k3) (now labels) ⌝ }
+    ensures { λ _. ⌜ LeastPlaces (now (layouts .entry)) (now (k0 .entry)) (now (k1 .entry)) (now (k2 .entry)) (now (k3 .entry)) (now (labels .exit)) (now (k0 .exit)) (length (now (layouts .entry))) ⌝ }
+{
+    let mut i = 0;
+    while i < layouts.len() {
+        let costs = Costs {
+            c0: k0[i],
+            c1: k1[i],
+            c2: k2[i],
+            c3: k3[i],
+        };
+        let c = cosets::least_coset(layouts[i], costs);
+        labels[i] = c.low;
+        k0[i] = c.cost;
+        i += 1;
+    }
+}
+
+// The cost at a place.
+fn cost_at(costs: &[u32], p: Place) -> u32
+    requires { ⌜ p .0 < length (now costs) ⌝ }
+    ensures { λ r. ⌜ r ≡ entry (now (costs .entry)) (p .0) ⌝ }
+{
+    let at = p.0;
+    costs[at]
+}
+
+// The total of the costs at the entries' places.
+fn total_at(places: &[u16], costs: &[u32]) -> u64
+    requires { ⌜ PlacesBelow (now places) (length (now costs)) ⌝ }
+    ensures { λ r. ⌜ r ≡ totalAt (now (costs .entry)) (now (places .entry)) ⌝ }
+{
+    let mut total: u64 = 0;
+    let mut k = 0;
+    while k < places.len() {
+        total += cost_at(costs, place_at(places, k)) as u64;
+        k += 1;
+    }
+    total
+}
+
+// The two lowest bits of every place's nearest label, where any are free, and the total of what those of the entries cost. `k0` does not
+// keep its costs.
 pub fn least_low(
+    layouts: &[u16],
     places: &[u16],
-    k0: &[u32],
+    k0: &mut [u32],
     k1: &[u32],
     k2: &[u32],
     k3: &[u32],
     labels: &mut [u16],
 ) -> u64
-    requires { ⌜ ToneNeeds (now places) (now k0) (now k1) (now k2) (now k3) (now labels) ⌝ }
-    ensures { λ r. ⌜ LeastLows (now (places .entry)) (now (k0 .entry)) (now (k1 .entry)) (now (k2 .entry)) (now (k3 .entry)) (now (labels .exit)) r ⌝ }
+    requires { ⌜ ToneNeeds (now layouts) (now places) (now k0) (now k1) (now k2) (now k3) (now labels) ⌝ }
+    ensures { λ r. ⌜ LeastLows (now (layouts .entry)) (now (places .entry)) (now (k0 .entry)) (now (k1 .entry)) (now (k2 .entry)) (now (k3 .entry)) (now (labels .exit)) r ⌝ }
 {
-    let mut total: u64 = 0;
-    let mut k = places.len();
-    while k > 0 {
-        k -= 1;
-        let p = place_at(places, k);
-        let c = cosets::least_coset(costs_at(k0, k1, k2, k3, p));
-        put_label(labels, p, c.low);
-        total += c.cost as u64;
-    }
-    total
+    least_places(layouts, k0, k1, k2, k3, labels);
+    total_at(places, k0)
 }
 
 // The nearest points with the two lowest label bits that stand at the places.
@@ -230,7 +278,7 @@ fn put_labels(layouts: &[u16], found: &[u16], labels: &mut [u16])
 }
 
 // The nearest labels with the two lowest bits that stand at the places. The points go through the loop of exact reading, so that the
-// compiler has the steps from a point to its label in one place.
+// compiler has the steps from a point to its label in one place; its answer, whether all are on their grids, is not needed.
 fn label_points(
     layouts: &[u16],
     xs: &[i16],

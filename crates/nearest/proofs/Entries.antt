@@ -1,5 +1,5 @@
 -- From the costs and labels of the places to those of the entries.
-use Prim.Native.Nat.{ℕ, suc, _+_, _-_, _/_, _%_, _^_, _≤_, _<_}
+use Prim.Native.Nat.{ℕ, suc, _+_, _/_, _%_, _^_, _≤_, _<_}
 use mathlib.Core.Bool.{Bool, true, false}
 use mathlib.Core.List.{List, [], _∷_}
 use mathlib.Core.Path.{_≡_, refl, sym, ap, _∙_}
@@ -11,13 +11,14 @@ use lib.IntN.{ℤ}
 use Rattle.constellation.specs.Layouts.{layoutOf}
 use lib.ListN.{length, getD}
 use Rattle.cosets.proofs.Labels.{shared-least, shared-label, best-label, best-one}
-use Rattle.cosets.specs.Meters.{toneMeter, costOf, LeastOf, BestLabel, leastCost, LeastCoset}
+use Rattle.cosets.proofs.Shapes.{not-one}
+use Rattle.cosets.specs.Meters.{toneMeter, costOf, LeastOf, BestLabel}
 use Rattle.frame.proofs.Labels.{at-get}
 use Rattle.frame.specs.Labels.{bitsOfLabels, Within, labelsAt}
 use Rattle.g9932.specs.Bits.{weight, odd, bits}
 use Rattle.g9932.specs.Sizes.{entry, Point, origin}
 use Rattle.decisions.specs.Entries.{meterBy, metersIn, Decidable}
-use Rattle.decisions.specs.Deciding.{costsOf, Costed, costBy, CostLists, EntryNeeds, loneIn, MeterCosts, upperAt, lowerAt, lowNumber, LowTraced, CosetNumber, Traced, PlaceLabels, LeastLow, LeastLows, leastTotal, BestAll, none, more}
+use Rattle.decisions.specs.Deciding.{Costed, costBy, CostLists, EntryNeeds, loneIn, MeterCosts, upperAt, lowerAt, lowNumber, LowTraced, CosetNumber, Traced, PlaceLabels, LeastAt, LeastLows, totalAt, BestAll, none, more}
 use Rattle.nearest.specs.Planned.{LaidOut}
 use Rattle.decisions.proofs.PathLabels.{meters-length, meters-get}
 
@@ -55,7 +56,7 @@ module _ {least from : ℕ} {es ps layouts k0 k1 k2 k3 : List ℕ} {xs ys : List
   inside : (k : ℕ) → k < length es → entry ps k < length xs
   inside k h = d .rising .below k (omega (arith, d .placesLength))
 
-  pub cost-lists : CostLists k0 k1 k2 k3
+  cost-lists : CostLists k0 k1 k2 k3
   cost-lists =
       record {
         length1 = c .length1 ∙ sym (c .length0);
@@ -123,40 +124,34 @@ module _ {least from : ℕ} {es ps layouts k0 k1 k2 k3 : List ℕ} {xs ys : List
 
   -- ---- uncoded: every tone has an entry of its own
 
-  module _ {lows labels : List ℕ} {n : ℕ} (all : from ≡ length xs) (l : LeastLows ps k0 k1 k2 k3 lows n) (p : PlaceLabels layouts q lows labels (length xs)) where
+  module _ {lows labels : List ℕ} {n : ℕ} (all : from ≡ length xs) (l : LeastLows layouts ps k0 k1 k2 k3 lows n) (p : PlaceLabels layouts q lows labels (length xs)) where
     own : (k : ℕ) → k < length es → entry ps k < from
     own k h = omega (arith, inside k h)
 
     -- what is decided of entry k
     abbrev Chosen : ℕ → Type 0
-    Chosen k = (entry labels (entry ps k) < 2 ^ entry es k) × BestLabel (toneMeter (entry es k) (getD q (entry ps k) origin)) (bits (entry es k) (entry labels (entry ps k))) (leastCost (costsOf k0 k1 k2 k3 (entry ps k)))
+    Chosen k = (entry labels (entry ps k) < 2 ^ entry es k) × BestLabel (toneMeter (entry es k) (getD q (entry ps k) origin)) (bits (entry es k) (entry labels (entry ps k))) (entry (l .costs) (entry ps k))
 
     chosen : (k : ℕ) → k < length es → Chosen k
     chosen k h = by (ltb (entry es k) 2) refl
       where
-        low : LeastLow (costsOf k0 k1 k2 k3 (entry ps k)) (entry lows (entry ps k))
-        low = l .low k (omega (arith, d .placesLength))
-
-        same-low : entry lows (entry ps k) % 4 ≡ entry lows (entry ps k)
-        same-low = omega (arith, low .small)
-
-        coset : LeastCoset (costsOf k0 k1 k2 k3 (entry ps k)) (record { low = entry lows (entry ps k); cost = leastCost (costsOf k0 k1 k2 k3 (entry ps k)) })
-        coset = record { small = low .small; is = sym (low .is); least = refl; bit = low .bit }
+        low : LeastAt layouts k0 k1 k2 k3 lows (l .costs) (entry ps k)
+        low = l .least (entry ps k) (rw same (inside k h))
 
         by : (b : Bool) → ltb (entry es k) 2 ≡ b → Chosen k
         by true e =
             let o : entry es k ≡ 1 = omega (arith, ltb-true (entry es k) 2 e, d .bitsLeast k h) in
             let lay = laid .own k h (own k h) ∙ ap layoutOf o in
-            let a = c .costs (entry ps k) (inside k h) in
-            let g = a .again lay in
-            let z : entry labels (entry ps k) ≡ entry lows (entry ps k) = p .labelled (entry ps k) (inside k h) .one lay ∙ same-low in
-            let s = low .bit (g .0) (g .1) in
-            rw (z, o) (omega arith, rw (one-bit (entry lows (entry ps k))) (best-one (a .one lay) (g .0) (g .1) coset))
+            let one = low .one lay in
+            let z : entry labels (entry ps k) ≡ entry lows (entry ps k) = omega (arith, p .labelled (entry ps k) (inside k h) .one lay, one .small) in
+            rw (z, o) (omega (arith, one .small), rw (one-bit (entry lows (entry ps k))) (best-one (c .costs (entry ps k) (inside k h) .one lay) one))
         by false e =
             let b2 = ltb-false (entry es k) 2 e in
             let lay = laid .own k h (own k h) in
+            let tone = low .tone (not-one (entry es k) (entry layouts (entry ps k)) b2 (d .bitsMost k h) lay) in
+            let z : entry lows (entry ps k) % 4 ≡ entry lows (entry ps k) = omega (arith, tone .small) in
             let r = p .labelled (entry ps k) (inside k h) .tone (entry es k) b2 (d .bitsMost k h) lay in
-            (r .0, best-label (c .costs (entry ps k) (inside k h) .tone (entry es k) b2 (d .bitsMost k h) lay) coset (rw same-low at (r .1)))
+            (r .0, best-label (c .costs (entry ps k) (inside k h) .tone (entry es k) b2 (d .bitsMost k h) lay) tone (rw z at (r .1)))
 
     pub tones-within : Within es (labelsAt ps labels) (length es)
     tones-within k h = rw (at-get ps labels k (omega (arith, d .placesLength))) (chosen k h .0)
@@ -165,11 +160,10 @@ module _ {least from : ℕ} {es ps layouts k0 k1 k2 k3 : List ℕ} {xs ys : List
     tones-best = rw (l .total) (go es ps (d .placesLength) (λ k h. own k h) (λ k h. chosen k h .1))
       where
         go : (fs qs : List ℕ) → length qs ≡ length fs → ((k : ℕ) → k < length fs → entry qs k < from)
-            → ((k : ℕ) → k < length fs → BestLabel (toneMeter (entry fs k) (getD q (entry qs k) origin)) (bits (entry fs k) (entry labels (entry qs k))) (leastCost (costsOf k0 k1 k2 k3 (entry qs k))))
-            → BestAll (metersIn from q fs qs) (bitsOfLabels fs (labelsAt qs labels)) (leastTotal k0 k1 k2 k3 qs)
+            → ((k : ℕ) → k < length fs → BestLabel (toneMeter (entry fs k) (getD q (entry qs k) origin)) (bits (entry fs k) (entry labels (entry qs k))) (entry (l .costs) (entry qs k)))
+            → BestAll (metersIn from q fs qs) (bitsOfLabels fs (labelsAt qs labels)) (totalAt (l .costs) qs)
         go [] [] e o h = none
         go [] (r ∷ qs) e o h = absurd (omega arith)
         go (f ∷ fs) [] e o h = absurd (omega arith)
         go (f ∷ fs) (r ∷ qs) e o h =
-            let s : leastCost (costsOf k0 k1 k2 k3 r) + leastTotal k0 k1 k2 k3 qs ≡ leastTotal k0 k1 k2 k3 qs + leastCost (costsOf k0 k1 k2 k3 r) = omega arith in
-            rw (lt-ltb r from (o 0 (omega arith)), ← s) (more (h 0 (omega arith)) (go fs qs (omega arith) (λ k l. o (suc k) (omega arith)) (λ k l. h (suc k) (omega arith))))
+            rw (lt-ltb r from (o 0 (omega arith))) (more (h 0 (omega arith)) (go fs qs (omega arith) (λ k l. o (suc k) (omega arith)) (λ k l. h (suc k) (omega arith))))

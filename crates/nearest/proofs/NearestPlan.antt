@@ -33,6 +33,7 @@ use Rattle.g9932.specs.declared.Mode.the-variants.{Uncoded, Coded}
 use Rattle.passes.proofs.PlanLabels.{plan-placed}
 use Rattle.mapper.proofs.PointLoop.{point-at}
 use Rattle.paths.specs.Frames.{pairBy, pairsBy, sentCost, Labelled, LeastFrame}
+use Rattle.paths.specs.Paths.{Inputs}
 use Rattle.plan.specs.Plan.{leastOwn, sharing, PlanIs}
 use Rattle.plan.specs.declared.PlanSizes.{PlanSizes}
 use Rattle.symbol.proofs.TablePlan.{known, the-plan, entries-by, plain-sum, coded-pairs}
@@ -43,7 +44,6 @@ use Rattle.nearest.specs.Planned.{Decides, NearestBits}
 use Rattle.g9932.proofs.PointLists.{length-points}
 use Rattle.paths.proofs.Frames.{least-frame}
 use Rattle.paths.specs.Survivors.{follow}
-use Rattle.paths.specs.declared.Inputs.{Inputs}
 use Rattle.nearest.proofs.PlanMeters.{metersCost, bitsIn, plan-shared, plan-total, meters-bits, pairs-metered, cost-metered}
 
 -- ---- nearest labels, one after the other

@@ -24,7 +24,7 @@ use Rattle.plan.specs.Plan.{leastOwn}
 use Rattle.decisions.specs.Deciding.{Costed, PlaceLabels}
 use Rattle.decisions.specs.Entries.{metersIn}
 use Rattle.nearest.specs.Planned.{DecideSupposes, LowNeeds, Lows, Decides, NearestSupposes, ReadsPlanned}
-use Rattle.nearest.proofs.Entries.{cost-lists, entry-needs, meter-costs, traced-all, tones-within, tones-best}
+use Rattle.nearest.proofs.Entries.{entry-needs, meter-costs, traced-all, tones-within, tones-best}
 
 -- what the labels hold before they are decided does not matter
 pub decide-again : {m : Mode} {from : ℕ} {es ps layouts : List ℕ} {xs ys : List ℤ} {work labels after : List ℕ} → length after ≡ length labels
@@ -45,22 +45,17 @@ module _ {m : Mode} {from : ℕ} {es ps layouts : List ℕ} {xs ys : List ℤ} {
   one-least Uncoded = omega arith
   one-least Coded = omega arith
 
-  pub low-needs : LowNeeds m from ps j0 j1 j2 j3 work labels
+  pub low-needs : LowNeeds m from ps layouts j0 j1 j2 j3 work labels
   low-needs = go m d
     where
-      n0 : length j0 ≡ length xs
-      n0 = c .length0 ∙ same
-
       np : length ps ≡ length es
       np = d .decidable .placesLength
 
-      go : (m : Mode) → DecideSupposes m from es ps layouts xs ys work labels → LowNeeds m from ps j0 j1 j2 j3 work labels
+      go : (m : Mode) → DecideSupposes m from es ps layouts xs ys work labels → LowNeeds m from ps layouts j0 j1 j2 j3 work labels
       go Uncoded d =
           record {
-            lists = cost-lists (omega arith) (d .decidable) (d .laid) same c;
-            rising = subst (Rising ps) (sym n0) (d .decidable .rising);
-            many = omega (arith, d .many, np);
-            labelsLength = d .labelsLength ∙ sym n0;
+            places = record { length0 = c .length0; length1 = c .length1; length2 = c .length2; length3 = c .length3; labelsLength = d .labelsLength ∙ sym same };
+            entries = record { below = λ k h. rw same (d .decidable .rising .below k h); many = omega (arith, d .many, np) };
           }
       go Coded d =
           let w = d .byMode .1 ∙ ap (λ (z : ℕ). 16 * ((z + 1) / 2)) (sym np) in (
@@ -69,10 +64,10 @@ module _ {m : Mode} {from : ℕ} {es ps layouts : List ℕ} {xs ys : List ℤ} {
             (metersIn from q es ps, meter-costs (omega arith) (d .decidable) (d .laid) same c (omega arith)),
           )
 
-  pub decided : (lows after : List ℕ) (n : ℕ) → Lows m from ps j0 j1 j2 j3 lows n → PlaceLabels layouts q lows after (length xs) → Decides m from es ps q after n
+  pub decided : (lows after : List ℕ) (n : ℕ) → Lows m from ps layouts j0 j1 j2 j3 lows n → PlaceLabels layouts q lows after (length xs) → Decides m from es ps q after n
   decided lows after n l p = go m d l
     where
-      go : (m : Mode) → DecideSupposes m from es ps layouts xs ys work labels → Lows m from ps j0 j1 j2 j3 lows n → Decides m from es ps q after n
+      go : (m : Mode) → DecideSupposes m from es ps layouts xs ys work labels → Lows m from ps layouts j0 j1 j2 j3 lows n → Decides m from es ps q after n
       go Uncoded d l =
           record {
             within = tones-within (omega arith) (d .decidable) (d .laid) same c (d .byMode) l p;

@@ -74,9 +74,9 @@ abbrev pub DecideNeeds : Mode → ℕ → List ℕ → List ℕ → List ℤ →
 DecideNeeds m from ps layouts xs ys work labels = (es : List ℕ) × DecideSupposes m from es ps layouts xs ys work labels
 
 -- the two lowest bits of the labels at the entries' places, by the costs there
-abbrev pub LowNeeds : Mode → ℕ → List ℕ → List ℕ → List ℕ → List ℕ → List ℕ → List ℕ → List ℕ → Type 0
-LowNeeds Uncoded from ps k0 k1 k2 k3 work labels = ToneNeeds ps k0 k1 k2 k3 labels
-LowNeeds Coded from ps k0 k1 k2 k3 work labels =
+abbrev pub LowNeeds : Mode → ℕ → List ℕ → List ℕ → List ℕ → List ℕ → List ℕ → List ℕ → List ℕ → List ℕ → Type 0
+LowNeeds Uncoded from ps layouts k0 k1 k2 k3 work labels = ToneNeeds layouts ps k0 k1 k2 k3 labels
+LowNeeds Coded from ps layouts k0 k1 k2 k3 work labels =
     PathNeeds from ps k0 k1 k2 k3 work × TraceNeeds ps work labels × ((ms : List Meter) × MeterCosts ms from ps k0 k1 k2 k3)
 
 -- coded: along a path of least cost, which some survivors gave
@@ -85,9 +85,9 @@ pub record PathLows (from : ℕ) (ps k0 k1 k2 k3 labels : List ℕ) (n : ℕ) : 
   pub path : (ms : List Meter) → MeterCosts ms from ps k0 k1 k2 k3 → LeastPath (pairMeters ms) survivors n
   pub traced : LowTraced ps survivors labels (length ps)
 
-abbrev pub Lows : Mode → ℕ → List ℕ → List ℕ → List ℕ → List ℕ → List ℕ → List ℕ → ℕ → Type 0
-Lows Uncoded from ps k0 k1 k2 k3 labels n = LeastLows ps k0 k1 k2 k3 labels n
-Lows Coded from ps k0 k1 k2 k3 labels n = PathLows from ps k0 k1 k2 k3 labels n
+abbrev pub Lows : Mode → ℕ → List ℕ → List ℕ → List ℕ → List ℕ → List ℕ → List ℕ → List ℕ → ℕ → Type 0
+Lows Uncoded from ps layouts k0 k1 k2 k3 labels n = LeastLows layouts ps k0 k1 k2 k3 labels n
+Lows Coded from ps layouts k0 k1 k2 k3 labels n = PathLows from ps k0 k1 k2 k3 labels n
 
 -- uncoded: the labels at the entries' places are nearest, within their bits, and n is what they cost
 pub record DecidesTones (from : ℕ) (es ps : List ℕ) (q : List Point) (labels : List ℕ) (n : ℕ) : Type 0 where

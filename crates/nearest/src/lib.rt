@@ -17,23 +17,24 @@ use plan::PlanSizes;
 use plan::Planned;
 
 // The two lowest bits of the labels at their entries' places, by the costs there, and the total of squared distances. Coded, `work` holds
-// the survivors.
+// the survivors; uncoded, `k0` does not keep its costs.
 fn decide_low(
     mode: Mode,
     shared_from: Place,
     places: &[u16],
-    k0: &[u32],
+    layouts: &[u16],
+    k0: &mut [u32],
     k1: &[u32],
     k2: &[u32],
     k3: &[u32],
     work: &mut [u8],
     labels: &mut [u16],
 ) -> u64
-    requires { ⌜ LowNeeds mode («shared_from» .0) (now places) (now k0) (now k1) (now k2) (now k3) (now work) (now labels) ⌝ }
-    ensures { λ r. ⌜ Lows mode («shared_from» .0) (now (places .entry)) (now (k0 .entry)) (now (k1 .entry)) (now (k2 .entry)) (now (k3 .entry)) (now (labels .exit)) r ⌝ }
+    requires { ⌜ LowNeeds mode («shared_from» .0) (now places) (now layouts) (now k0) (now k1) (now k2) (now k3) (now work) (now labels) ⌝ }
+    ensures { λ r. ⌜ Lows mode («shared_from» .0) (now (places .entry)) (now (layouts .entry)) (now (k0 .entry)) (now (k1 .entry)) (now (k2 .entry)) (now (k3 .entry)) (now (labels .exit)) r ⌝ }
 {
     match mode {
-        Mode::Uncoded => decisions::least_low(places, k0, k1, k2, k3, labels),
+        Mode::Uncoded => decisions::least_low(layouts, places, k0, k1, k2, k3, labels),
         Mode::Coded => {
             let total = decisions::least_path(places, shared_from, k0, k1, k2, k3, work);
             decisions::trace_low(places, work, labels);
@@ -61,7 +62,18 @@ fn decide_by_costs(
     ensures { λ r. ⌜ DecidesAny mode («shared_from» .0) (now (places .entry)) (now (layouts .entry)) (now (xs .entry)) (now (ys .entry)) (now (work .entry)) (now (labels .entry)) (now (labels .exit)) r ⌝ }
 {
     decisions::cost_places(layouts, xs, ys, k0, k1, k2, k3);
-    let total = decide_low(mode, shared_from, places, k0, k1, k2, k3, work, labels);
+    let total = decide_low(
+        mode,
+        shared_from,
+        places,
+        layouts,
+        k0,
+        k1,
+        k2,
+        k3,
+        work,
+        labels,
+    );
     decisions::label_places(layouts, xs, ys, labels);
     total
 }
@@ -101,7 +113,8 @@ fn decide_labels(
     )
 }
 
-// The nearest frame of points in range, by the plan of their tables, with its total. Every input is known to pass.
+// The nearest frame of points in range, by the plan of their tables, with its total. Every input is known to pass, and no pair of a path
+// through the trellis breaks the code.
 fn read_planned(
     mode: Mode,
     shared_from: Place,

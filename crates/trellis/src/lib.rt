@@ -1,6 +1,9 @@
 // The trellis code: a frame's bits to the labels of the entries of b', pair by pair.
 mod pairs;
 
+pub use pairs::NumberStep;
+pub use pairs::StateNumber;
+pub use pairs::step_table;
 ghost use mathlib.Core.Path.{_≡_};
 ghost use mathlib.Core.Bool.{false};
 ghost use Prim.Native.Nat.{_+_, _*_, _^_, _≤_, _<_};

@@ -1,5 +1,6 @@
 // The pairs of two entries: the free pairs, then the last two, whose u1 and u2 are forced. The free pairs are nearly all, so there the
-// state is one number, and one look-up takes a step. Only this crate's proved code calls these functions.
+// state is one number, and one look-up takes a step. Survivors are followed by the same steps (crate paths). Only this crate's proved code
+// calls the other functions.
 ghost use mathlib.Core.Path.{_≡_};
 ghost use mathlib.Core.Bool.{true, false};
 ghost use Prim.Native.Nat.{_+_, _/_, _%_, _^_, _≤_, _<_};
@@ -25,7 +26,7 @@ use g9932::TrellisState;
 
 // The steps of the encoder: a row for each state, in it one for each u1 + 2 u2 + 4 u3. See specs/Steps. A caller makes the table once
 // and lends it to its loop.
-fn step_table() -> [u8; 128]
+pub fn step_table() -> [u8; 128]
     ensures { λ r. ⌜ r ≡ stepList ⌝ }
 {
     *b"\
@@ -59,8 +60,8 @@ pub struct NumberStep {
 }
 
 impl StateNumber {
-    // One step of the encoder by u1 to u3, the lowest bits of the word.
-    fn step(self, steps: &[u8; 128], word: u64) -> NumberStep
+    // One step of the encoder by u1 to u3, the lowest bits of the word. Called by proved code only.
+    pub fn step(self, steps: &[u8; 128], word: u64) -> NumberStep
         requires { ⌜ (now steps ≡ stepList) × (self .0 < 16) ⌝ }
         ensures { λ r. ⌜ StepsBy (stepNumber (stateAt (self .0)) (odd word) (odd (word / 2)) (odd (word / 4))) r ⌝ }
     {

@@ -48,7 +48,7 @@ shared-costs-requires c κs =
     let hw : p .0 + 1 < length (a .k0 .now) = rw (add-one, n) (s .0 .sharedInside (a .k) (s .1) (rw n at (c .before .before .if1 .left))) in
     let v = rw (sym (c .before .before .before .before .before .costs-at .ensures)) at (s .0 .lists .small (p .0) hv) in
     let w = rw (sym (c .costs-at2 .ensures)) at (s .0 .lists .small (p .0 + 1) hw) in
-    (v .small0, v .small1, w .small0, w .small1)
+    (v .small0, v .small3, w .small0, w .small3)
 
 returns-2 : tie.Need-returns-2
 returns-2 c =

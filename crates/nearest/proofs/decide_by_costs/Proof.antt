@@ -11,13 +11,13 @@ use Rattle.decisions.proofs.label_places.Reads as label-places-reads
 use Rattle.nearest.proofs.decide_low.Reads as decide-low-reads
 
 cost-places-requires : tie.Need-cost-places-requires
-cost-places-requires c κs = c .before .before .before .before .before .before .before .before .before .before .before .before .pre .1
+cost-places-requires c κs = search needs
 
 decide-low-requires : tie.Need-decide-low-requires
 decide-low-requires c κs = low-needs (c .before .before .before .before .before .before .before .before .before .before .before .before .before .before .before .before .before .before .before .before .before .before .before .before .before .before .before .pre .0 .1) (c .before .before .before .before .before .before .before .before .before .before .before .before .before .before .cost-places .ensures)
 
 label-places-requires : tie.Need-label-places-requires
-label-places-requires c κs = record { places = c .before .before .before .before .before .before .before .before .before .before .before .before .before .before .before .before .before .before .before .before .before .before .before .before .before .before .before .before .before .before .before .before .before .pre .1 .places; labelsLength = c .before .before .before .before .before .decide-low .kept .1 .1 .1 .1 .1 .1 .1 .1 .0 ∙ c .before .before .before .before .before .before .before .before .before .before .before .before .before .before .before .before .before .before .before .before .before .before .before .before .before .before .before .before .before .before .before .before .before .pre .0 .1 .labelsLength }
+label-places-requires c κs = record { places = c .before .before .before .before .before .before .before .before .before .before .before .before .before .before .before .before .before .before .before .before .before .before .before .before .before .before .before .before .before .before .before .before .before .before .before .pre .1 .places; labelsLength = c .before .before .before .before .before .before .before .decide-low .kept .1 .1 .1 .1 .1 .1 .1 .1 .1 .0 ∙ c .before .before .before .before .before .before .before .before .before .before .before .before .before .before .before .before .before .before .before .before .before .before .before .before .before .before .before .before .before .before .before .before .before .before .before .pre .0 .1 .labelsLength }
 
 same-length : tie.Need-same-length
 same-length c = search needs
@@ -38,7 +38,7 @@ same-length-6 : tie.Need-same-length-6
 same-length-6 c = search needs
 
 returns : tie.Need-returns
-returns c = λ es d. decided d (c .before .before .before .before .before .before .before .before .before .before .before .before .before .before .before .before .before .before .before .before .before .before .before .cost-places .ensures) _ _ _ (c .before .before .before .before .before .before .before .before .decide-low .ensures) (c .before .before .label-places .ensures)
+returns c = λ es d. decided d (c .before .before .before .before .before .before .before .before .before .before .before .before .before .before .before .before .before .before .before .before .before .before .before .before .before .cost-places .ensures) _ _ _ (c .before .before .before .before .before .before .before .before .before .before .decide-low .ensures) (c .before .before .label-places .ensures)
 
 pub decide-by-costs-spec : {M : Type 1} → statement M
 decide-by-costs-spec =

@@ -1,52 +1,49 @@
--- `paths::follow_pair` meets its contract: the step of the surviving word.
-use Prim.Native.Nat.{_+_, _*_}
-use mathlib.Core.Path.{_≡_, ap, _∙_}
+-- `paths::follow_pair` meets its contract: the step by the three lowest bits of the survivor at the state's number.
+use mathlib.Core.Path.{_≡_, refl, sym, ap, _∙_}
+use Prim.Native.Nat.{ℕ, _+_, _*_, _/_, _%_, _<_}
+use native.Mathlib.Omega.{arith}
 use lib.ListN.{getD}
-use Rattle.paths.specs.declared.Inputs.{Inputs}
-use Rattle.paths.specs.Survivors.{inputsOf, survivor}
-use Rattle.paths.specs.Paths.{after, lowBy}
+use Rattle.g9932.proofs.Words.{weight-odd}
+use Rattle.g9932.specs.Bits.{weight}
+use Rattle.g9932.specs.Trellis.{nextState}
+use Rattle.g9932.specs.declared.TrellisState.{TrellisState}
+use Rattle.trellis.proofs.Steps.{state-back, step-v, step-w, step-next}
+use Rattle.trellis.specs.Steps.{stateAt}
+use Rattle.paths.specs.Paths.{Inputs, after, lowBy}
+use Rattle.paths.specs.Survivors.{indexOf, inputsOf, survivor}
 use borrow.Author.Needs.{needs}
 use Rattle.paths.proofs.follow_pair.Statement.{statement}
 use Rattle.paths.proofs.follow_pair.Tie as tie
-use Rattle.paths.proofs.follow_pair.Reads as reads
-use Rattle.paths.proofs.follow_pair.Lts as lts
-use Rattle.g9932.proofs.TrellisState.step.Reads as step-reads
-use Rattle.paths.proofs.index.Reads as index-reads
-use Rattle.paths.proofs.word_of.Reads as word-of-reads
 
-mul-word-of : tie.Need-mul-word-of
-mul-word-of c = search needs
+-- the number of a number's state
+number-back : (n : ℕ) → n < 16 → indexOf (stateAt n) ≡ n
+unfolding stateAt
+number-back n h =
+    let quarter : n / 4 ≡ n / 2 / 2 = omega arith in
+    let eighth : n / 8 ≡ n / 4 / 2 = omega arith in
+    let top : n / 8 % 2 ≡ n / 8 = omega arith in
+    omega (arith, weight-odd n, weight-odd (n / 2), weight-odd (n / 4), weight-odd (n / 8))
 
-index-requires : tie.Need-index-requires
-index-requires c κs = search needs
-
-add-word-of : tie.Need-add-word-of
-add-word-of c = search needs
-
-shared-slice-read-word-of : tie.Need-shared-slice-read-word-of
-shared-slice-read-word-of c = search needs
-
-word-of-requires : tie.Need-word-of-requires
-word-of-requires c κs = search needs
-
-step-requires : tie.Need-step-requires
-step-requires c κs = search needs
+cast-step : tie.Need-cast-step
+cast-step c =
+    let a = c .before .before .before .args in
+    omega (arith, c .shared-slice-known2 .given (16 * a .j + a .state .0))
 
 returns : tie.Need-returns
 returns c =
-    let a = c .before .before .before .before .before .args in
-    let u : c .before .word-of .result ≡ survivor (a .survivors .now) (a .j) (a .state) =
-    c .before .word-of .ensures ∙ ap (λ i. inputsOf (getD (a .survivors .now) (16 * a .j + i) 0)) (c .before .before .before .index .ensures .0) in
-    (c .step .ensures .0 ∙ ap (after (a .state)) u, c .step .ensures .1 ∙ ap (lowBy (a .state)) u)
+    let a = c .before .before .before .before .args in
+    let s : TrellisState = stateAt (a .state .0) in
+    let k : ℕ = getD (a .survivors .now) (16 * a .j + a .state .0) 0 in
+    let u : Inputs = inputsOf k in
+    let e : u ≡ survivor (a .survivors .now) (a .j) s =
+    ap (λ (n : ℕ). inputsOf (getD (a .survivors .now) (16 * a .j + n) 0)) (sym (number-back (a .state .0) (c .before .before .before .before .pre .1))) in
+    let r = c .step .ensures in
+    record {
+      nextSmall = omega (arith, r .nextIs, r .small);
+      nextIs = ap stateAt (r .nextIs ∙ step-next s (u .u1) (u .u2) (u .u3) _ refl) ∙ state-back (nextState s (u .u1) (u .u2)) ∙ ap (after s) e;
+      vIs = r .vIs ∙ step-v s (u .u1) (u .u2) (u .u3) _ refl ∙ ap (λ (z : Inputs). weight (lowBy s z .v0) + 2 * weight (lowBy s z .v1)) e;
+      wIs = r .wIs ∙ step-w s (u .u1) (u .u2) (u .u3) _ refl ∙ ap (λ (z : Inputs). weight (lowBy s z .w0) + 2 * weight (lowBy s z .w1)) e;
+    }
 
 pub follow-pair-spec : {M : Type 1} → statement M
-follow-pair-spec =
-    tie.close
-    (tie.spec
-    mul-word-of
-    index-requires
-    add-word-of
-    shared-slice-read-word-of
-    word-of-requires
-    step-requires
-    returns)
+follow-pair-spec = tie.close (tie.spec (λ c. search needs) (λ c. search needs) (λ c. search needs) cast-step (λ c κs. search needs) returns)
