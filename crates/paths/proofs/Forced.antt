@@ -1,5 +1,4 @@
--- The last two pairs, where u1 and u2 are forced: of the four next states of a state one can be reached, and the least of the four sums is the
--- one to it.
+-- The last two pairs, where u1 and u2 are forced: one of a state's four next states can be reached, and the sum to it is the least of the four.
 use Prim.Native.Nat.{ℕ, zero, suc, _+_, _*_, _-_, _/_, _%_, _^_, _≤_, _<_}
 use mathlib.Core.Bool.{Bool, true, false}
 use mathlib.Core.List.{List, [], _∷_}
