@@ -20,7 +20,6 @@ use Rattle.g9932.specs.declared.Nearest.the-variants.{Done}
 use Rattle.mapper.specs.Writing.{SetsFiller}
 use Rattle.passes.proofs.Points.{framed-bytes}
 use Rattle.passes.specs.ReadSymbol.{FrameLabels, ReadsFrame}
-use Rattle.plan.specs.Plan.{leastOwn}
 use Rattle.decisions.specs.Deciding.{Costed, PlaceLabels}
 use Rattle.decisions.specs.Entries.{metersIn}
 use Rattle.nearest.specs.Planned.{DecideSupposes, LowNeeds, Lows, Decides, NearestSupposes, ReadsPlanned}
@@ -40,10 +39,6 @@ module _ {m : Mode} {from : ℕ} {es ps layouts : List ℕ} {xs ys : List ℤ} {
 
   same : length layouts ≡ length xs
   same = d .tones .layoutsLength
-
-  one-least : (m : Mode) → 1 ≤ leastOwn m
-  one-least Uncoded = omega arith
-  one-least Coded = omega arith
 
   pub low-needs : LowNeeds m from ps layouts j0 j1 j2 j3 work labels
   low-needs = go m d

@@ -24,7 +24,9 @@ nearer-requires-3 : tie.Need-nearer-requires-3
 nearer-requires-3 c κs = search needs
 
 returns : tie.Need-returns
-returns c = coset-of _ _ _ _ _ _ _ (c .before .before .before .before .pick .ensures) (c .before .before .before .pick2 .ensures) (c .before .before .nearer .ensures) (c .before .nearer2 .ensures) (c .nearer3 .ensures)
+returns c =
+    let a = c .before .before .before .before .before .args in
+    coset-of (a .layout) (a .c) _ _ _ _ _ (c .before .before .before .before .pick .ensures) (c .before .before .before .pick2 .ensures) (c .before .before .nearer .ensures) (c .before .nearer2 .ensures) (c .nearer3 .ensures)
 
 pub least-coset-spec : {M : Type 1} → statement M
 least-coset-spec = tie.close (tie.spec pick-requires pick-requires-2 nearer-requires nearer-requires-2 nearer-requires-3 returns)
