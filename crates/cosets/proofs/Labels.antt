@@ -1,8 +1,7 @@
 -- From raised coordinates to the labels and costs of an entry.
-use Prim.Native.Nat.{ℕ, zero, suc, _+_, _-_, _*_, _/_, _^_, _≤_, _<_, min}
+use Prim.Native.Nat.{ℕ, zero, suc, _+_, _-_, _*_, _/_, _%_, _^_, _≤_, _<_, min}
 use mathlib.Core.Bool.{Bool, true, false, cond}
 use mathlib.Core.List.{List, [], _∷_}
-use mathlib.Core.Logic.{_⊎_, ⊎-elim}
 use mathlib.Core.Path.{_≡_, refl, sym, ap, subst, _∙_}
 use native.Mathlib.Omega.{arith}
 use borrow.Author.Tests.{le-ltb, ltb-true, ltb-false, eq-eqb, ne-eqb}
@@ -163,44 +162,43 @@ coset-cost {m = m} {c = c} {v1 = v1} {v0 = v0} {v = v} l h =
 
 -- ---- the nearest of all labels
 
--- the nearer of two
-abbrev pub Nearer : Coset → Coset → Coset → Type 0
-Nearer a b r = (r .cost ≡ min (a .cost) (b .cost)) × ((r ≡ a) ⊎ ((r ≡ b) × (b .cost < a .cost)))
+-- the least of four numbers, each 4 times a cost, plus the two lowest bits
+abbrev pub Fourfold : ℕ → ℕ → ℕ → ℕ → ℕ → Type 0
+Fourfold c0 c1 c2 c3 m = m ≡ min (min (4 * c0) (4 * c1 + 1)) (min (4 * c2 + 2) (4 * c3 + 3))
 
-module _ (c : Costs) (m n r : Coset) (hm : Nearer (record { low = 0; cost = c .c0 }) (record { low = 1; cost = c .c1 }) m)
-    (hn : Nearer (record { low = 2; cost = c .c2 }) (record { low = 3; cost = c .c3 }) n) (hr : Nearer m n r) where
-  -- one of the four, of the first two unless another is nearer
-  abbrev Found : Coset → Type 0
-  Found k = (k .low < 4) × (k .cost ≡ costOf c (k .low)) × (m .cost ≤ n .cost → k .low < 2)
+-- the coset that a number tells
+abbrev pub told : ℕ → Coset
+told m = record { low = m % 4; cost = m / 4 }
 
-  found : Found r
-  found =
-      ⊎-elim
-      (λ g. subst Found (sym g) (⊎-elim (λ f. subst Found (sym f) (omega arith, refl, λ _. omega arith)) (λ f. subst Found (sym (f .0)) (omega arith, refl, λ _. omega arith)) (hm .1)))
-      (λ g. subst Found (sym (g .0)) (⊎-elim (λ f. subst Found (sym f) (omega arith, refl, λ h. absurd (omega (arith, g .1)))) (λ f. subst Found (sym (f .0)) (omega arith, refl, λ h. absurd (omega (arith, g .1)))) (hn .1)))
-      (hr .1)
+module _ (c : Costs) (m : ℕ) (h : Fourfold (c .c0) (c .c1) (c .c2) (c .c3) m) where
+  cost-is : (k : ℕ) → m % 4 ≡ k → m / 4 ≡ costOf c k
+  cost-is zero e = omega (arith, h, e)
+  cost-is (suc zero) e = omega (arith, h, e)
+  cost-is (suc (suc zero)) e = omega (arith, h, e)
+  cost-is (suc (suc (suc zero))) e = omega (arith, h, e)
+  cost-is (suc (suc (suc (suc k)))) e = absurd (omega (arith, e))
 
-  under : (i : ℕ) → i < 4 → r .cost ≤ costOf c i
-  under zero h = omega (arith, hr .0, hm .0)
-  under (suc zero) h = omega (arith, hr .0, hm .0)
-  under (suc (suc zero)) h = omega (arith, hr .0, hn .0)
-  under (suc (suc (suc zero))) h = omega (arith, hr .0, hn .0)
-  under (suc (suc (suc (suc i)))) h = absurd (omega arith)
+  under : (i : ℕ) → i < 4 → m / 4 ≤ costOf c i
+  under zero l = omega (arith, h)
+  under (suc zero) l = omega (arith, h)
+  under (suc (suc zero)) l = omega (arith, h)
+  under (suc (suc (suc zero))) l = omega (arith, h)
+  under (suc (suc (suc (suc i)))) l = absurd (omega arith)
 
-  four-least : LeastAmong 4 (costOf c) r
-  four-least = record { small = found .0; is = found .1; least = under }
+  four-least : LeastAmong 4 (costOf c) (told m)
+  four-least = record { small = omega arith; is = cost-is (m % 4) refl; least = under }
 
-  two-least : c .c2 ≡ c .c0 → c .c3 ≡ c .c1 → LeastAmong 2 (costOf c) r
-  two-least e f = record { small = found .2 (omega (arith, hm .0, hn .0)); is = found .1; least = λ i h. under i (omega arith) }
+  two-least : c .c2 ≡ c .c0 → c .c3 ≡ c .c1 → LeastAmong 2 (costOf c) (told m)
+  two-least e f = record { small = omega (arith, h, e, f); is = cost-is (m % 4) refl; least = λ i l. under i (omega arith) }
 
-pub coset-of : (layout : ℕ) (c : Costs) (c1 c2 : ℕ) (m n r : Coset) → c1 ≡ cond (eqb layout 33088) (c .c3) (c .c1) → c2 ≡ cond (eqb layout 33088) (c .c0) (c .c2)
-    → Nearer (record { low = 0; cost = c .c0 }) (record { low = 1; cost = c1 }) m → Nearer (record { low = 2; cost = c2 }) (record { low = 3; cost = c .c3 }) n → Nearer m n r → LeastCoset layout c r
-coset-of layout c c1 c2 m n r e1 e2 hm hn hr =
+pub coset-of : (layout : ℕ) (c : Costs) (c1 c2 m : ℕ) → c1 ≡ cond (eqb layout 33088) (c .c3) (c .c1) → c2 ≡ cond (eqb layout 33088) (c .c0) (c .c2)
+    → Fourfold (c .c0) c1 c2 (c .c3) m → LeastCoset layout c (told m)
+coset-of layout c c1 c2 m e1 e2 h =
     record {
-      tone = λ z. let b = ne-eqb layout 33088 z in four-least c m n r (rw (e1, b) at hm) (rw (e2, b) at hn) hr;
+      tone = λ z. let b = ne-eqb layout 33088 z in four-least c m (rw (e1, e2, b) at h);
       one = λ z. let b = eq-eqb layout 33088 z in
-          let k = two-least doubled m n r (rw (e1, b) at hm) (rw (e2, b) at hn) hr refl refl in
-          record { small = k .small; is = k .is ∙ bits-are (r .low) (k .small); least = λ i h. rw (← (bits-are i h)) (k .least i h) };
+          let k = two-least doubled m (rw (e1, e2, b) at h) refl refl in
+          record { small = k .small; is = k .is ∙ bits-are (m % 4) (k .small); least = λ i l. rw (← (bits-are i l)) (k .least i l) };
     }
   where
     doubled : Costs
@@ -210,6 +208,11 @@ coset-of layout c c1 c2 m n r e1 e2 hm hn hr =
     bits-are zero h = refl
     bits-are (suc zero) h = refl
     bits-are (suc (suc i)) h = absurd (omega arith)
+
+-- a pick of two small costs is small
+pub picked-small : (b : Bool) (m n : ℕ) {r : ℕ} → r ≡ cond b m n → m ≤ 8_388_608 → n ≤ 8_388_608 → r ≤ 8_388_608
+picked-small true m n e p q = omega (arith, e)
+picked-small false m n e p q = omega (arith, e)
 
 -- a number of two bits, by its bits
 two-numbers : (n : ℕ) → n < 4 → weight (odd n) + 2 * weight (odd (n / 2)) ≡ n

@@ -3,13 +3,12 @@
 // Coordinates are raised by 1,024, so that they are positive; the coordinate 2 u + 1, raised, has the place u. Numbers have sixteen bits and
 // the steps are the same for every tone, so that a loop over many takes several at a time. Proved code alone calls what has a `requires`.
 ghost use mathlib.Core.Bool.{cond};
-ghost use mathlib.Core.Logic.{_⊎_};
 ghost use mathlib.Core.Path.{_≡_};
 ghost use Prim.Native.Nat.{_+_, _*_, _≤_, _<_, min, max};
 ghost use Rattle.constellation.specs.Layouts.{ToneLayout};
 ghost use Rattle.g9932.specs.Sizes.{point};
 ghost use Rattle.cosets.specs.Grid.{square, NearestPlace, NearestIn, SquareTo, SidesOf, SidesFit, Sided};
-ghost use Rattle.cosets.specs.Nearest.{Raised, InRange, IsReceived, Bounded, NearestBy, CostsFor};
+ghost use Rattle.cosets.specs.Nearest.{Raised, InRange, IsReceived, Bounded, NearestBy, CostsFor, SmallCosts};
 ghost use Rattle.cosets.specs.Meters.{CostsBy, PointBy, LabelOf, sharedCosts, LeastCoset};
 use constellation::Coordinates;
 
@@ -249,22 +248,21 @@ pub struct Coset {
     pub cost: u32,
 }
 
-// The nearer of two cosets.
-fn nearer(a: Coset, b: Coset) -> Coset
-    ensures { λ r. ⌜ (r .cost ≡ min (a .cost) (b .cost)) × ((r ≡ a) ⊎ ((r ≡ b) × (b .cost < a .cost))) ⌝ }
-{
-    if b.cost < a.cost { b } else { a }
-}
-
 // The nearest coset, the first of several; of 1 bit, the nearest bit. Its two costs stand for 0 and 1, and for 2 and 3 once more, so that the
-// steps are the same for every tone.
+// steps are the same for every tone. A number is 4 times a cost, plus the two lowest bits: the least has the least cost and tells its coset.
 pub fn least_coset(layout: u16, c: Costs) -> Coset
+    requires { ⌜ SmallCosts c ⌝ }
     ensures { λ r. ⌜ LeastCoset layout c r ⌝ }
 {
     let one = layout == ONE;
     let c1 = pick(one, c.c3, c.c1);
     let c2 = pick(one, c.c0, c.c2);
-    let plain = nearer(Coset { low: 0, cost: c.c0 }, Coset { low: 1, cost: c1 });
-    let other = nearer(Coset { low: 2, cost: c2 }, Coset { low: 3, cost: c.c3 });
-    nearer(plain, other)
+    let m = cheaper(
+        cheaper(4 * c.c0, 4 * c1 + 1),
+        cheaper(4 * c2 + 2, 4 * c.c3 + 3),
+    );
+    Coset {
+        low: (m % 4) as u16,
+        cost: m / 4,
+    }
 }

@@ -231,6 +231,7 @@ pub record LeastNeeds (layouts k0 k1 k2 k3 labels : List ℕ) : Type 0 where
   pub length2 : length k2 ≡ length layouts
   pub length3 : length k3 ≡ length layouts
   pub labelsLength : length labels ≡ length layouts
+  pub small : (i : ℕ) → i < length layouts → SmallCosts (costsOf k0 k1 k2 k3 i)
 
 -- the nearest coset of a place, by its lowest bits and its cost
 abbrev pub LeastAt : List ℕ → List ℕ → List ℕ → List ℕ → List ℕ → List ℕ → List ℕ → ℕ → Type 0

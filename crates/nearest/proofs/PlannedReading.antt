@@ -49,7 +49,15 @@ module _ {m : Mode} {from : ℕ} {es ps layouts : List ℕ} {xs ys : List ℤ} {
       go : (m : Mode) → DecideSupposes m from es ps layouts xs ys work labels → LowNeeds m from ps layouts j0 j1 j2 j3 work labels
       go Uncoded d =
           record {
-            places = record { length0 = c .length0; length1 = c .length1; length2 = c .length2; length3 = c .length3; labelsLength = d .labelsLength ∙ sym same };
+            places =
+                record {
+                  length0 = c .length0;
+                  length1 = c .length1;
+                  length2 = c .length2;
+                  length3 = c .length3;
+                  labelsLength = d .labelsLength ∙ sym same;
+                  small = λ i h. c .costs i (omega (arith, h, same)) .small;
+                };
             entries = record { below = λ k h. rw same (d .decidable .rising .below k h); many = omega (arith, d .many, np) };
           }
       go Coded d =

@@ -53,7 +53,9 @@ shared-slice-read-least-coset : tie.Need-shared-slice-read-least-coset Inv-loop 
 shared-slice-read-least-coset c = search needs
 
 least-coset-requires : tie.Need-least-coset-requires Inv-loop μ-loop
-least-coset-requires c κs = search needs
+least-coset-requires c κs =
+    let l = c .before .before .before .before .before .before .loop in
+    rw (l .inv .1 .kept (l .i) (omega arith)) (c .before .before .before .before .before .before .before .before .before .before .before .before .before .pre .small (l .i) (c .before .before .before .before .before .loop-test .taken))
 
 mul-labels : tie.Need-mul-labels Inv-loop μ-loop
 mul-labels c = search needs
