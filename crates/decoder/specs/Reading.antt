@@ -84,6 +84,12 @@ pub record ReadsFrom (c : Reader) (es : List ℕ) (i : ℕ) (labels frame : List
   pub waits : Waits (r .writer)
   pub counted : r .broken ≡ Nothing → bitsPut (r .writer) ≡ bitsPut (c .writer) + takenTotal (inTwos (drop i es))
 
+-- nothing tested: all bits are put in any case, and they are the frame's where no pair breaks the code
+pub record CollectsFrom (c : Reader) (es : List ℕ) (i : ℕ) (labels frame : List ℕ) (r : BitWriter) (after : List ℕ) : Type 0 where
+  pub whole : breakIn (readingFrom c es i labels) ≡ Nothing → written r after ≡ written (c .writer) frame ++ frameIn (readingFrom c es i labels)
+  pub waits : Waits r
+  pub counted : bitsPut r ≡ bitsPut (c .writer) + takenTotal (inTwos (drop i es))
+
 -- ---- all pairs
 
 pub record ReadsLabels (w : BitWriter) (es labels before : List ℕ) (r : PairsRead) (after : List ℕ) : Type 0 where
@@ -91,6 +97,12 @@ pub record ReadsLabels (w : BitWriter) (es labels before : List ℕ) (r : PairsR
   pub whole : r .broken ≡ Nothing → written (r .writer) after ≡ written w before ++ frameIn (readingOf Coded (pairsOf es) (bitsOfLabels es labels))
   pub waits : Waits (r .writer)
   pub counted : r .broken ≡ Nothing → bitsPut (r .writer) ≡ bitsPut w + takenTotal (pairsOf es)
+
+-- nothing tested, of all pairs
+pub record CollectsPairs (w : BitWriter) (es labels before : List ℕ) (r : BitWriter) (after : List ℕ) : Type 0 where
+  pub whole : breakIn (readingOf Coded (pairsOf es) (bitsOfLabels es labels)) ≡ Nothing → written r after ≡ written w before ++ frameIn (readingOf Coded (pairsOf es) (bitsOfLabels es labels))
+  pub waits : Waits r
+  pub counted : bitsPut r ≡ bitsPut w + takenTotal (pairsOf es)
 
 pub record ReadLabelNeeds (w : BitWriter) (es labels frame : List ℕ) : Type 0 where
   pub wide : Wide es

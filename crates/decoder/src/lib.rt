@@ -8,7 +8,7 @@ ghost use Rattle.frame.specs.Labels.{labelsAt, Placed, Rising};
 ghost use Rattle.g9932.specs.Sizes.{mostTones};
 ghost use Rattle.g9932.specs.Order.{Wide, pair};
 ghost use Rattle.g9932.specs.Trellis.{taken, nextState, obeysCode};
-ghost use Rattle.decoder.specs.Reading.{firstReader, decodedOf, wordBy, takenNumber, ReadPairNeeds, ReadsPair, ReadPairsNeeds, ReadsFrom, ReadLabelNeeds, ReadsLabels};
+ghost use Rattle.decoder.specs.Reading.{firstReader, decodedOf, wordBy, takenNumber, ReadPairNeeds, ReadsPair, ReadPairsNeeds, ReadsFrom, ReadLabelNeeds, ReadsLabels, CollectsFrom, CollectsPairs};
 use frame::BitWriter;
 use frame::by_place::label_at;
 use frame::by_place::place_at;
@@ -237,4 +237,64 @@ pub fn read_labels(
         writer,
     };
     read_from(reader, labels, entries, places, 0, frame)
+}
+
+// Collects the frame bits of the pairs from entry `from` on. Labels along a path through the trellis obey the code: nothing is
+// tested, and the compiler leaves the state out.
+fn collect_from(
+    c: Reader,
+    labels: &[u16],
+    entries: &[u8],
+    places: &[u16],
+    from: usize,
+    frame: &mut [u8],
+) -> BitWriter
+    requires { ⌜ Wide (now entries) × (length (now entries) ≤ mostTones) × Placed (now entries) (now places) (now labels) × ReadPairsNeeds c (now entries) from (labelsAt (now places) (now labels)) (now frame) ⌝ }
+    ensures { λ r. ⌜ CollectsFrom c (now (entries .entry)) from (labelsAt (now (places .entry)) (now (labels .entry))) (now (frame .entry)) r (now (frame .exit)) ⌝ }
+{
+    let mut k = c;
+    let mut i = from;
+    while i + 1 < entries.len() {
+        let ends = entries.len() - i < 6;
+        let p = read_pair(
+            k,
+            ends,
+            entry(entries, i),
+            entry(entries, i + 1),
+            entry_label(labels, places, i),
+            entry_label(labels, places, i + 1),
+            frame,
+        );
+        k = p.reader;
+        i += 2;
+    }
+    k.writer
+}
+
+// The frame bits of labels that obey the code, put behind those that a writer has put. A first pair has x = 0 where the count of
+// entries is odd. Called by proved code only.
+pub fn collect_pairs(
+    writer: BitWriter,
+    labels: &[u16],
+    entries: &[u8],
+    places: &[u16],
+    frame: &mut [u8],
+) -> BitWriter
+    requires { ⌜ Placed (now entries) (now places) (now labels) × ReadLabelNeeds writer (now entries) (labelsAt (now places) (now labels)) (now frame) ⌝ }
+    ensures { λ r. ⌜ CollectsPairs writer (now (entries .entry)) (labelsAt (now (places .entry)) (now (labels .entry))) (now (frame .entry)) r (now (frame .exit)) ⌝ }
+{
+    if entries.len() % 2 == 1 {
+        let first = read_first(
+            writer,
+            entry(entries, 0),
+            entry_label(labels, places, 0),
+            frame,
+        );
+        return collect_from(first.reader, labels, entries, places, 1, frame);
+    }
+    let reader = Reader {
+        state: zero_state(),
+        writer,
+    };
+    collect_from(reader, labels, entries, places, 0, frame)
 }

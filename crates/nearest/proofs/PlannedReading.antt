@@ -13,13 +13,12 @@ use Rattle.g9932.specs.Filler.{registerAfter}
 use Rattle.g9932.specs.Nearest.{NearestFrame, nearestOf}
 use Rattle.g9932.specs.Sizes.{Tables, Point, points, bytesFor, pack}
 use Rattle.g9932.specs.Symbol.{classesOf}
-use Rattle.g9932.specs.declared.Found.{Found}
 use Rattle.g9932.specs.declared.Mode.{Mode}
 use Rattle.g9932.specs.declared.Mode.the-variants.{Uncoded, Coded}
 use Rattle.g9932.specs.declared.Nearest.the-variants.{Done}
 use Rattle.mapper.specs.Writing.{SetsFiller}
 use Rattle.passes.proofs.Points.{framed-bytes}
-use Rattle.passes.specs.ReadSymbol.{FrameLabels, ReadsFrame}
+use Rattle.passes.specs.ReadSymbol.{FrameLabels, ReadsPath}
 use Rattle.decisions.specs.Deciding.{Costed, PlaceLabels}
 use Rattle.decisions.specs.Entries.{metersIn}
 use Rattle.nearest.specs.Planned.{DecideSupposes, LowNeeds, Lows, Decides, NearestSupposes, ReadsPlanned}
@@ -88,7 +87,7 @@ module _ {T : Tables} {m : Mode} {from size start : ℕ} {es ps ds layouts label
   pub frame-labels : FrameLabels m start es ps ls held
   frame-labels = record { placed = s .placed ls same; within = s .within ls n same d; startMost = s .startMost; heldFits = s .heldFits }
 
-  module _ {b : Found} {stored : List ℕ} (reads : ReadsFrame m start es (bitsOfLabels es (labelsAt ps ls)) b stored) (kept : length stored ≡ length held) where
+  module _ {stored : List ℕ} (reads : ReadsPath m start es (bitsOfLabels es (labelsAt ps ls)) stored) (kept : length stored ≡ length held) where
     pub frame-fits : length f ≤ length stored
     frame-fits = omega (arith, s .frameLength, s .heldLength, s .sizeMost, s .startMost)
 
@@ -96,8 +95,7 @@ module _ {T : Tables} {m : Mode} {from size start : ℕ} {es ps ds layouts label
         → ReadsPlanned T (points xs ys) r start (Done size after n) out
     planned-read {r} {after} {out} draws bytes o =
         let w = s .bitsNearest r ls n same d in
-        let whole = reads .brokenIs ∙ ap breakIn (w .reads) in
-        let framed : Framed start (w .bits) stored = subst (λ z. Framed start (frameIn z) stored) (w .reads) (reads .framed whole) in
+        let framed : Framed start (w .bits) stored = subst (λ z. Framed start (frameIn z) stored) (w .reads) (reads .framed (ap breakIn (w .reads))) in
         let l : length f ≡ bytesFor start (length (w .bits)) = s .frameLength ∙ ap (bytesFor start) (sym (w .size)) in
         let packed : out ≡ pack start (w .bits) = o ∙ framed-bytes start (w .bits) stored (length f) l frame-fits framed bytes in
         let reg : after ≡ registerAfter r (classesOf T) = draws .registerIs ∙ s .registerIs r in

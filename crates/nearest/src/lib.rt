@@ -138,7 +138,7 @@ fn read_planned(
 {
     let after = mapper::write::set_filler(drawing, register, labels);
     let total = decide_labels(mode, shared_from, places, layouts, xs, ys, work, labels);
-    let broken = passes::read::frame_of_labels(mode, start, entries, places, labels, held);
+    passes::read::frame_of_path(mode, start, entries, places, labels, held);
     frame::copy(held, frame);
     Nearest::Done {
         size,

@@ -33,9 +33,9 @@ use Rattle.g9932.specs.declared.Refusal.the-variants.{Offgrid, Monitor}
 use Rattle.mapper.specs.Reading.{DemapAllNeeds, LabelIs, DemapsPoints, CheckNeeds, passesFiller, wrongFiller, ChecksFiller, JoinNeeds, CollectNeeds, CollectsLabels}
 use Rattle.mapper.specs.declared.read.FillerRead.{FillerRead}
 use Rattle.plan.specs.Plan.{isDrawing}
-use Rattle.passes.specs.ReadSymbol.{ReadPlacesSupposes, ReadsPlaces, HeldFits, FrameLabels, ReadFrameSupposes, ReadsFrame}
+use Rattle.passes.specs.ReadSymbol.{ReadPlacesSupposes, ReadsPlaces, HeldFits, FrameLabels, ReadFrameSupposes, ReadsFrame, ReadsPath}
 use Rattle.passes.specs.declared.read.PlacesRead.the-variants.{Refused, Done}
-use Rattle.decoder.specs.Reading.{ReadLabelNeeds as TrellisNeeds, ReadsLabels}
+use Rattle.decoder.specs.Reading.{ReadLabelNeeds as TrellisNeeds, ReadsLabels, CollectsPairs}
 use Rattle.decoder.specs.declared.PairsRead.{PairsRead}
 use Rattle.passes.proofs.FillerPlaces.{register-places, wrong-first}
 use Rattle.passes.proofs.PlanLabels.{joined, joined-count, by-entry, joined-within, ones-small, plan-placed, where-inside, all-count}
@@ -190,6 +190,22 @@ module _ {m : Mode} {start : ℕ} {es ps ls held : List ℕ} (w : FrameLabels m 
             brokenIs = sym b ∙ c .broken;
             framed = λ _. finished (p .writer) mid after (omega arith) (omega arith) (c .waits) f start (frameIn (readingOf Coded (pairsOf es) d)) (c .whole b ∙ rw (written-empty start held));
           })
+
+  -- coded, no pair is tested
+  module _ (e : m ≡ Coded) {v : BitWriter} {mid : List ℕ} (c : CollectsPairs (emptyWriter start) es (labelsAt ps ls) held v mid) (same : length mid ≡ length held) where
+    -- the last byte is there
+    pub path-fits : v .next < length mid
+    path-fits =
+        let r : HeldFits Coded start es (length held) = rw e at (w .heldFits) in
+        omega (arith, c .counted, r .3)
+
+    pub path-read : {after : List ℕ} → length after ≡ length mid → unpack (take (v .next + 1) after) ≡ written v mid ++ bits (8 - v .fill) 0 → ReadsPath m start es d after
+    path-read {after} k f =
+        let h = path-fits in
+        rw e
+        (record {
+          framed = λ z. finished v mid after (omega arith) (omega arith) (c .waits) f start (frameIn (readingOf Coded (pairsOf es) d)) (c .whole z ∙ rw (written-empty start held));
+        })
 
 -- of labels by place, joined where two tones share one
 module _ {m : Mode} {start : ℕ} {cs : List Class} {d : List Bool} {from : ℕ} {es ps ds layouts labels held : List ℕ} (w : ReadFrameSupposes m start cs d from es ps ds layouts labels held) where

@@ -81,6 +81,10 @@ pub record ReadsFrame (m : Mode) (start : ℕ) (es : List ℕ) (d : List Bool) (
   pub brokenIs : broken ≡ breakIn (readingOf m (pairsOf es) d)
   pub framed : broken ≡ Nothing → Framed start (frameIn (readingOf m (pairsOf es) d)) after
 
+-- the frame, where no pair breaks the code
+pub record ReadsPath (m : Mode) (start : ℕ) (es : List ℕ) (d : List Bool) (after : List ℕ) : Type 0 where
+  pub framed : breakIn (readingOf m (pairsOf es) d) ≡ Nothing → Framed start (frameIn (readingOf m (pairsOf es) d)) after
+
 -- the labels are those of some classes and their bits
 pub record ReadFrameSupposes (m : Mode) (start : ℕ) (cs : List Class) (d : List Bool) (from : ℕ) (es ps ds layouts labels held : List ℕ) : Type 0 where
   pub plan : PlanOf cs from es ps ds layouts

@@ -1,6 +1,6 @@
 // Reading a symbol.
 ghost use Rattle.frame.specs.Labels.{bitsOfLabels, labelsAt};
-ghost use Rattle.passes.specs.ReadSymbol.{ReadPlacesNeeds, ReadsAnyPlaces, FrameLabels, ReadsFrame, ReadFrameNeeds, ReadsAnyFrame, ReadSymbolNeeds, ReadsAnySymbol};
+ghost use Rattle.passes.specs.ReadSymbol.{ReadPlacesNeeds, ReadsAnyPlaces, FrameLabels, ReadsFrame, ReadsPath, ReadFrameNeeds, ReadsAnyFrame, ReadSymbolNeeds, ReadsAnySymbol};
 use frame::BitWriter;
 use g9932::Answer;
 use g9932::Found;
@@ -69,6 +69,31 @@ pub fn frame_of_labels(
             }
             w.finish(held);
             Found::Nothing
+        }
+    }
+}
+
+// The same of labels that obey the code, as those along a path through the trellis do: nothing is tested. Called by proved code only.
+pub fn frame_of_path(
+    mode: Mode,
+    start: u8,
+    entries: &[u8],
+    places: &[u16],
+    labels: &[u16],
+    held: &mut [u8],
+)
+    requires { ⌜ FrameLabels mode start (now entries) (now places) (now labels) (now held) ⌝ }
+    ensures { λ _. ⌜ ReadsPath mode start (now (entries .entry)) (bitsOfLabels (now (entries .entry)) (labelsAt (now (places .entry)) (now (labels .entry)))) (now (held .exit)) ⌝ }
+{
+    let empty = BitWriter::starting_at(start);
+    match mode {
+        Mode::Uncoded => {
+            let w = mapper::read::collect_labels(empty, entries, places, labels, held);
+            w.finish(held);
+        }
+        Mode::Coded => {
+            let w = decoder::collect_pairs(empty, labels, entries, places, held);
+            w.finish(held);
         }
     }
 }

@@ -13,7 +13,7 @@ use Rattle.decoder.proofs.read_from.Statement.{statement}
 use Rattle.decoder.proofs.read_from.Tie as tie
 
 abbrev Inv-loop : tie.InvT-loop
-Inv-loop labels entries places from frame₀ k₀ i₀ frame k i = Decoding k₀ k entries (labelsAt places labels) frame₀ frame i₀ i
+Inv-loop labels entries places from frame₀ k₀ i₀ frame k i = Decoding (Unit {0}) k₀ k entries (labelsAt places labels) frame₀ frame i₀ i
 
 abbrev μ-loop : tie.MeasureT-loop
 μ-loop labels entries places from frame₀ k₀ i₀ frame k i = length entries - i
@@ -21,7 +21,7 @@ abbrev μ-loop : tie.MeasureT-loop
 -- the pair at hand, and its labels
 at-pair : (c : tie.After-entry-label2 Inv-loop μ-loop) → let a = c .before .before .before .before .before .before .before .before .before .before .args in
     let l = c .before .before .before .before .before .loop in
-    AtPair (a .c) (l .k) (a .entries .now) (labelsAt (a .places .now) (a .labels .now)) (a .frame .now) (l .frame) (a .from) (l .i)
+    AtPair (Unit {0}) (a .c) (l .k) (a .entries .now) (labelsAt (a .places .now) (a .labels .now)) (a .frame .now) (l .frame) (a .from) (l .i)
     (c .before .before .before .entry .result) (c .before .before .entry2 .result) (c .before .entry-label .result) (c .entry-label2 .result) (ltb (length (a .entries .now) - l .i) 6)
 at-pair c =
     record {
@@ -79,7 +79,7 @@ same-length : tie.Need-same-length Inv-loop μ-loop
 same-length c = c .before .before .before .before .read-pair .kept .1 .1 .1 .1 .1 .1 .0 ∙ c .before .before .before .before .before .before .before .before .before .before .before .loop .inv .kept
 
 returns : tie.Need-returns Inv-loop μ-loop
-returns c = decoding-broken (at-pair (c .before .before .before .before .before .before)) (c .before .before .before .before .read-pair .ensures) (not-true _ (c .if1 .taken))
+returns c = decoding-broken (at-pair (c .before .before .before .before .before .before)) (c .before .before .before .before .read-pair .ensures) (not-true _ (c .if1 .taken)) tt
 
 add-i : tie.Need-add-i Inv-loop μ-loop
 add-i c =
@@ -96,13 +96,13 @@ loop-less c =
 loop-again : tie.Need-loop-again Inv-loop μ-loop
 loop-again c =
     let p = c .before .before .before .before .before .read-pair in
-    decoding-step (at-pair (c .before .before .before .before .before .before .before)) (p .ensures) (not-false _ (c .before .if1 .left)) (p .kept .1 .1 .1 .1 .1 .1 .0)
+    decoding-step (at-pair (c .before .before .before .before .before .before .before)) (p .ensures) (λ _. not-false _ (c .before .if1 .left)) (p .kept .1 .1 .1 .1 .1 .1 .0)
 
 same-length-2 : tie.Need-same-length-2 Inv-loop μ-loop
 same-length-2 c = c .before .before .loop .inv .kept
 
 returns-2 : tie.Need-returns-2 Inv-loop μ-loop
-returns-2 c = decoding-end (c .before .before .loop .inv) (omega arith)
+returns-2 c = decoding-end (c .before .before .loop .inv) (omega arith) tt
 
 pub read-from-spec : {M : Type 1} → statement M
 read-from-spec =
