@@ -57,6 +57,10 @@ pub record ReadsPair (c : Reader) (forced : Bool) (p : Pair) (v w : ℕ) (frame 
   pub state : r .reader .state ≡ nextOf (c .state) (decodedIn p v w)
   pub puts : Put (c .writer) frame (takenBits forced (p .x) (decodedIn p v w)) (r .reader .writer) after
 
+-- the same, whether it obeys or not
+abbrev pub CollectsPair : Reader → Bool → Pair → ℕ → ℕ → List ℕ → Reader → List ℕ → Type 0
+CollectsPair c forced p v w frame r after = ReadsPair c forced p v w frame (record { obeys = obeysCode forced (c .state) (decodedIn p v w); reader = r }) after
+
 -- the reader before the first pair, behind what a writer has put
 abbrev pub firstReader : BitWriter → Reader
 firstReader w = record { state = zeroState; writer = w }

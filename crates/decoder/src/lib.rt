@@ -8,7 +8,7 @@ ghost use Rattle.frame.specs.Labels.{labelsAt, Placed, Rising};
 ghost use Rattle.g9932.specs.Sizes.{mostTones};
 ghost use Rattle.g9932.specs.Order.{Wide, pair};
 ghost use Rattle.g9932.specs.Trellis.{taken, nextState, obeysCode};
-ghost use Rattle.decoder.specs.Reading.{firstReader, decodedOf, wordBy, takenNumber, ReadPairNeeds, ReadsPair, ReadPairsNeeds, ReadsFrom, ReadLabelNeeds, ReadsLabels, CollectsFrom, CollectsPairs};
+ghost use Rattle.decoder.specs.Reading.{firstReader, decodedOf, wordBy, takenNumber, ReadPairNeeds, ReadsPair, CollectsPair, ReadPairsNeeds, ReadsFrom, ReadLabelNeeds, ReadsLabels, CollectsFrom, CollectsPairs};
 use frame::BitWriter;
 use frame::by_place::label_at;
 use frame::by_place::place_at;
@@ -239,8 +239,31 @@ pub fn read_labels(
     read_from(reader, labels, entries, places, 0, frame)
 }
 
-// Collects the frame bits of the pairs from entry `from` on. Labels along a path through the trellis obey the code: nothing is
-// tested, and the compiler leaves the state out.
+// The reader after a pair with x at least 2 whose labels obey the code. It is not `read_pair`'s, so that the compiler has one caller of each
+// and can leave out here the state, which nothing is compared with.
+fn collect_pair(
+    c: Reader,
+    forced: bool,
+    x: usize,
+    y: usize,
+    v: u32,
+    w: u32,
+    frame: &mut [u8],
+) -> Reader
+    requires { ⌜ (2 ≤ x) × (x ≤ 15) × (2 ≤ y) × (y ≤ 15) × ReadPairNeeds c (pair x y) v w (now frame) ⌝ }
+    ensures { λ r. ⌜ CollectsPair c forced (pair x y) v w (now (frame .entry)) r (now (frame .exit)) ⌝ }
+{
+    let s = c.state;
+    let writer = c.writer;
+    let u = decode_word(v, w, x);
+    let next = next_state(s, u.u1, u.u2);
+    Reader {
+        state: next,
+        writer: writer.put(frame, taken_count(forced, x, y), taken_number(forced, u)),
+    }
+}
+
+// Collects the frame bits of the pairs from entry `from` on. Labels along a path through the trellis obey the code: nothing is tested.
 fn collect_from(
     c: Reader,
     labels: &[u16],
@@ -256,7 +279,7 @@ fn collect_from(
     let mut i = from;
     while i + 1 < entries.len() {
         let ends = entries.len() - i < 6;
-        let p = read_pair(
+        k = collect_pair(
             k,
             ends,
             entry(entries, i),
@@ -265,7 +288,6 @@ fn collect_from(
             entry_label(labels, places, i + 1),
             frame,
         );
-        k = p.reader;
         i += 2;
     }
     k.writer

@@ -62,22 +62,22 @@ entry-label-requires-2 c κs =
     let s = c .before .before .before .before .before .before .before .before .before in
     (rw (s .pre .2 .placesLength) (c .before .before .before .loop-test .taken), s .pre .2 .rising)
 
-read-pair-requires : tie.Need-read-pair-requires Inv-loop μ-loop
-read-pair-requires c κs =
+collect-pair-requires : tie.Need-collect-pair-requires Inv-loop μ-loop
+collect-pair-requires c κs =
     let h = at-pair (c .before) in
     let q = at-wide h in
     (q .0, q .1, q .2, q .3, pair-needs h)
 
 add-i : tie.Need-add-i Inv-loop μ-loop
-add-i c = record { fits = (pair-inside (c .before .before .before .before .before .before .before .before .before .loop-test .taken) (c .before .before .before .before .before .before .before .before .before .before .before .before .before .before .before .pre .1)) .after }
+add-i c = record { fits = (pair-inside (c .before .before .before .before .before .before .before .before .loop-test .taken) (c .before .before .before .before .before .before .before .before .before .before .before .before .before .before .pre .1)) .after }
 
 loop-less : tie.Need-loop-less Inv-loop μ-loop
-loop-less c = (pair-inside (c .before .before .before .before .before .before .before .before .before .loop-test .taken) (c .before .before .before .before .before .before .before .before .before .before .before .before .before .before .before .pre .1)) .less
+loop-less c = (pair-inside (c .before .before .before .before .before .before .before .before .loop-test .taken) (c .before .before .before .before .before .before .before .before .before .before .before .before .before .before .pre .1)) .less
 
 loop-again : tie.Need-loop-again Inv-loop μ-loop
 loop-again c =
-    let p = c .before .before .before .read-pair in
-    let h = at-pair (c .before .before .before .before .before) in
+    let p = c .before .before .collect-pair in
+    let h = at-pair (c .before .before .before .before) in
     decoding-step h (p .ensures) (pair-obeys h (p .ensures) (λ z. z)) (p .kept .1 .1 .1 .1 .1 .1 .0)
 
 same-length : tie.Need-same-length Inv-loop μ-loop
@@ -101,7 +101,7 @@ collect-from-spec =
     entry-label-requires
     add-entry-label
     entry-label-requires-2
-    read-pair-requires
+    collect-pair-requires
     add-i
     loop-less
     loop-again
