@@ -243,8 +243,8 @@ fn in_grid(b: u32, six: u32) -> bool
     (ODD_GRID >> six) % 2 == 1
 }
 
-// The label of a point, where the constellation has the point. Called by proved code only.
-pub fn label_of(b: u32, x: i16, y: i16) -> FoundLabel
+// The label of a point, where the constellation has the point.
+fn label_of(b: u32, x: i16, y: i16) -> FoundLabel
     requires { ⌜ (1 ≤ b) × (b ≤ 15) ⌝ }
     ensures { λ r. ⌜ FoundLabelIs r (labelOf b (point x y)) ⌝ }
 {

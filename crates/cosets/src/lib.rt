@@ -1,7 +1,8 @@
 // What the labels of a tone cost, and the nearest of a coset, the labels with given two lowest bits. Nothing is searched: the points of a
 // coset are odd numbers four apart on each axis, in a rectangle or in the union of two, and the nearest one is found by clamping.
-// Coordinates are raised by 1,024, so that they are positive; the coordinate 2 u + 1, raised, has the place u. Numbers have sixteen bits and
-// the steps are the same for every tone, so that a loop over many takes several at a time. Proved code alone calls what has a `requires`.
+// Coordinates are raised by 1,024, so that they are positive; a raised coordinate of 2 u + 1 has the place u. Coordinates and places have
+// sixteen bits and the steps are the same for every tone, so that a loop over many takes several at a time. Proved code alone calls what has
+// a `requires`.
 ghost use mathlib.Core.Bool.{cond};
 ghost use mathlib.Core.Path.{_≡_};
 ghost use Prim.Native.Nat.{_+_, _*_, _≤_, _<_, min, max};

@@ -1,5 +1,5 @@
 // The labels that are decided for received points. Costs and labels go by place in t', in loops whose steps are the same at every place: the
-// compiler takes several places at a time. Between them the trellis is searched entry by entry. Proved code alone calls what has a
+// compiler takes several places at a time. Between them the trellis is searched pair by pair. Proved code alone calls what has a
 // `requires`.
 ghost use mathlib.Core.List.{List};
 ghost use mathlib.Core.Path.{_≡_};

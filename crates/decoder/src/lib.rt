@@ -1,5 +1,5 @@
-// The trellis code decoded: labels back to a frame's bits. Each pair is checked against the code, and its frame
-// bits are put together. Proved code alone calls what has a `requires`.
+// The trellis code decoded: labels back to a frame's bits. Exact reading checks each pair against the code; labels along a path through the
+// trellis need no check. Proved code alone calls what has a `requires`.
 ghost use mathlib.Core.Path.{_≡_};
 ghost use mathlib.Core.Bool.{false};
 ghost use Prim.Native.Nat.{_^_, _≤_, _<_};

@@ -415,7 +415,7 @@ module _ (T : Tables) (r start : ℕ) (xs ys : List ℤ) (f₀ : List ℕ) (read
 -- An operation that reads so (`ReadsNearest`), with its answer a, and with f and work′ left in the lent buffers. Whatever the inputs:
 module _ (T : Tables) (X Y : List ℤ) (r start : ℕ) (f₀ work : List ℕ) (a : Nearest) (f work′ : List ℕ)
     (reads : ReadsNearest T X Y r start f₀ work a f work′) where
-  -- where it is DONE, f is a nearest frame, with the total told; so all of the above holds of it.
+  -- where it is DONE, f is a nearest frame, with the total told; so all of the above holds of it, f being bytes (`Bytes`) by its type.
   pub nearest-answer : nearestOf a .verdict .number ≡ 0 → NearestFrame T (points X Y) r start f (totalIn a)
   nearest-answer = NearestAnswers.nearest-answer T X Y r start f₀ work a f work′ reads
 

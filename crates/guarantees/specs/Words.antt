@@ -1,4 +1,4 @@
--- The words that the guarantees are stated with: document 01, "The words of demand 3", and those of the sent bits.
+-- The words that the guarantees are stated with: document 01, "The words of demand 3", those of the sent bits, and those of received points.
 use Prim.Native.Nat.{ℕ, zero, suc, _+_, _*_, _-_, _/_, _<_}
 use mathlib.Core.Bool.{Bool, false, not}
 use mathlib.Core.List.{List, [], _∷_, _++_, map}

@@ -114,7 +114,7 @@ fn decide_labels(
 }
 
 // The nearest frame of points in range, by the plan of their tables, with its total. Every input is known to pass, and no pair of a path
-// through the trellis breaks the code.
+// through the trellis breaks the code. Of the filler bits only the register after them is needed.
 fn read_planned(
     mode: Mode,
     shared_from: Place,
