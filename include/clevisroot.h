@@ -7,7 +7,7 @@
  *
  * It checks bit, gain and tone tables, re-orders them, turns a frame of bits into one integer
  * point per tone, and turns points back into the frame, noisy ones into the nearest: with trellis
- * coding or without.
+ * coding or without. It keeps a pair's report, which counts wrong bits and refused symbols.
  *
  * Link with libclevisroot.a (pkg-config: clevisroot). The archive needs memcpy and memset and no
  * other symbol, at most CLEVISROOT_STACK bytes of stack (clevisroot_read_nearest:
@@ -71,10 +71,26 @@
  * bits, in the order of t'; those of a silent tone are thrown away. Give it to the next symbol. A
  * reader must be given what the writer was given.
  *
+ * THE PAIR'S REPORT
+ *
+ * A tally counts over the symbols of a pair: how many were given, how many of them were refused, how
+ * many were read as another frame than was sent, in how many bits, and which was the first that was
+ * refused. It is a struct that the caller owns; clevisroot_tally_new makes one, and resets one. Each
+ * symbol is given once, as the frame that was sent with either the frame that was read
+ * (clevisroot_tally_read) or the number of the refusal (clevisroot_tally_refused); the answer has the
+ * tally to go on with. Wrong bits are the ones in the exclusive-or of the two frames; a refused symbol
+ * adds none. A refused entry leaves the tally as it was. After any calls from a new tally the figures
+ * are those of the accepted entries since the last reset.
+ *
+ * A tally holds 65535 symbols, and its figures fit 32 bits however these were read. Any numbers may
+ * come in from outside: a figure that would not fit stays at UINT32_MAX, and first_refused is set only
+ * where it is CLEVISROOT_NONE_REFUSED.
+ *
  * ANSWERS AND REFUSALS
  *
  * Every answer has a number: 0 if the call is done, else the number below. If several refusals
- * apply, the smallest number is given (clevisroot_read_point alone tests 16 before 13). So in
+ * apply, the smallest number is given (but clevisroot_read_point tests 16 before 13, and the calls of
+ * a tally 22 before 11). So in
  * reading without noise all places pass 13 before any is tested for 14, and all 14 before any pair
  * is tested for 15. A refused call writes nothing to any buffer, has size and total 0, and hands the
  * register back as it was given. A call that is done writes the whole of each output.
@@ -92,13 +108,16 @@
  *   10   a lent output, a point list or a working buffer has not its     0
  *        exact length
  *   11   the start is above 7; or, of a frame to be encoded, the length  0
- *        is wrong, or a bit before the start or after the end is 1
+ *        is wrong, or a bit before the start or after the end is 1; or,
+ *        of a tally's entry, the two frames' lengths differ, a frame is
+ *        above 7681 bytes, or the refusal's number is 0
  *   12   the register is 0 or above 8388607                              0
  *   13   a point is not one that its tone can have                       first place in t'
  *   14   a monitored tone's point is not the one its filler bits give    first place in t'
  *   15   a pair of entries breaks the trellis code                       number of the first pair
  *   16   one-tone calls: bits not 1 to 15, or label not below 2^bits     0
- *   17 to 22 unused: no call gives them
+ *   17 to 21 unused: no call gives them
+ *   22   the pair's report holds 65535 symbols                           0
  *   23   nearest reading: a coordinate is below -1023 or above 1023      first place in t'
  *
  * Places, sub-carriers and pairs count from 0. For 13 a monitored tone can have the points of 2
@@ -168,11 +187,16 @@ enum {
     CLEVISROOT_MONITOR = 14,
     CLEVISROOT_TRELLIS = 15,
     CLEVISROOT_LABEL = 16,
+    CLEVISROOT_FULL = 22,
     CLEVISROOT_RANGE = 23
 };
 
 /* The register at reset. */
 #define CLEVISROOT_RESET UINT32_C(8388607)
+
+/* The most symbols that a tally holds. As the number of the first refused symbol: none was refused. */
+#define CLEVISROOT_MAX_SYMBOLS 65535
+#define CLEVISROOT_NONE_REFUSED 65535
 
 /* What the calls with tables answer, but for clevisroot_read_nearest. */
 typedef struct {
@@ -203,6 +227,20 @@ typedef struct {
     uint32_t bit; /* 0 or 1; 0 on refusal */
     uint32_t reg; /* the register after the draw; as given on refusal */
 } clevisroot_drawn;
+
+/* The report of a pair. Symbols count from 0. */
+typedef struct {
+    uint32_t symbols;       /* symbols given */
+    uint32_t refused;       /* symbols refused */
+    uint32_t wrong_frames;  /* frames read as another than was sent */
+    uint32_t wrong_bits;    /* bits that differ in them */
+    uint32_t first_refused; /* the first refused symbol; CLEVISROOT_NONE_REFUSED if none */
+} clevisroot_tally;
+
+typedef struct {
+    uint32_t number;
+    clevisroot_tally tally; /* with the entry; as given on refusal */
+} clevisroot_tallied;
 
 /* The version of this header as text. */
 static inline const char *clevisroot_version(void)
@@ -325,6 +363,27 @@ clevisroot_label clevisroot_read_point(uint8_t bits, int16_t x, int16_t y);
 
 /* Draws one filler bit. Refusal 12 if the register is 0 or above 8388607. */
 clevisroot_drawn clevisroot_draw(uint32_t reg);
+
+/* A new tally, which is as reset: no symbol was given. */
+clevisroot_tally clevisroot_tally_new(void);
+
+/*
+ * Counts a symbol that was read: the frame that was sent, and the one that was read.
+ * Refusals 22 if the tally holds 65535 symbols; then 11 if the frames' lengths differ or are above
+ * CLEVISROOT_MAX_FRAME.
+ */
+clevisroot_tallied clevisroot_tally_read(
+    clevisroot_tally tally, const uint8_t *sent, size_t sent_len,
+    const uint8_t *read, size_t read_len);
+
+/*
+ * Counts a symbol that was refused: the frame that was sent, and the number of the refusal, which may
+ * be any but 0.
+ * Refusals 22 if the tally holds 65535 symbols; then 11 if the frame is above CLEVISROOT_MAX_FRAME
+ * bytes or the number is 0.
+ */
+clevisroot_tallied clevisroot_tally_refused(
+    clevisroot_tally tally, const uint8_t *sent, size_t sent_len, uint32_t refusal);
 
 #ifdef __cplusplus
 }

@@ -31,6 +31,7 @@ static inline const char *clevisroot_refusal_name(uint32_t number)
     case CLEVISROOT_MONITOR: return "MONITOR";
     case CLEVISROOT_TRELLIS: return "TRELLIS";
     case CLEVISROOT_LABEL: return "LABEL";
+    case CLEVISROOT_FULL: return "FULL";
     case CLEVISROOT_RANGE: return "RANGE";
     default: return "UNKNOWN";
     }

@@ -14,6 +14,11 @@ pub const MAX_TONES: usize = 4096;
 pub const MAX_FRAME: usize = 7681;
 pub const MAX_WORK: usize = 32768;
 
+/// The most symbols that a tally holds; as the number of the first refused symbol, that none was
+/// refused.
+pub const MAX_SYMBOLS: u32 = 65535;
+pub const NONE_REFUSED: u32 = 65535;
+
 /// Number and place of the refusal (0 and 0 if done), frame size L, register.
 #[repr(C)]
 #[derive(Clone, Copy, Debug, PartialEq, Eq)]
@@ -56,6 +61,26 @@ pub struct Drawn {
     pub number: u32,
     pub bit: u32,
     pub reg: u32,
+}
+
+/// The report of a pair: symbols given, symbols refused, frames read wrong, wrong bits, and the first
+/// refused symbol, [`NONE_REFUSED`] if none.
+#[repr(C)]
+#[derive(Clone, Copy, Debug, PartialEq, Eq)]
+pub struct Tally {
+    pub symbols: u32,
+    pub refused: u32,
+    pub wrong_frames: u32,
+    pub wrong_bits: u32,
+    pub first_refused: u32,
+}
+
+/// The tally with an entry more, or as it was given where the entry is refused.
+#[repr(C)]
+#[derive(Clone, Copy, Debug, PartialEq, Eq)]
+pub struct Tallied {
+    pub number: u32,
+    pub tally: Tally,
 }
 
 /// The mode and the lent tables. `coded` 0 is uncoded, anything else coded.
@@ -234,4 +259,24 @@ pub fn read_point(bits: u8, x: i16, y: i16) -> Label {
 pub fn draw(reg: u32) -> Drawn {
     // SAFETY: takes and returns numbers only.
     unsafe { raw::clevisroot_draw(reg) }
+}
+
+/// A new tally, which is as reset.
+pub fn tally_new() -> Tally {
+    // SAFETY: takes nothing and returns numbers only.
+    unsafe { raw::clevisroot_tally_new() }
+}
+
+/// Counts a symbol that was read.
+pub fn tally_read(tally: Tally, sent: &[u8], read: &[u8]) -> Tallied {
+    // SAFETY: each pointer and length come from one live slice; the library keeps none of them.
+    unsafe {
+        raw::clevisroot_tally_read(tally, sent.as_ptr(), sent.len(), read.as_ptr(), read.len())
+    }
+}
+
+/// Counts a symbol that was refused, with the number of the refusal.
+pub fn tally_refused(tally: Tally, sent: &[u8], refusal: u32) -> Tallied {
+    // SAFETY: the pointer and the length come from one live slice; the library keeps neither.
+    unsafe { raw::clevisroot_tally_refused(tally, sent.as_ptr(), sent.len(), refusal) }
 }

@@ -1,7 +1,7 @@
 //! The declarations of include/clevisroot.h, to which `tests/header.rs` holds them. Nothing checks
 //! them against the library.
 
-use crate::{Answer, Drawn, Label, Nearest, Point};
+use crate::{Answer, Drawn, Label, Nearest, Point, Tallied, Tally};
 
 extern "C" {
     pub fn clevisroot_check(
@@ -121,4 +121,21 @@ extern "C" {
     pub fn clevisroot_map_label(bits: u8, label: u32) -> Point;
     pub fn clevisroot_read_point(bits: u8, x: i16, y: i16) -> Label;
     pub fn clevisroot_draw(reg: u32) -> Drawn;
+
+    pub fn clevisroot_tally_new() -> Tally;
+
+    pub fn clevisroot_tally_read(
+        tally: Tally,
+        sent: *const u8,
+        sent_len: usize,
+        read: *const u8,
+        read_len: usize,
+    ) -> Tallied;
+
+    pub fn clevisroot_tally_refused(
+        tally: Tally,
+        sent: *const u8,
+        sent_len: usize,
+        refusal: u32,
+    ) -> Tallied;
 }

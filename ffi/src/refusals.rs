@@ -29,7 +29,8 @@ refusals! {
     MONITOR = 14,
     TRELLIS = 15,
     LABEL = 16,
-    // 17 to 22 are unused
+    // 17 to 21 are unused
+    FULL = 22,
     RANGE = 23,
 }
 

@@ -1,7 +1,7 @@
 //! The C headers say what the Rust side says: version, numbers, names, sizes, and each function's
 //! arguments.
 
-use clevisroot_sys::{refusals, MAX_FRAME, MAX_TONES, MAX_WORK, RESET};
+use clevisroot_sys::{refusals, MAX_FRAME, MAX_SYMBOLS, MAX_TONES, MAX_WORK, NONE_REFUSED, RESET};
 use std::collections::BTreeMap;
 
 const HEADER: &str = include_str!("../../include/clevisroot.h");
@@ -32,6 +32,8 @@ fn the_sizes_and_the_reset_are_the_same() {
     assert_eq!(MAX_FRAME, (7 + 15 * MAX_TONES).div_ceil(8));
     assert_eq!(defined("CLEVISROOT_MAX_WORK"), MAX_WORK.to_string());
     assert_eq!(MAX_WORK, 16 * MAX_TONES.div_ceil(2));
+    assert_eq!(defined("CLEVISROOT_MAX_SYMBOLS"), MAX_SYMBOLS.to_string());
+    assert_eq!(defined("CLEVISROOT_NONE_REFUSED"), NONE_REFUSED.to_string());
     let reset = format!("UINT32_C({RESET})");
     assert_eq!(defined("CLEVISROOT_RESET"), reset);
 }
@@ -65,6 +67,7 @@ fn a_number_that_is_none_is_unknown() {
     assert_eq!(refusals::name(refusals::TRELLIS), "TRELLIS");
     assert_eq!(refusals::name(refusals::RANGE), "RANGE");
     assert_eq!(refusals::name(9), "UNKNOWN");
+    assert_eq!(refusals::name(22), "FULL");
     assert_eq!(refusals::name(17), "UNKNOWN");
     assert_eq!(refusals::name(99), "UNKNOWN");
     assert!(NAMES.contains("default: return \"UNKNOWN\";"));
@@ -81,7 +84,8 @@ fn declared(
         let (name, rest) = rest.split_once('(').expect("arguments");
         let (arguments, _) = rest.split_once(after).expect("an end");
         let arguments = arguments.split(',').map(str::trim);
-        let arguments = arguments.filter(|one| !one.is_empty()).map(written);
+        let arguments = arguments.filter(|one| !["", "void"].contains(one));
+        let arguments = arguments.map(written);
         (name.to_string(), arguments.collect())
     });
     functions.collect()
@@ -96,6 +100,7 @@ fn in_rust(argument: &str) -> String {
     };
     let kind = match kind {
         "size_t" => "usize".to_string(),
+        "clevisroot_tally" => "Tally".to_string(),
         fixed => fixed
             .replace("int", "i")
             .replace("ui", "u")
@@ -113,11 +118,13 @@ fn every_function_has_the_header_s_arguments() {
         let before = format!("\nclevisroot_{answer} clevisroot_");
         declared(HEADER, &before, ");", in_rust)
     };
-    let header: BTreeMap<_, _> = ["answer", "nearest", "point", "label", "drawn"]
-        .into_iter()
-        .flat_map(of)
-        .collect();
+    let header: BTreeMap<_, _> = [
+        "answer", "nearest", "point", "label", "drawn", "tally", "tallied",
+    ]
+    .into_iter()
+    .flat_map(of)
+    .collect();
     let raw = declared(RAW, "pub fn clevisroot_", ") ->", str::to_string);
-    assert_eq!(header.len(), 10);
+    assert_eq!(header.len(), 13);
     assert_eq!(header, raw);
 }

@@ -1,0 +1,115 @@
+// The pair report, for the hand-held only: how the symbols of a pair were read, and how many of their bits are wrong.
+pub mod wrong_bits;
+
+ghost use mathlib.Core.Path.{_≡_};
+ghost use mathlib.Core.Bool.{cond};
+ghost use lib.Dec.{eqb};
+ghost use Rattle.tally.specs.PairReport.{readAs, refusedWith, mostSymbols, raised, tallied, toldBy, newTally};
+ghost use Rattle.tally.specs.declared.Tallied.the-variants as T;
+use g9932::Refusal;
+
+// The bytes of the longest frame.
+const MOST_BYTES: usize = 7681;
+
+// As many symbols as a tally holds; as the number of the first refused symbol it says that none was refused.
+const MOST_SYMBOLS: u32 = 65535;
+
+// The report of a pair: symbols given, symbols refused, frames read wrong, wrong bits, and the number of the first refused symbol.
+#[repr(C)]
+pub struct Tally {
+    pub symbols: u32,
+    pub refused: u32,
+    pub wrong_frames: u32,
+    pub wrong_bits: u32,
+    pub first_refused: u32,
+}
+
+// The answer to an entry: the tally with it, or a refusal and the tally as it came.
+pub enum Tallied {
+    Counted(Tally),
+    Refused { refusal: Refusal, tally: Tally },
+}
+
+// A figure raised; it stays at the most that 32 bits hold.
+fn raise(figure: u32, by: u32) -> u32
+    ensures { λ r. ⌜ r ≡ raised figure by ⌝ }
+{
+    if by > 4294967295 - figure {
+        return 4294967295;
+    }
+    figure + by
+}
+
+impl Tally {
+    // A new tally, which is as reset.
+    pub fn as_reset() -> Self
+        ensures { λ r. ⌜ r ≡ newTally ⌝ }
+    {
+        Self {
+            symbols: 0,
+            refused: 0,
+            wrong_frames: 0,
+            wrong_bits: 0,
+            first_refused: MOST_SYMBOLS,
+        }
+    }
+
+    // A symbol that was read: the frame that was sent, and the one that was read.
+    pub fn read(self, sent: &[u8], back: &[u8]) -> Tallied
+        ensures { λ r. ⌜ toldBy r ≡ tallied self (readAs (now (sent .entry)) (now (back .entry))) ⌝ }
+    {
+        if self.symbols >= MOST_SYMBOLS {
+            return self.refuse(Refusal::Full);
+        }
+        if sent.len() != back.len() || sent.len() > MOST_BYTES {
+            return self.refuse(Refusal::Frame);
+        }
+        let wrong = wrong_bits::wrong_bits(sent, back);
+        Tallied::Counted(Tally {
+            symbols: self.symbols + 1,
+            refused: self.refused,
+            wrong_frames: raise(self.wrong_frames, (wrong > 0) as u32),
+            wrong_bits: raise(self.wrong_bits, wrong),
+            first_refused: self.first_refused,
+        })
+    }
+
+    // A symbol that was refused: the frame that was sent, and the refusal's number.
+    pub fn refused(self, sent: &[u8], refusal: u32) -> Tallied
+        ensures { λ r. ⌜ toldBy r ≡ tallied self (refusedWith (now (sent .entry)) refusal) ⌝ }
+    {
+        if self.symbols >= MOST_SYMBOLS {
+            return self.refuse(Refusal::Full);
+        }
+        if sent.len() > MOST_BYTES || refusal == 0 {
+            return self.refuse(Refusal::Frame);
+        }
+        Tallied::Counted(Tally {
+            symbols: self.symbols + 1,
+            refused: raise(self.refused, 1),
+            wrong_frames: self.wrong_frames,
+            wrong_bits: self.wrong_bits,
+            first_refused: self.first_of(),
+        })
+    }
+
+    // A refused entry, with the tally as it came.
+    fn refuse(self, refusal: Refusal) -> Tallied
+        ensures { λ r. ⌜ r ≡ T.Refused refusal self ⌝ }
+    {
+        Tallied::Refused {
+            refusal,
+            tally: self,
+        }
+    }
+
+    // The first refused symbol, where the next one is refused.
+    fn first_of(self) -> u32
+        ensures { λ r. ⌜ r ≡ cond (eqb (self .«first_refused») mostSymbols) (self .symbols) (self .«first_refused») ⌝ }
+    {
+        if self.first_refused == MOST_SYMBOLS {
+            return self.symbols;
+        }
+        self.first_refused
+    }
+}
