@@ -12,6 +12,7 @@ use Rattle.g9932.specs.Refusals.{Verdict}
 use Rattle.g9932.specs.Answers.{Report, OneTone, Draw, reorderOf, encodeAt, readAt}
 use Rattle.g9932.specs.Aligned.{encodeOf, readOf}
 use Rattle.g9932.specs.Nearest.{NearestFrame, nearestVerdict, nearestReport}
+use Rattle.tally.specs.PairReport.{Told}
 use Rattle.g9932.specs.declared.Mode.{Mode}
 use Rattle.g9932.specs.declared.Mode.the-variants.{Uncoded, Coded}
 use Rattle.clevisroot.specs.declared.SymbolAnswer.{SymbolAnswer}
@@ -19,6 +20,7 @@ use Rattle.clevisroot.specs.declared.NearestAnswer.{NearestAnswer}
 use Rattle.clevisroot.specs.declared.PointAnswer.{PointAnswer}
 use Rattle.clevisroot.specs.declared.LabelAnswer.{LabelAnswer}
 use Rattle.clevisroot.specs.declared.DrawAnswer.{DrawAnswer}
+use Rattle.clevisroot.specs.declared.TallyAnswer.{TallyAnswer}
 
 -- 0 is uncoded, anything else coded
 abbrev pub modeOf : ℕ → Mode
@@ -103,3 +105,8 @@ labelAnswered a = record { number = a .number; label = numberOr (a .value) 0 }
 
 abbrev pub drawAnswered : Draw → DrawAnswer
 drawAnswered a = record { number = a .number; bit = bitOr (a .bit) 0; reg = a .register }
+
+-- ---- the pair report
+
+abbrev pub tallyAnswered : Told → TallyAnswer
+tallyAnswered a = record { number = a .number; tally = a .tally }

@@ -5,7 +5,8 @@ ghost use Rattle.g9932.specs.Sizes.{tables, mostTones, point};
 ghost use Rattle.g9932.specs.Refusals.{numberOf, placeOf, refused, tableVerdict};
 ghost use Rattle.g9932.specs.Answers.{verdictOf, reportOf, mapLabel, readPoint, drawAnswer};
 ghost use Rattle.g9932.specs.Nearest.{nearestOf, totalIn};
-ghost use Rattle.clevisroot.specs.CAnswers.{modeOf, answerOf, reported, withTotal, nearestAnswer, pointAnswered, labelAnswered, drawAnswered, Small, ReorderAnswered, EncodeAnswered, ReadAnswered, EncodeAtAnswered, ReadAtAnswered, NearestAnswered};
+ghost use Rattle.clevisroot.specs.CAnswers.{modeOf, answerOf, reported, withTotal, nearestAnswer, pointAnswered, labelAnswered, drawAnswered, tallyAnswered, Small, ReorderAnswered, EncodeAnswered, ReadAnswered, EncodeAtAnswered, ReadAtAnswered, NearestAnswered};
+ghost use Rattle.tally.specs.PairReport.{readAs, refusedWith, tallied, toldBy, newTally};
 use g9932::Answer;
 use g9932::Checked;
 use g9932::Drawn;
@@ -16,6 +17,8 @@ use g9932::Nearest;
 use g9932::Refusal;
 use g9932::number_of;
 use g9932::place_of;
+use tally::Tallied;
+use tally::Tally;
 
 // What the calls with tables answer: 0 or the refusal, its place, L and the register.
 #[repr(C)]
@@ -57,6 +60,13 @@ pub struct DrawAnswer {
     pub number: u32,
     pub bit: u32,
     pub reg: u32,
+}
+
+// What counting a symbol answers: 0 or the refusal, and the tally to go on with.
+#[repr(C)]
+pub struct TallyAnswer {
+    pub number: u32,
+    pub tally: Tally,
 }
 
 // 0 is uncoded, anything else coded.
@@ -138,6 +148,19 @@ fn nearest_answered(answer: Nearest) -> NearestAnswer
             total,
         } => with_total(answered(Answer::Done { size, register }), total),
         Nearest::Refused { refusal, register } => with_total(refuse(refusal, register), 0),
+    }
+}
+
+// The answer of counting a symbol.
+fn tally_answered(answer: Tallied) -> TallyAnswer
+    ensures { λ r. ⌜ r ≡ tallyAnswered (toldBy answer) ⌝ }
+{
+    match answer {
+        Tallied::Counted(tally) => TallyAnswer { number: 0, tally },
+        Tallied::Refused { refusal, tally } => TallyAnswer {
+            number: number_of(refusal),
+            tally,
+        },
     }
 }
 
@@ -305,4 +328,25 @@ pub extern "C" fn clevisroot_draw(reg: u32) -> DrawAnswer
             reg: register,
         },
     }
+}
+
+#[no_mangle]
+pub extern "C" fn clevisroot_tally_new() -> Tally
+    ensures { λ r. ⌜ r ≡ newTally ⌝ }
+{
+    Tally::as_reset()
+}
+
+#[no_mangle]
+pub extern "C" fn clevisroot_tally_read(tally: Tally, sent: &[u8], read: &[u8]) -> TallyAnswer
+    ensures { λ r. ⌜ r ≡ tallyAnswered (tallied tally (readAs (now (sent .entry)) (now (read .entry)))) ⌝ }
+{
+    tally_answered(tally.read(sent, read))
+}
+
+#[no_mangle]
+pub extern "C" fn clevisroot_tally_refused(tally: Tally, sent: &[u8], refusal: u32) -> TallyAnswer
+    ensures { λ r. ⌜ r ≡ tallyAnswered (tallied tally (refusedWith (now (sent .entry)) refusal)) ⌝ }
+{
+    tally_answered(tally.refused(sent, refusal))
 }
