@@ -1,0 +1,4 @@
+-- `Theorems` is the page of theorems; the others are its parts.
+pub mod Answers
+pub mod Figures
+pub mod WrongBits
