@@ -61,19 +61,10 @@ wrong-more (d ∷ es) e = omega (arith, wrong-more es e)
 
 first-more : (k : ℕ) (es : List Entry) (e : Entry) → k + length es < mostSymbols
     → firstRefused k (es ++ (e ∷ [])) ≡ cond (isRefused e && eqb (firstRefused k es) mostSymbols) (k + length es) (firstRefused k es)
-first-more k [] e h = go (isRefused e)
-  where
-    go : (c : Bool) → cond c k mostSymbols ≡ cond (c && true) (k + 0) mostSymbols
-    go true = sym (add-zero k)
-    go false = refl
-first-more k (d ∷ es) e h = go (isRefused d) (first-more (suc k) es e (omega arith))
-  where
-    go : (c : Bool)
-        → firstRefused (suc k) (es ++ (e ∷ [])) ≡ cond (isRefused e && eqb (firstRefused (suc k) es) mostSymbols) (suc k + length es) (firstRefused (suc k) es)
-        → cond c k (firstRefused (suc k) (es ++ (e ∷ [])))
-        ≡ cond (isRefused e && eqb (cond c k (firstRefused (suc k) es)) mostSymbols) (k + suc (length es)) (cond c k (firstRefused (suc k) es))
-    go true ih = rw (ne-eqb k mostSymbols (λ x. omega arith), and-false)
-    go false ih = let s : suc k + length es ≡ k + suc (length es) = omega arith in rw s at ih
+first-more k [] (readAs s r) h = refl
+first-more k [] (refusedWith s n) h = sym (add-zero k)
+first-more k (readAs s r ∷ es) e h = let p : suc k + length es ≡ k + suc (length es) = omega arith in rw p at (first-more (suc k) es e (omega arith))
+first-more k (refusedWith s n ∷ es) e h = rw (ne-eqb k mostSymbols (λ x. omega arith), and-false)
 
 raised-plain : (figure by : ℕ) → figure + by ≤ mostFigure → figure + by ≡ raised figure by
 raised-plain figure by h = rw (le-ltb mostFigure (figure + by) h)

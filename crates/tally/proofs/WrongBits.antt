@@ -36,7 +36,7 @@ ones-same : (a : ℕ) → ones (bitXor a a) ≡ 0
 unfolding ones
 ones-same a = ap ones (xor-self a)
 
-same-right : (s : List ℕ) → wrongBits s s ≡ 0
+pub same-right : (s : List ℕ) → wrongBits s s ≡ 0
 unfolding wrongBits
 same-right [] = refl
 same-right (a ∷ s) = omega (arith, ones-same a, same-right s)
