@@ -1,5 +1,5 @@
 -- Laws of one call, for any tally whatever: its three answers, and that no figure goes down.
-use Prim.Native.Nat.{ℕ, _+_, _≤_, _<_}
+use Prim.Native.Nat.{ℕ, _+_, _^_, _≤_, _<_}
 use mathlib.Core.Bool.{Bool, true, false, cond}
 use mathlib.Core.Logic.{_↔_, _≢_, _⊎_, inl, inr}
 use mathlib.Core.Path.{_≡_, refl, ap}
@@ -8,7 +8,6 @@ use borrow.Author.Tests.{leb-true, leb-false, le-leb, lt-leb}
 use lib.Dec.{ltb}
 use Rattle.g9932.specs.Refusals.{refuseIf}
 use Rattle.tally.specs.PairReport.{Entry, mostSymbols, fullTest, entryTest, tallyVerdict, mostFigure, raised, withEntry, Told, tallied}
-use Rattle.tally.specs.Words.{Fits}
 use Rattle.tally.specs.declared.Tally.{Tally}
 
 module _ (t : Tally) (e : Entry) where
@@ -97,13 +96,14 @@ raised-more figure by h = go (ltb mostFigure (figure + by))
     go true = h
     go false = omega arith
 
-pub never-less : (t : Tally) (e : Entry) → Fits t
-    → (t .symbols ≤ tallied t e .tally .symbols) × (t .refused ≤ tallied t e .tally .refused)
-    × (t .«wrong_frames» ≤ tallied t e .tally .«wrong_frames») × (t .«wrong_bits» ≤ tallied t e .tally .«wrong_bits»)
-never-less t e f = go (answer t e)
+-- the counts of the second tally are those of the first, or larger
+abbrev pub NotLess : Tally → Tally → Type 0
+NotLess t u = (t .symbols ≤ u .symbols) × (t .refused ≤ u .refused) × (t .«wrong_frames» ≤ u .«wrong_frames») × (t .«wrong_bits» ≤ u .«wrong_bits»)
+
+pub never-less : (t : Tally) (e : Entry) → t .refused < 2 ^ 32 → t .«wrong_frames» < 2 ^ 32 → t .«wrong_bits» < 2 ^ 32 → NotLess t (tallied t e .tally)
+never-less t e a b c = go (answer t e)
   where
-    go : Answer t e → (t .symbols ≤ tallied t e .tally .symbols) × (t .refused ≤ tallied t e .tally .refused)
-        × (t .«wrong_frames» ≤ tallied t e .tally .«wrong_frames») × (t .«wrong_bits» ≤ tallied t e .tally .«wrong_bits»)
+    go : Answer t e → NotLess t (tallied t e .tally)
     go (full h q) = rw q (omega arith)
     go (frame h p q) = rw q (omega arith)
-    go (taken h p q) = rw q (omega arith, raised-more _ _ (f .refusedFits), raised-more _ _ (f .framesFit), raised-more _ _ (f .bitsFit))
+    go (taken h p q) = rw q (omega arith, raised-more _ _ (omega arith), raised-more _ _ (omega arith), raised-more _ _ (omega arith))

@@ -3,4 +3,5 @@ pub mod Answers
 pub mod CallLaws
 pub mod Figures
 pub mod Meaning
+pub mod Theorems
 pub mod WrongBits

@@ -1,10 +1,9 @@
 -- The words that the theorems are stated with, besides those of the report itself.
-use Prim.Native.Nat.{ℕ, _≤_}
+use Prim.Native.Nat.{ℕ}
 use mathlib.Core.List.{List, [], _∷_}
 use mathlib.Core.Path.{_≡_}
 use lib.ListN.{getD}
-use Rattle.tally.specs.PairReport.{Entry, readAs, refusedWith, mostFigure}
-use Rattle.tally.specs.declared.Tally.{Tally}
+use Rattle.tally.specs.PairReport.{Entry, readAs, refusedWith}
 
 -- an entry was read as it was sent
 abbrev pub ReadAsSent : Entry → Type 0
@@ -19,9 +18,3 @@ Every P (e ∷ es) = P e × Every P es
 -- entry k, from 0; past the last, one that was read
 abbrev pub entryAt : List Entry → ℕ → Entry
 entryAt es k = getD es k (readAs [] [])
-
--- figures of 32 bits, which a tally has by its type
-pub record Fits (t : Tally) : Type 0 where
-  pub refusedFits : t .refused ≤ mostFigure
-  pub framesFit : t .«wrong_frames» ≤ mostFigure
-  pub bitsFit : t .«wrong_bits» ≤ mostFigure
