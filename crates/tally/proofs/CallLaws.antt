@@ -1,6 +1,6 @@
 -- Laws of any calls from a new tally on: what they leave is the figures of the accepted entries, which are at most 65,535, and each sound.
-use Prim.Native.Nat.{ℕ, _+_, _*_, _^_, _≤_, _<_}
-use mathlib.Core.Bool.{false, true}
+use Prim.Native.Nat.{_+_, _*_, _^_, _≤_, _<_}
+use mathlib.Core.Bool.{true, false}
 use mathlib.Core.List.{List, [], _∷_, _++_}
 use mathlib.Core.Logic.{_↔_, _≢_}
 use mathlib.Core.Path.{_≡_, refl, sym, ap, _∙_}
@@ -11,9 +11,8 @@ use Rattle.tally.specs.Calls.{Call, give, reset, tallyAfter, acceptedAft
 use Rattle.tally.specs.Words.{ReadAsSent, Every, entryAt}
 use Rattle.tally.specs.declared.Tally.{Tally}
 use Rattle.tally.proofs.Answers.{Answer, full, frame, taken, answer, taken-exactly}
-use Rattle.tally.proofs.Figures as F
-use Rattle.tally.proofs.Figures.{Sound, figures-more}
-use Rattle.tally.proofs.Meaning as M
+use Rattle.tally.proofs.Figures.{Sound, mostWrong, counts-most, wrong-all, figures-more}
+use Rattle.tally.proofs.Meaning as Meaning
 
 -- ---- what every call keeps
 
@@ -29,12 +28,10 @@ every-more : (es : List Entry) (e : Entry) → Every Sound es → Sound e → Ev
 every-more [] e hs h = (h, tt)
 every-more (d ∷ es) e hs h = (hs .0, every-more es e (hs .1) h)
 
-symbols-is : {t u : Tally} → t ≡ u → t .symbols ≡ u .symbols
-symbols-is q = ap (λ (t : Tally). t .symbols) q
-
-made-more : {t : Tally} {es : List Entry} (e : Entry) → Made t es → t .symbols < mostSymbols → Sound e → Made (withEntry t e) (es ++ (e ∷ []))
+made-more : {t : Tally} {es : List Entry} (e : Entry) → Made t es → t .symbols < mostSymbols → Sound e
+    → Made (withEntry t e) (es ++ (e ∷ []))
 made-more {es = es} e m l h =
-    let s = symbols-is (m .figures) in
+    let s = ap (λ (t : Tally). t .symbols) (m .figures) in
     record {
       figures = ap (λ (t : Tally). withEntry t e) (m .figures) ∙ sym (figures-more es e (m .sound) h (omega arith));
       few = omega (arith, length-append es (e ∷ []));
@@ -60,27 +57,28 @@ module _ (cs : List Call) (b : ByteCalls cs) where
   pub figures : figuresAfter cs ≡ figuresOf (acceptedIn cs)
   figures = made .figures
 
-  pub accepted-exactly : (e : Entry) → (tallied (figuresAfter cs) e .number ≡ 0) ↔ ((length (acceptedIn cs) < mostSymbols) × (entryTest e ≡ false))
+  pub accepted-exactly : (e : Entry)
+      → (tallied (figuresAfter cs) e .number ≡ 0) ↔ ((length (acceptedIn cs) < mostSymbols) × (entryTest e ≡ false))
   accepted-exactly e = rw figures (taken-exactly (figuresOf (acceptedIn cs)) e)
 
   pub as-sent : ((figuresAfter cs .«wrong_bits» ≡ 0) × (figuresAfter cs .refused ≡ 0)) ↔ Every ReadAsSent (acceptedIn cs)
-  as-sent = rw figures (λ h. M.all-as-sent (acceptedIn cs) (made .sound) (h .0) (h .1), M.none-counted (acceptedIn cs))
+  as-sent = rw figures (λ h. Meaning.all-as-sent (acceptedIn cs) (made .sound) (h .0) (h .1), Meaning.none-counted (acceptedIn cs))
 
   pub fits :
       (figuresAfter cs .symbols ≤ mostSymbols) × (figuresAfter cs .refused + figuresAfter cs .«wrong_frames» ≤ figuresAfter cs .symbols)
-      × (figuresAfter cs .«wrong_bits» ≤ figuresAfter cs .symbols * F.mostWrong) × (figuresAfter cs .«wrong_bits» < 2 ^ 32)
+      × (figuresAfter cs .«wrong_bits» ≤ figuresAfter cs .symbols * mostWrong) × (figuresAfter cs .«wrong_bits» < 2 ^ 32)
   fits =
       let few = made .few in
-      let all = F.wrong-all (acceptedIn cs) (made .sound) in
-      rw figures (few, F.counts-most (acceptedIn cs), all, omega arith)
+      let all = wrong-all (acceptedIn cs) (made .sound) in
+      rw figures (few, counts-most (acceptedIn cs), all, omega arith)
 
   pub none-refused : (figuresAfter cs .«first_refused» ≡ mostSymbols) ↔ (figuresAfter cs .refused ≡ 0)
-  none-refused = rw figures (M.none-first 0 (acceptedIn cs) (omega (arith, made .few)))
+  none-refused = rw figures (Meaning.none-first 0 (acceptedIn cs) (omega (arith, made .few)))
 
   pub first-refused : figuresAfter cs .refused ≢ 0
       → (isRefused (entryAt (acceptedIn cs) (figuresAfter cs .«first_refused»)) ≡ true)
       × (count isRefused (take (figuresAfter cs .«first_refused») (acceptedIn cs)) ≡ 0)
-  first-refused = rw figures (M.first-refused (acceptedIn cs))
+  first-refused = rw figures (Meaning.first-refused (acceptedIn cs))
 
 -- ---- nothing before a reset counts
 
@@ -96,5 +94,6 @@ accepted-reset [] ds t es = refl
 accepted-reset (give e ∷ cs) ds t es = accepted-reset cs ds _ _
 accepted-reset (reset ∷ cs) ds t es = accepted-reset cs ds newTally []
 
-pub since-reset : (cs ds : List Call) → (figuresAfter (cs ++ (reset ∷ ds)) ≡ figuresAfter ds) × (acceptedIn (cs ++ (reset ∷ ds)) ≡ acceptedIn ds)
+pub since-reset : (cs ds : List Call)
+    → (figuresAfter (cs ++ (reset ∷ ds)) ≡ figuresAfter ds) × (acceptedIn (cs ++ (reset ∷ ds)) ≡ acceptedIn ds)
 since-reset cs ds = (tally-reset cs ds newTally, accepted-reset cs ds newTally [])

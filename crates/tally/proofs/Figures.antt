@@ -1,6 +1,6 @@
 -- Laws of the figures of a list of entries: how large they grow, and what an entry more makes of them.
 use Prim.Native.Nat.{ℕ, suc, _+_, _*_, _≤_, _<_}
-use mathlib.Core.Bool.{Bool, true, false, cond, not, _&&_, _||_, and-false}
+use mathlib.Core.Bool.{Bool, false, cond, not, _&&_, _||_, and-false}
 use mathlib.Core.List.{List, [], _∷_, _++_}
 use mathlib.Core.Path.{_≡_, refl, sym, _∙_}
 use native.Mathlib.Nat.{zero-add, add-zero}
@@ -63,7 +63,9 @@ first-more : (k : ℕ) (es : List Entry) (e : Entry) → k + length es < mostSym
     → firstRefused k (es ++ (e ∷ [])) ≡ cond (isRefused e && eqb (firstRefused k es) mostSymbols) (k + length es) (firstRefused k es)
 first-more k [] (readAs s r) h = refl
 first-more k [] (refusedWith s n) h = sym (add-zero k)
-first-more k (readAs s r ∷ es) e h = let p : suc k + length es ≡ k + suc (length es) = omega arith in rw p at (first-more (suc k) es e (omega arith))
+first-more k (readAs s r ∷ es) e h =
+    let p : suc k + length es ≡ k + suc (length es) = omega arith in
+    rw p at (first-more (suc k) es e (omega arith))
 first-more k (refusedWith s n ∷ es) e h = rw (ne-eqb k mostSymbols (λ x. omega arith), and-false)
 
 raised-plain : (figure by : ℕ) → figure + by ≤ mostFigure → figure + by ≡ raised figure by

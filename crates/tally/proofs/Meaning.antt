@@ -17,7 +17,8 @@ use Rattle.tally.proofs.WrongBits.{none-wrong, same-right}
 pub all-as-sent : (es : List Entry) → Every Sound es → allWrong es ≡ 0 → count isRefused es ≡ 0 → Every ReadAsSent es
 unfolding weight
 all-as-sent [] h w r = tt
-all-as-sent (readAs s b ∷ es) h w r = (none-wrong s b (lengths s b (h .0 .passes) .0) (omega arith), all-as-sent es (h .1) (omega arith) (omega arith))
+all-as-sent (readAs s b ∷ es) h w r =
+    (none-wrong s b (lengths s b (h .0 .passes) .0) (omega arith), all-as-sent es (h .1) (omega arith) (omega arith))
 all-as-sent (refusedWith s n ∷ es) h w r = absurd (omega arith)
 
 pub none-counted : (es : List Entry) → Every ReadAsSent es → (allWrong es ≡ 0) × (count isRefused es ≡ 0)

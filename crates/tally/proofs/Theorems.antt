@@ -25,32 +25,32 @@ pub since-reset : (cs ds : List Call)
     → (figuresAfter (cs ++ (reset ∷ ds)) ≡ figuresAfter ds) × (acceptedIn (cs ++ (reset ∷ ds)) ≡ acceptedIn ds)
 since-reset = CallLaws.since-reset
 
--- After any calls from a new tally on, with frames of bytes, resets among them, answered with 0 or refused:
+-- After any calls from a new tally on, with frames of bytes, resets among them, and whatever they were answered:
 module _ (cs : List Call) (bytes : ByteCalls cs) where
   -- The figures are those worked out from the entries that were accepted since the last reset.
   pub figures : figuresAfter cs ≡ figuresOf (acceptedIn cs)
   figures = CallLaws.figures cs bytes
 
-  -- An entry is accepted exactly when fewer than 65,535 are, its frames have one length of at most 7,681 bytes, and its refusal number, if it
-  -- has one, is not 0.
-  pub accepted-exactly : (e : Entry) → (tallied (figuresAfter cs) e .number ≡ 0) ↔ ((length (acceptedIn cs) < 65_535) × (entryTest e ≡ false))
+  -- The next entry is accepted exactly when fewer than 65,535 are, and 11 does not apply to it.
+  pub accepted-exactly : (e : Entry)
+      → (tallied (figuresAfter cs) e .number ≡ 0) ↔ ((length (acceptedIn cs) < 65_535) × (entryTest e ≡ false))
   accepted-exactly = CallLaws.accepted-exactly cs bytes
 
   -- Wrong bits and refused symbols are both 0 exactly when every accepted entry was read as it was sent.
   pub as-sent : ((figuresAfter cs .«wrong_bits» ≡ 0) × (figuresAfter cs .refused ≡ 0)) ↔ Every ReadAsSent (acceptedIn cs)
   as-sent = CallLaws.as-sent cs bytes
 
-  -- The figures fit: at most 65,535 symbols; each is refused, read wrong or neither; and at most 61,448 bits are wrong in each.
+  -- The figures fit 32 bits: there are at most 65,535 symbols, none is both refused and read wrong, and each has at most 61,448 wrong bits.
   pub fits :
       (figuresAfter cs .symbols ≤ 65_535) × (figuresAfter cs .refused + figuresAfter cs .«wrong_frames» ≤ figuresAfter cs .symbols)
       × (figuresAfter cs .«wrong_bits» ≤ figuresAfter cs .symbols * 61_448) × (figuresAfter cs .«wrong_bits» < 2 ^ 32)
   fits = CallLaws.fits cs bytes
 
-  -- The first refused symbol is 65,535 exactly when none is refused;
+  -- First refused is 65,535 exactly when no symbol was refused;
   pub none-refused : (figuresAfter cs .«first_refused» ≡ 65_535) ↔ (figuresAfter cs .refused ≡ 0)
   none-refused = CallLaws.none-refused cs bytes
 
-  -- else it is the number of a refused entry, and no entry before that is refused.
+  -- else it is the number of a symbol that was refused, and none before it was.
   pub first-refused : figuresAfter cs .refused ≢ 0
       → (isRefused (entryAt (acceptedIn cs) (figuresAfter cs .«first_refused»)) ≡ true)
       × (count isRefused (take (figuresAfter cs .«first_refused») (acceptedIn cs)) ≡ 0)
@@ -70,7 +70,7 @@ module _ (t : Tally) (e : Entry) where
   pub full-first : 65_535 ≤ t .symbols → tallied t e ≡ record { number = 22; tally = t }
   full-first = Answers.full-first t e
 
-  -- An accepted entry raises the figures.
+  -- An entry is accepted where the tally is not full and 11 does not apply, and raises the figures.
   pub counted : t .symbols < 65_535 → entryTest e ≡ false → tallied t e ≡ record { number = 0; tally = withEntry t e }
   counted = Answers.counted t e
 
@@ -78,7 +78,7 @@ module _ (t : Tally) (e : Entry) where
   pub refused-entry : tallied t e .number ≢ 0 → tallied t e .tally ≡ t
   refused-entry = Answers.refused-entry t e
 
-  -- No other number than 0, 11 and 22 is answered,
+  -- No other number than 0, 11 and 22 is answered:
   pub three-numbers : (tallied t e .number ≡ 0) ⊎ (tallied t e .number ≡ 11) ⊎ (tallied t e .number ≡ 22)
   three-numbers = Answers.three-numbers t e
 
@@ -86,11 +86,15 @@ module _ (t : Tally) (e : Entry) where
   pub full-exactly : (tallied t e .number ≡ 22) ↔ (65_535 ≤ t .symbols)
   full-exactly = Answers.full-exactly t e
 
-  -- and 11 exactly when it is not, and the entry's test applies.
+  -- 11 exactly when it is not, and the lengths or the refusal's number are wrong.
   pub frame-exactly : (tallied t e .number ≡ 11) ↔ ((t .symbols < 65_535) × (entryTest e ≡ true))
   frame-exactly = Answers.frame-exactly t e
 
-  -- No count goes down, where the counts have 32 bits, as those of a lent tally do.
+  -- First refused stays as it is, unless that is 65,535.
+  pub first-stays : t .«first_refused» ≢ 65_535 → tallied t e .tally .«first_refused» ≡ t .«first_refused»
+  first-stays = Answers.first-stays t e
+
+  -- The four counts never go down, where they have 32 bits, as those of a tally do by their type.
   pub never-less : t .refused < 2 ^ 32 → t .«wrong_frames» < 2 ^ 32 → t .«wrong_bits» < 2 ^ 32
       → (t .symbols ≤ tallied t e .tally .symbols) × (t .refused ≤ tallied t e .tally .refused)
       × (t .«wrong_frames» ≤ tallied t e .tally .«wrong_frames») × (t .«wrong_bits» ≤ tallied t e .tally .«wrong_bits»)
