@@ -1,3 +1,10 @@
--- Why the tally counts what it says: `Rows` is of wrong bits, counted a row at a time, `Answered` of the answers to an entry.
+-- `Theorems` is the page of theorems, and `Answers` to `CallLaws` are its parts. `Entries` and `Rows` are what the code needs beside
+-- them: of one entry, and of wrong bits that are counted a row at a time.
+pub mod Theorems
+pub mod Answers
+pub mod WrongBits
+pub mod Figures
+pub mod Meaning
+pub mod CallLaws
+pub mod Entries
 pub mod Rows
-pub mod Answered

@@ -4,27 +4,28 @@ use mathlib.Core.Logic.{⊎-elim}
 use mathlib.Core.Path.{_≡_, sym, ap, _∙_}
 use native.Mathlib.Omega.{arith}
 use borrow.Author.Needs.{needs}
-use borrow.Author.Tests.{le-leb, lt-leb, ltb-true, ltb-false}
+use borrow.Author.Tests.{ltb-true, ltb-false}
 use lib.Dec.{ltb}
 use lib.ListN.{length}
 use Rattle.g9932.specs.Sizes.{mostBytes}
-use Rattle.tally.specs.PairReport.{readAs, entryTest, mostSymbols, toldBy}
+use Rattle.tally.specs.PairReport.{readAs, entryTest}
 use Rattle.tally.specs.declared.Tally.{Tally}
-use Rattle.tally.proofs.Answered.{told-full, told-frame, told-counted, frames-pass, lengths-differ, frames-long, bool-weight, read-more}
+use Rattle.tally.proofs.Answers.{full-first, frame-next, counted}
+use Rattle.tally.proofs.Entries.{frames-pass, lengths-differ, frames-long, bool-weight, read-more}
 use Rattle.tally.proofs.Tally.read.Statement.{statement}
 use Rattle.tally.proofs.Tally.read.Tie as tie
 
 returns : tie.Need-returns
 returns c =
     let a = c .before .before .before .before .before .args in
-    rw (c .refuse .ensures) (told-full (a .self) (readAs (a .sent .now) (a .back .now)) (le-leb mostSymbols (a .self .symbols) (omega arith)))
+    rw (c .refuse .ensures) (sym (full-first (a .self) (readAs (a .sent .now) (a .back .now)) (omega arith)))
 
 returns-2 : tie.Need-returns-2
 returns-2 c =
     let a = c .before .before .before .before .before .before .args in
     let frame : entryTest (readAs (a .sent .now) (a .back .now)) ≡ true =
     ⊎-elim (λ w. lengths-differ (a .sent .now) (a .back .now) (λ e. omega (arith, e, w))) (λ w. frames-long (a .sent .now) (a .back .now) (ltb-true mostBytes (length (a .sent .now)) (w .1 .taken))) (c .before .if2 .came) in
-    rw (c .refuse2 .ensures) (told-frame (a .self) (readAs (a .sent .now) (a .back .now)) (lt-leb mostSymbols (a .self .symbols) (omega arith)) frame)
+    rw (c .refuse2 .ensures) (sym (frame-next (a .self) (readAs (a .sent .now) (a .back .now)) (omega arith) frame))
 
 returns-3 : tie.Need-returns-3
 returns-3 c =
@@ -32,7 +33,7 @@ returns-3 c =
     let wrong = c .before .before .before in
     rw (c .before .raise .ensures, c .raise2 .ensures, bool-weight (ltb 0 (wrong .wrong-bits .result)), wrong .wrong-bits .ensures)
     (ap (λ (t : Tally). record { number = 0; tally = t }) (read-more (a .self) (a .sent .now) (a .back .now) (omega arith))
-    ∙ told-counted (a .self) (readAs (a .sent .now) (a .back .now)) (lt-leb mostSymbols (a .self .symbols) (omega arith)) (frames-pass (a .sent .now) (a .back .now) (wrong .before .before .if2 .left) (ltb-false mostBytes (length (a .sent .now)) (wrong .before .if3 .left))))
+    ∙ sym (counted (a .self) (readAs (a .sent .now) (a .back .now)) (omega arith) (frames-pass (a .sent .now) (a .back .now) (wrong .before .before .if2 .left) (ltb-false mostBytes (length (a .sent .now)) (wrong .before .if3 .left)))))
 
 pub read-spec : {M : Type 1} → statement M
 read-spec =

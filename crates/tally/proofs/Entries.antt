@@ -1,6 +1,6 @@
--- The answers to an entry, case by case: FULL, then FRAME, then the entry counts.
+-- Laws of one entry: when FRAME applies to it, and what it adds to figures of 32 bits.
 use Prim.Native.Nat.{ℕ, _+_, _≤_, _<_}
-use mathlib.Core.Bool.{Bool, true, false, cond, not, _||_}
+use mathlib.Core.Bool.{Bool, true, false, cond, or-true}
 use mathlib.Core.List.{List}
 use mathlib.Core.Path.{_≡_, refl, sym, _∙_}
 use native.Mathlib.Nat.{add-zero}
@@ -11,28 +11,10 @@ use lib.Dec.{ltb, eqb}
 use lib.ListN.{length}
 use Rattle.g9932.specs.Bits.{weight}
 use Rattle.g9932.specs.Sizes.{mostBytes}
-use Rattle.g9932.specs.Refusals.{refuseIf}
-use Rattle.tally.specs.PairReport.{Entry, readAs, refusedWith, wrongBits, mostSymbols, fullTest, entryTest, tallyVerdict, mostFigure, raised, withEntry, Told, tallied}
+use Rattle.tally.specs.PairReport.{readAs, refusedWith, wrongBits, mostSymbols, entryTest, mostFigure, raised, withEntry}
 use Rattle.tally.specs.declared.Tally.{Tally}
 
-module _ (t : Tally) (e : Entry) where
-  pub told-full : fullTest t ≡ true → record { number = 22; tally = t } ≡ tallied t e
-  unfolding tallied tallyVerdict refuseIf
-  told-full full = rw full refl
-
-  pub told-frame : fullTest t ≡ false → entryTest e ≡ true → record { number = 11; tally = t } ≡ tallied t e
-  unfolding tallied tallyVerdict refuseIf
-  told-frame full frame = rw (full, frame) refl
-
-  pub told-counted : fullTest t ≡ false → entryTest e ≡ false → record { number = 0; tally = withEntry t e } ≡ tallied t e
-  unfolding tallied tallyVerdict refuseIf
-  told-counted full frame = rw (full, frame) refl
-
 -- ---- FRAME
-
-or-true : (a : Bool) → (a || true) ≡ true
-or-true true = refl
-or-true false = refl
 
 module _ (s r : List ℕ) where
   pub frames-pass : length s ≡ length r → length s ≤ mostBytes → entryTest (readAs s r) ≡ false
@@ -42,7 +24,7 @@ module _ (s r : List ℕ) where
   lengths-differ n = rw (ne-eqb (length s) (length r) n) refl
 
   pub frames-long : mostBytes < length s → entryTest (readAs s r) ≡ true
-  frames-long h = rw (lt-ltb mostBytes (length s) h, or-true (not (eqb (length s) (length r)))) refl
+  frames-long h = rw (lt-ltb mostBytes (length s) h, or-true) refl
 
 module _ (s : List ℕ) (n : ℕ) where
   pub refusal-passes : length s ≤ mostBytes → (n ≡ 0 → ⊥) → entryTest (refusedWith s n) ≡ false
@@ -52,7 +34,7 @@ module _ (s : List ℕ) (n : ℕ) where
   frame-long h = rw (lt-ltb mostBytes (length s) h) refl
 
   pub number-zero : n ≡ 0 → entryTest (refusedWith s n) ≡ true
-  number-zero z = rw (eq-eqb n 0 z) (or-true (ltb mostBytes (length s)))
+  number-zero z = rw (eq-eqb n 0 z, or-true) refl
 
 -- ---- figures
 
