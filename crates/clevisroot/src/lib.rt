@@ -157,7 +157,7 @@ fn tally_answered(answer: Tallied) -> TallyAnswer
 {
     match answer {
         Tallied::Counted(tally) => TallyAnswer { number: 0, tally },
-        Tallied::Refused { refusal, tally } => TallyAnswer {
+        Tallied::Refused { tally, refusal } => TallyAnswer {
             number: number_of(refusal),
             tally,
         },

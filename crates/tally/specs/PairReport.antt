@@ -110,7 +110,7 @@ tallied t e = record { number = tallyVerdict t e .number; tally = cond (eqb (tal
 
 abbrev pub toldBy : Tallied → Told
 toldBy (T.Counted t) = record { number = 0; tally = t }
-toldBy (T.Refused x t) = record { number = numberOf x; tally = t }
+toldBy (T.Refused t x) = record { number = numberOf x; tally = t }
 
 -- a new tally, which is as reset
 abbrev pub newTally : Tally

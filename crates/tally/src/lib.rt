@@ -27,7 +27,7 @@ pub struct Tally {
 // The answer to an entry: the tally with it, or a refusal and the tally as it came.
 pub enum Tallied {
     Counted(Tally),
-    Refused { refusal: Refusal, tally: Tally },
+    Refused { tally: Tally, refusal: Refusal },
 }
 
 // A figure raised; it stays at the most that 32 bits hold.
@@ -95,11 +95,11 @@ impl Tally {
 
     // A refused entry, with the tally as it came.
     fn refuse(self, refusal: Refusal) -> Tallied
-        ensures { λ r. ⌜ r ≡ T.Refused refusal self ⌝ }
+        ensures { λ r. ⌜ r ≡ T.Refused self refusal ⌝ }
     {
         Tallied::Refused {
-            refusal,
             tally: self,
+            refusal,
         }
     }
 
