@@ -7,7 +7,7 @@
  *
  * It checks bit, gain and tone tables, re-orders them, turns a frame of bits into one integer
  * point per tone, and turns points back into the frame, noisy ones into the nearest: with trellis
- * coding or without. It keeps a pair's report, which counts wrong bits and refused symbols.
+ * coding or without. For the report of a pair it counts wrong bits and refused symbols.
  *
  * Link with libclevisroot.a (pkg-config: clevisroot). The archive needs memcpy and memset and no
  * other symbol, at most CLEVISROOT_STACK bytes of stack (clevisroot_read_nearest:
@@ -90,10 +90,10 @@
  *
  * Every answer has a number: 0 if the call is done, else the number below. If several refusals
  * apply, the smallest number is given (but clevisroot_read_point tests 16 before 13, and the calls of
- * a tally 22 before 11). So in
- * reading without noise all places pass 13 before any is tested for 14, and all 14 before any pair
- * is tested for 15. A refused call writes nothing to any buffer, has size and total 0, and hands the
- * register back as it was given. A call that is done writes the whole of each output.
+ * a tally 22 before 11). So in reading without noise all places pass 13 before any is tested for 14,
+ * and all 14 before any pair is tested for 15. A refused call writes nothing to any buffer, has size
+ * and total 0, and hands the register back as it was given. A call that is done writes the whole of
+ * each output.
  *
  *   no.  given exactly when                                              place
  *   1    G is not 1 to 4096, gains_len is not G, NSC is 0 or above G     0

@@ -1,12 +1,9 @@
 -- The core's answers, as C has them.
 use Prim.Native.Nat.{ℕ, zero, suc}
-use mathlib.Core.Bool.{Bool, true, false}
-use mir.Val.{boolByte}
 use mathlib.Core.Path.{_≡_, refl, sym, ap, _∙_, subst}
 use lib.IntN.{ℤ}
 use mathlib.Core.List.{List}
 use lib.ListN.{length}
-use Rattle.g9932.specs.Bits.{weight}
 use Rattle.g9932.proofs.Aligned.{start-zero-encoding, start-zero-reading}
 use Rattle.g9932.specs.Sizes.{Tables, tables, points}
 use Rattle.g9932.specs.Refusals.{Verdict, tableVerdict}
@@ -52,11 +49,6 @@ nearest-as {b = b} e k t = rw e (t ∙ ap (λ (x : SymbolAnswer). withTotal x (t
 
 pub point-fields : {x x' y y' : ℤ} → x ≡ x' → y ≡ y' → _≡_ {A = PointAnswer} (record { number = 0; x = x; y = y }) (record { number = 0; x = x'; y = y' })
 point-fields e f = rw (e, f)
-
-pub byte-weight : (b : Bool) → boolByte b ≡ weight b
-unfolding weight
-byte-weight true = refl
-byte-weight false = refl
 
 -- a refused answer carries no total
 refused-total : (a : Nearest) → (nearestOf a .verdict .number ≡ 0 → ⊥) → totalIn a ≡ 0

@@ -97,7 +97,7 @@ fn word(n: usize, words: &[u8]) {
     }
 }
 
-// The number and the name of a refusal; 9 and 17 to 22 are unused.
+// The number and the name of a refusal; 9 and 17 to 21 are unused.
 pub fn refused(n: u32) {
     entry(n as u64);
     word(

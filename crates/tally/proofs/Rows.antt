@@ -10,7 +10,7 @@ use lib.Bits.{bitXor}
 use lib.Count.{ones}
 use lib.Dec.{ltb}
 use lib.ListN.{length, take, drop, getD, set, replicate, length-set, length-replicate, take-append-drop, List·getD-eq-default}
-use lib.Seq.{take-all, getD-set-same, getD-set-other, getD-drop}
+use lib.Seq.{take-all, getD-set-other, getD-drop}
 use Rattle.g9932.specs.Order.{sum}
 use Rattle.g9932.proofs.Counts.{sum-append, sum-replicate}
 use Rattle.tally.specs.Lanes.{laneCount, AtMost, Rows}

@@ -1,8 +1,6 @@
 -- Request R-12: any calls, one after the other, from a new tally on.
-use Prim.Native.Nat.{ℕ}
-use mathlib.Core.Bool.{Bool, cond}
+use mathlib.Core.Bool.{cond}
 use mathlib.Core.List.{List, [], _∷_, _++_}
-use mathlib.Core.Path.{_≡_}
 use lib.Dec.{eqb}
 use Rattle.guarantees.specs.Words.{Bytes}
 use Rattle.tally.specs.PairReport.{Entry, readAs, refusedWith, tallied, newTally}

@@ -89,16 +89,20 @@ mostFigure = 4_294_967_295
 abbrev pub raised : ℕ → ℕ → ℕ
 raised figure by = cond (ltb mostFigure (figure + by)) mostFigure (figure + by)
 
--- the tally with one entry more; whatever it holds, the first refused symbol stays, unless it is "none"
-abbrev pub withEntry : Tally → Entry → Tally
-withEntry t e =
+-- the tally with one symbol more, refused or not, that has so many wrong bits; whatever the tally holds, the first refused symbol stays,
+-- unless it is "none"
+abbrev pub withSymbol : Tally → Bool → ℕ → Tally
+withSymbol t refused wrong =
     record {
       symbols = t .symbols + 1;
-      refused = raised (t .refused) (weight (isRefused e));
-      «wrong_frames» = raised (t .«wrong_frames») (weight (isWrong e));
-      «wrong_bits» = raised (t .«wrong_bits») (wrongIn e);
-      «first_refused» = cond (isRefused e && eqb (t .«first_refused») mostSymbols) (t .symbols) (t .«first_refused»);
+      refused = raised (t .refused) (weight refused);
+      «wrong_frames» = raised (t .«wrong_frames») (weight (ltb 0 wrong));
+      «wrong_bits» = raised (t .«wrong_bits») wrong;
+      «first_refused» = cond (refused && eqb (t .«first_refused») mostSymbols) (t .symbols) (t .«first_refused»);
     }
+
+abbrev pub withEntry : Tally → Entry → Tally
+withEntry t e = withSymbol t (isRefused e) (wrongIn e)
 
 -- the whole answer: its number, and the tally; a refused entry changes no figure
 pub record Told : Type 0 where

@@ -2,9 +2,10 @@
 pub mod wrong_bits;
 
 ghost use mathlib.Core.Path.{_≡_};
-ghost use mathlib.Core.Bool.{cond};
+ghost use mathlib.Core.Bool.{cond, _&&_};
+ghost use Prim.Native.Nat.{_<_};
 ghost use lib.Dec.{eqb};
-ghost use Rattle.tally.specs.PairReport.{readAs, refusedWith, mostSymbols, raised, tallied, toldBy, newTally};
+ghost use Rattle.tally.specs.PairReport.{readAs, refusedWith, mostSymbols, raised, withSymbol, tallied, toldBy, newTally};
 ghost use Rattle.tally.specs.declared.Tallied.the-variants as T;
 use g9932::Refusal;
 
@@ -64,14 +65,7 @@ impl Tally {
         if sent.len() != back.len() || sent.len() > MOST_BYTES {
             return self.refuse(Refusal::Frame);
         }
-        let wrong = wrong_bits::wrong_bits(sent, back);
-        Tallied::Counted(Tally {
-            symbols: self.symbols + 1,
-            refused: self.refused,
-            wrong_frames: raise(self.wrong_frames, (wrong > 0) as u32),
-            wrong_bits: raise(self.wrong_bits, wrong),
-            first_refused: self.first_refused,
-        })
+        Tallied::Counted(self.with_symbol(false, wrong_bits::wrong_bits(sent, back)))
     }
 
     // A symbol that was refused: the frame that was sent, and the refusal's number.
@@ -84,13 +78,7 @@ impl Tally {
         if sent.len() > MOST_BYTES || refusal == 0 {
             return self.refuse(Refusal::Frame);
         }
-        Tallied::Counted(Tally {
-            symbols: self.symbols + 1,
-            refused: raise(self.refused, 1),
-            wrong_frames: self.wrong_frames,
-            wrong_bits: self.wrong_bits,
-            first_refused: self.first_of(),
-        })
+        Tallied::Counted(self.with_symbol(true, 0))
     }
 
     // A refused entry, with the tally as it came.
@@ -103,11 +91,25 @@ impl Tally {
         }
     }
 
-    // The first refused symbol, where the next one is refused.
-    fn first_of(self) -> u32
-        ensures { λ r. ⌜ r ≡ cond (eqb (self .«first_refused») mostSymbols) (self .symbols) (self .«first_refused») ⌝ }
+    // One symbol more, refused or not, that has so many wrong bits.
+    fn with_symbol(self, refused: bool, wrong: u32) -> Self
+        requires { ⌜ self .symbols < mostSymbols ⌝ }
+        ensures { λ r. ⌜ r ≡ withSymbol self refused wrong ⌝ }
     {
-        if self.first_refused == MOST_SYMBOLS {
+        Self {
+            symbols: self.symbols + 1,
+            refused: raise(self.refused, refused as u32),
+            wrong_frames: raise(self.wrong_frames, (wrong > 0) as u32),
+            wrong_bits: raise(self.wrong_bits, wrong),
+            first_refused: self.first_after(refused),
+        }
+    }
+
+    // The first refused symbol, after one that is refused or not.
+    fn first_after(self, refused: bool) -> u32
+        ensures { λ r. ⌜ r ≡ cond (refused && eqb (self .«first_refused») mostSymbols) (self .symbols) (self .«first_refused») ⌝ }
+    {
+        if refused & (self.first_refused == MOST_SYMBOLS) {
             return self.symbols;
         }
         self.first_refused

@@ -1,7 +1,7 @@
 -- `clevisroot_draw` meets its contract: what drawing answers, as C has it.
 use mathlib.Core.Path.{_∙_, sym, ap}
 use Rattle.g9932.specs.Answers.{drawnOf}
-use Rattle.clevisroot.proofs.Calls.{byte-weight}
+use Rattle.g9932.proofs.Words.{byte-weight}
 use Rattle.clevisroot.specs.CAnswers.{drawAnswered}
 use borrow.Author.Needs.{needs}
 use Rattle.clevisroot.proofs.clevisroot_draw.Statement.{statement}

@@ -1,6 +1,4 @@
 -- `raise` meets its contract: it compares without a sum that may not fit.
-use Prim.Native.Nat.{_+_}
-use mathlib.Core.Path.{_≡_}
 use native.Mathlib.Omega.{arith}
 use borrow.Author.Needs.{needs}
 use Rattle.tally.proofs.Entries.{raised-fits, raised-most}

@@ -1,17 +1,15 @@
 -- `Tally::read` meets its contract.
 use mathlib.Core.Bool.{true}
 use mathlib.Core.Logic.{⊎-elim}
-use mathlib.Core.Path.{_≡_, sym, ap, _∙_}
+use mathlib.Core.Path.{_≡_, sym}
 use native.Mathlib.Omega.{arith}
 use borrow.Author.Needs.{needs}
 use borrow.Author.Tests.{ltb-true, ltb-false}
-use lib.Dec.{ltb}
 use lib.ListN.{length}
 use Rattle.g9932.specs.Sizes.{mostBytes}
 use Rattle.tally.specs.PairReport.{readAs, entryTest}
-use Rattle.tally.specs.declared.Tally.{Tally}
 use Rattle.tally.proofs.Answers.{full-first, frame-next, counted}
-use Rattle.tally.proofs.Entries.{frames-pass, lengths-differ, frames-long, bool-weight, read-more}
+use Rattle.tally.proofs.Entries.{frames-pass, lengths-differ, frames-long}
 use Rattle.tally.proofs.Tally.read.Statement.{statement}
 use Rattle.tally.proofs.Tally.read.Tie as tie
 
@@ -29,11 +27,10 @@ returns-2 c =
 
 returns-3 : tie.Need-returns-3
 returns-3 c =
-    let a = c .before .before .before .before .before .before .before .before .before .before .args in
-    let wrong = c .before .before .before in
-    rw (c .before .raise .ensures, c .raise2 .ensures, bool-weight (ltb 0 (wrong .wrong-bits .result)), wrong .wrong-bits .ensures)
-    (ap (λ (t : Tally). record { number = 0; tally = t }) (read-more (a .self) (a .sent .now) (a .back .now) (omega arith))
-    ∙ sym (counted (a .self) (readAs (a .sent .now) (a .back .now)) (omega arith) (frames-pass (a .sent .now) (a .back .now) (wrong .before .before .if2 .left) (ltb-false mostBytes (length (a .sent .now)) (wrong .before .if3 .left)))))
+    let a = c .before .before .before .before .before .before .before .before .args in
+    let tests = c .before .before in
+    rw (c .with-symbol .ensures, c .before .wrong-bits .ensures)
+    (sym (counted (a .self) (readAs (a .sent .now) (a .back .now)) (omega arith) (frames-pass (a .sent .now) (a .back .now) (tests .before .if2 .left) (ltb-false mostBytes (length (a .sent .now)) (tests .if3 .left)))))
 
 pub read-spec : {M : Type 1} → statement M
 read-spec =
@@ -44,8 +41,5 @@ read-spec =
     (λ c κs. search needs)
     returns-2
     (λ c κs. (ltb-false mostBytes _ (c .if3 .left), sym (c .before .if2 .left)))
-    (λ c. omega arith)
-    (λ c. search needs)
-    (λ c κs. search needs)
-    (λ c κs. search needs)
+    (λ c κs. omega arith)
     returns-3)

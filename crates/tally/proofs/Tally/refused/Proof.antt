@@ -1,14 +1,13 @@
 -- `Tally::refused` meets its contract.
 use mathlib.Core.Bool.{true}
 use mathlib.Core.Logic.{⊎-elim}
-use mathlib.Core.Path.{_≡_, sym, ap, _∙_}
+use mathlib.Core.Path.{_≡_, sym}
 use native.Mathlib.Omega.{arith}
 use borrow.Author.Needs.{needs}
 use borrow.Author.Tests.{eqb-true, eqb-false}
 use Rattle.tally.specs.PairReport.{refusedWith, entryTest}
-use Rattle.tally.specs.declared.Tally.{Tally}
 use Rattle.tally.proofs.Answers.{full-first, frame-next, counted}
-use Rattle.tally.proofs.Entries.{refusal-passes, frame-long, number-zero, refused-more}
+use Rattle.tally.proofs.Entries.{refusal-passes, frame-long, number-zero}
 use Rattle.tally.proofs.Tally.refused.Statement.{statement}
 use Rattle.tally.proofs.Tally.refused.Tie as tie
 
@@ -26,10 +25,9 @@ returns-2 c =
 
 returns-3 : tie.Need-returns-3
 returns-3 c =
-    let a = c .before .before .before .before .before .before .before .before .args in
-    rw (c .before .raise .ensures, c .first-of .ensures)
-    (ap (λ (t : Tally). record { number = 0; tally = t }) (refused-more (a .self) (a .sent .now) (a .refusal) (omega arith) (omega arith))
-    ∙ sym (counted (a .self) (refusedWith (a .sent .now) (a .refusal)) (omega arith) (refusal-passes (a .sent .now) (a .refusal) (omega arith) (eqb-false (a .refusal) 0 (c .before .before .before .if3 .left)))))
+    let a = c .before .before .before .before .before .before .args in
+    rw (c .with-symbol .ensures)
+    (sym (counted (a .self) (refusedWith (a .sent .now) (a .refusal)) (omega arith) (refusal-passes (a .sent .now) (a .refusal) (omega arith) (eqb-false (a .refusal) 0 (c .before .if3 .left)))))
 
 pub refused-spec : {M : Type 1} → statement M
 refused-spec =
@@ -39,7 +37,5 @@ refused-spec =
     returns
     (λ c κs. search needs)
     returns-2
-    (λ c. omega arith)
-    (λ c κs. search needs)
-    (λ c κs. search needs)
+    (λ c κs. omega arith)
     returns-3)

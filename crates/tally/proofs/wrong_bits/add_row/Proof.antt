@@ -1,11 +1,9 @@
 -- `wrong_bits::add_row` meets its contract. The invariant: j bytes of the row are counted (`Part`). The measure is the bytes left.
-use Prim.Native.Nat.{_+_, _-_, _*_, _≤_, _<_}
+use Prim.Native.Nat.{_-_, _≤_}
 use mathlib.Core.Path.{_≡_, sym, _∙_}
 use native.Mathlib.Numerals.{add-one}
 use native.Mathlib.Omega.{arith}
 use borrow.Author.Needs.{needs}
-use lib.ListN.{length}
-use Rattle.tally.specs.Lanes.{laneCount}
 use Rattle.tally.proofs.Rows.{Part, part-begin, part-more, part-end}
 use Rattle.tally.proofs.wrong_bits.add_row.Statement.{statement}
 use Rattle.tally.proofs.wrong_bits.add_row.Tie as tie

@@ -3,8 +3,7 @@ use Prim.Native.Nat.{ℕ, suc, _-_, _≤_}
 use mathlib.Core.Path.{_≡_, refl, sym, ap, _∙_}
 use native.Mathlib.Numerals.{add-one}
 use native.Mathlib.Omega.{arith}
-use borrow.Author.Needs.{needs}
-use lib.ListN.{length, take}
+use lib.ListN.{take}
 use Rattle.g9932.specs.Order.{sum}
 use Rattle.tally.proofs.Rows.{sum-suc, sum-used, sum-fits}
 use Rattle.tally.proofs.wrong_bits.sum_lanes.Statement.{statement}
