@@ -25,7 +25,8 @@ pub enum Outcome {
     WrongFramesStay,
     WrongBitsStay,
     LengthsDiffer,
-    TooLong,
+    ReadTooLong,
+    RefusedTooLong,
     NumberZero,
     FullByCalls,
     FullFromOutside,
@@ -34,7 +35,7 @@ pub enum Outcome {
 }
 
 /// In the order of [`Outcome`].
-const OUTCOMES: [&str; 17] = [
+const OUTCOMES: [&str; 18] = [
     "read as sent",
     "one bit wrong",
     "every bit wrong",
@@ -46,7 +47,8 @@ const OUTCOMES: [&str; 17] = [
     "wrong frames stay",
     "wrong bits stay",
     "11 for two lengths",
-    "11 for a length",
+    "11 for frames that are too long",
+    "11 for one of a refused symbol",
     "11 for the number 0",
     "22 by calls alone",
     "22 of a tally from outside",
@@ -69,8 +71,9 @@ impl Tallied {
             FULL => self.record_full(origin, entry),
             FRAME => self.record(cause(entry)),
             _ => {
-                self.record_entry(before, entry);
-                self.record_stays(before, entry);
+                let wrong_bits = entry.wrong_bits();
+                self.record_entry(before, entry, wrong_bits);
+                self.record_stays(before, entry, wrong_bits);
             }
         }
     }
@@ -85,9 +88,9 @@ impl Tallied {
         }
     }
 
-    fn record_entry(&mut self, before: &Tally, entry: &Entry) {
+    fn record_entry(&mut self, before: &Tally, entry: &Entry, wrong_bits: u32) {
         match entry {
-            Entry::Read { sent, .. } => self.record_read(sent.len(), entry.wrong_bits()),
+            Entry::Read { sent, .. } => self.record_read(sent.len(), wrong_bits),
             Entry::Refused { .. } => self.record(match before.first_refused {
                 NONE_REFUSED => Outcome::FirstRefused,
                 _ => Outcome::RefusedAgain,
@@ -110,19 +113,14 @@ impl Tallied {
     }
 
     /// The figures that an accepted entry would raise above the largest.
-    fn record_stays(&mut self, before: &Tally, entry: &Entry) {
-        let bits = entry.wrong_bits();
-        let raised = [
-            (before.refused, u32::from(entry.is_refused())),
-            (before.wrong_frames, u32::from(bits > 0)),
-            (before.wrong_bits, bits),
-        ];
-        let outcomes = [
-            Outcome::RefusedStays,
-            Outcome::WrongFramesStay,
-            Outcome::WrongBitsStay,
-        ];
-        for ((figure, by), outcome) in raised.into_iter().zip(outcomes) {
+    fn record_stays(&mut self, before: &Tally, entry: &Entry, wrong_bits: u32) {
+        let refused = u32::from(entry.is_refused());
+        let wrong_frames = u32::from(wrong_bits > 0);
+        for (outcome, figure, by) in [
+            (Outcome::RefusedStays, before.refused, refused),
+            (Outcome::WrongFramesStay, before.wrong_frames, wrong_frames),
+            (Outcome::WrongBitsStay, before.wrong_bits, wrong_bits),
+        ] {
             if figure.checked_add(by).is_none() {
                 self.record(outcome);
             }
@@ -141,8 +139,9 @@ impl Tallied {
 fn cause(entry: &Entry) -> Outcome {
     match entry {
         Entry::Read { sent, read } if sent.len() != read.len() => Outcome::LengthsDiffer,
+        Entry::Read { .. } => Outcome::ReadTooLong,
         Entry::Refused { refusal: 0, .. } => Outcome::NumberZero,
-        Entry::Read { .. } | Entry::Refused { .. } => Outcome::TooLong,
+        Entry::Refused { .. } => Outcome::RefusedTooLong,
     }
 }
 
