@@ -1,5 +1,6 @@
-//! The three tables that a run prints.
+//! The four tables that a run prints.
 
+use crate::counting::{CountRead, Counting, Wrong};
 use crate::load::{Load, LOADS, MIXED, UNCODED};
 use crate::peer;
 use crate::symbols::STARTS;
@@ -112,6 +113,49 @@ pub fn print_scaling(effort: Effort) {
         }
         println!();
     }
+}
+
+/// Counting a symbol that was read, by the bytes of its frame, and the share of the symbol time that
+/// the library takes.
+pub fn print_counting(effort: Effort) {
+    println!("time of counting a symbol that was read in a tally");
+    println!(
+        "{:<34}{:>12}{:>15}{:>14}{:>15}",
+        "", "library", "peer", "library/peer", "middle half"
+    );
+    let mut slowest: f64 = 0.0;
+    for bytes in [7681, 1000, 100, 10] {
+        for (name, wrong) in [("half wrong", Wrong::Half), ("as sent", Wrong::Nothing)] {
+            let measured = measure_counting(effort, bytes, wrong);
+            print_count(&format!("{bytes} bytes, {name}"), &measured);
+            slowest = slowest.max(measured.median(LIBRARY));
+        }
+    }
+    println!(
+        "counting by the library takes {:.2} % of the symbol time at most",
+        100.0 * slowest / SYMBOL_TIME
+    );
+}
+
+fn print_count(name: &str, measured: &Measured<2>) {
+    let ratio = measured.ratio(LIBRARY, PEER);
+    println!(
+        "{name:<34}{:>9.1} ns{:>12.1} ns{:>14.2}{:>15}",
+        1e9 * measured.median(LIBRARY),
+        1e9 * measured.median(PEER),
+        ratio.median,
+        middle_half(&ratio),
+    );
+}
+
+/// Both sides at the same symbols, once they are seen to agree.
+fn measure_counting(effort: Effort, bytes: usize, wrong: Wrong) -> Measured<2> {
+    let counts: [CountRead; 2] = [clevisroot_sys::tally_read, peer::tally_read];
+    let mut counting = Counting::new(bytes, wrong);
+    let alike = counting.agree(counts);
+    assert!(alike, "the library and the peer differ: {bytes} bytes");
+    let cycle = counting.cycle();
+    measure(effort, cycle, counts, |count| counting.count(count))
 }
 
 /// The calls that run once a symbol, each by both sides.

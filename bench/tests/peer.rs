@@ -1,11 +1,13 @@
 //! The peer against the reference, on the cases of the differential test.
 
 use bench::peer;
-use clevisroot_sys::{Answer, Drawn, Label, Nearest, Point, Tables};
+use clevisroot_sys::{Answer, Drawn, Label, Nearest, Point, Tables, Tallied, Tally};
 use difftest::compare::Comparison;
 use difftest::coverage::Coverage;
 use difftest::exhaustive::{few_frames, largest_symbols, one_tone};
+use difftest::rows::{every_byte, every_length};
 use difftest::run::random_cases;
+use difftest::tally::long_run;
 use difftest::under_test::Core;
 
 struct Peer;
@@ -81,6 +83,18 @@ impl Core for Peer {
     fn draw(&self, reg: u32) -> Drawn {
         peer::draw(reg)
     }
+
+    fn tally_new(&self) -> Tally {
+        peer::tally_new()
+    }
+
+    fn tally_read(&self, tally: Tally, sent: &[u8], read: &[u8]) -> Tallied {
+        peer::tally_read(tally, sent, read)
+    }
+
+    fn tally_refused(&self, tally: Tally, sent: &[u8], refusal: u32) -> Tallied {
+        peer::tally_refused(tally, sent, refusal)
+    }
 }
 
 #[test]
@@ -93,5 +107,8 @@ fn peer_answers_as_the_reference() {
     few_frames(&mut comparison).unwrap();
     largest_symbols(&mut comparison).unwrap();
     random_cases(&mut comparison, 20_000, 7).unwrap();
+    every_length(&mut comparison).unwrap();
+    every_byte(&mut comparison).unwrap();
+    long_run(&mut comparison, 7).unwrap();
     comparison.coverage.verdict().unwrap();
 }

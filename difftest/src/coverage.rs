@@ -2,6 +2,7 @@
 
 use crate::decisions::Decisions;
 use crate::starts::{Causes, Starts};
+use crate::tallied::Tallied;
 use clevisroot_sys::refusals::*;
 use std::fmt;
 
@@ -17,11 +18,14 @@ pub enum Operation {
     MapLabel,
     ReadPoint,
     Draw,
+    TallyNew,
+    TallyRead,
+    TallyRefused,
 }
 
 use Operation::*;
 
-const OPERATIONS: [Operation; 10] = [
+const OPERATIONS: [Operation; 13] = [
     Check,
     Reorder,
     Encode,
@@ -32,6 +36,9 @@ const OPERATIONS: [Operation; 10] = [
     MapLabel,
     ReadPoint,
     Draw,
+    TallyNew,
+    TallyRead,
+    TallyRefused,
 ];
 
 /// How many numbers there are from DONE to the largest, unused ones included.
@@ -51,6 +58,9 @@ impl Operation {
             MapLabel => "map_label",
             ReadPoint => "read_point",
             Draw => "draw",
+            TallyNew => "tally_new",
+            TallyRead => "tally_read",
+            TallyRefused => "tally_refused",
         }
     }
 
@@ -66,6 +76,8 @@ impl Operation {
             MapLabel => vec![DONE, LABEL],
             ReadPoint => vec![DONE, OFFGRID, LABEL],
             Draw => vec![DONE, SEED],
+            TallyNew => vec![DONE],
+            TallyRead | TallyRefused => vec![DONE, FRAME, FULL],
         }
     }
 }
@@ -82,6 +94,7 @@ pub struct Coverage {
     /// Of frames that encoding refused.
     pub refused: Causes,
     pub decisions: Decisions,
+    pub tallied: Tallied,
 }
 
 type Counts = [[u64; NUMBERS]; OPERATIONS.len()];
@@ -109,7 +122,7 @@ impl Coverage {
 
     /// Every number an operation can give turned up, and no other, and so did every outcome for a
     /// monitored tone behind a silent one, every start, every cause to refuse a frame, and every
-    /// outcome of nearest reading.
+    /// outcome of nearest reading and of tallies.
     pub fn verdict(&self) -> Result<(), String> {
         for operation in OPERATIONS {
             for (number, &count) in (DONE..).zip(&self.counts[operation as usize]) {
@@ -136,7 +149,8 @@ impl Coverage {
         self.read.verdict("read")?;
         self.nearest.verdict("read as the nearest")?;
         self.refused.verdict()?;
-        self.decisions.verdict()
+        self.decisions.verdict()?;
+        self.tallied.verdict()
     }
 }
 
@@ -144,16 +158,16 @@ impl fmt::Display for Coverage {
     fn fmt(&self, f: &mut fmt::Formatter) -> fmt::Result {
         write!(f, "{:<11}", "")?;
         for operation in OPERATIONS {
-            write!(f, "{:>13}", operation.name())?;
+            write!(f, "{:>14}", operation.name())?;
         }
         for &(number, name) in ALL {
             write!(f, "\n{number:>2} {name:<8}")?;
             for operation in OPERATIONS {
                 let count = self.counts[operation as usize][number as usize];
                 if count > 0 || operation.numbers().contains(&number) {
-                    write!(f, "{count:>13}")?;
+                    write!(f, "{count:>14}")?;
                 } else {
-                    write!(f, "{:>13}", "-")?;
+                    write!(f, "{:>14}", "-")?;
                 }
             }
         }
@@ -169,6 +183,7 @@ impl fmt::Display for Coverage {
             self.encoded, self.read, self.nearest
         )?;
         write!(f, "\nframes refused for their {}", self.refused)?;
-        write!(f, "\nnearest reading: {}", self.decisions)
+        write!(f, "\nnearest reading: {}", self.decisions)?;
+        write!(f, "\ntallies: {}", self.tallied)
     }
 }

@@ -1,5 +1,6 @@
 //! What came of nearest reading.
 
+use crate::seen;
 use std::fmt;
 
 #[derive(Clone, Copy)]
@@ -46,8 +47,8 @@ impl Decisions {
     }
 
     pub fn verdict(&self) -> Result<(), String> {
-        match self.0.iter().position(|&count| count == 0) {
-            Some(never) => Err(format!("nearest reading: never {}", OUTCOMES[never])),
+        match seen::never(&OUTCOMES, &self.0) {
+            Some(outcome) => Err(format!("nearest reading: never {outcome}")),
             None => Ok(()),
         }
     }
@@ -55,11 +56,6 @@ impl Decisions {
 
 impl fmt::Display for Decisions {
     fn fmt(&self, f: &mut fmt::Formatter) -> fmt::Result {
-        let told: Vec<String> = OUTCOMES
-            .iter()
-            .zip(self.0)
-            .map(|(outcome, count)| format!("{outcome} {count}"))
-            .collect();
-        write!(f, "{}", told.join(", "))
+        write!(f, "{}", seen::told(&OUTCOMES, &self.0))
     }
 }

@@ -1,4 +1,4 @@
-//! Differential tests: an implementation of the ten calls against the reference.
+//! Differential tests: an implementation of the calls against the reference.
 //!
 //! [`run::random_cases`] and [`exhaustive`] compare number, place, size, register and the whole of
 //! every lent buffer, on success and on refusal; of nearest reading what the rules fix ([`nearest`]).
@@ -6,6 +6,7 @@
 pub mod compare;
 pub mod coverage;
 pub mod decisions;
+pub mod entries;
 pub mod exhaustive;
 pub mod inputs;
 pub mod lent;
@@ -13,7 +14,11 @@ pub mod nearest;
 pub mod points;
 pub mod random;
 pub mod received;
+pub mod rows;
 pub mod run;
+pub mod seen;
 pub mod starts;
 pub mod tables;
+pub mod tallied;
+pub mod tally;
 pub mod under_test;

@@ -1,11 +1,13 @@
 //! `difftest [CASES] [SEED]`: the static library against the reference. Exit 1 on a mismatch, or
 //! if a number that an operation can give never came, or a start, a fault of a frame, or an outcome of
-//! nearest reading.
+//! nearest reading or of a tally.
 
 use difftest::compare::Comparison;
 use difftest::coverage::Coverage;
 use difftest::exhaustive::{few_frames, largest_symbols, one_tone};
+use difftest::rows::{every_byte, every_length};
 use difftest::run::random_cases;
+use difftest::tally::{largest_figures, long_run};
 use difftest::under_test::Library;
 use std::process::ExitCode;
 use std::time::Instant;
@@ -45,10 +47,15 @@ fn run(cases: u64, seed: u64) -> Result<(), String> {
     };
     let exhaustive = one_tone(&mut comparison, 15)
         .and_then(|()| few_frames(&mut comparison))
-        .and_then(|()| largest_symbols(&mut comparison));
+        .and_then(|()| largest_symbols(&mut comparison))
+        .and_then(|()| every_length(&mut comparison))
+        .and_then(|()| every_byte(&mut comparison))
+        .and_then(|()| largest_figures(&mut comparison));
     exhaustive.map_err(|told| format!("MISMATCH, exhaustive: {told}"))?;
     random_cases(&mut comparison, cases, seed)
         .map_err(|(case, told)| format!("MISMATCH, seed {seed} case {case}: {told}"))?;
+    long_run(&mut comparison, seed)
+        .map_err(|told| format!("MISMATCH, seed {seed}, a run of tallies: {told}"))?;
     println!("{}", comparison.coverage);
     let calls = comparison.coverage.total();
     let seconds = start.elapsed().as_secs_f64();

@@ -1,12 +1,14 @@
 //! The random cases: each draws tables and makes every call at least once.
 
 use crate::compare::{Comparison, Mismatch};
+use crate::entries::{random_entry, random_tally};
 use crate::inputs::{random_bits, random_frame, random_label, random_point};
 use crate::inputs::{random_register, random_room, random_start};
 use crate::points::{any_points, points_to_read};
 use crate::random::Random;
 use crate::received::random_received;
 use crate::tables::{random_tables, GivenTables};
+use crate::tallied::Origin;
 use reference::forms::frame_bytes;
 use reference::words::lists_of;
 
@@ -34,7 +36,8 @@ fn run_case(comparison: &mut Comparison, random: &mut Random) -> Result<(), Mism
         read_case(comparison, random, &given)?;
     }
     nearest_case(comparison, random, &given)?;
-    one_tone_case(comparison, random)
+    one_tone_case(comparison, random)?;
+    tally_case(comparison, random)
 }
 
 fn encode_case(
@@ -102,4 +105,13 @@ fn one_tone_case(comparison: &mut Comparison, random: &mut Random) -> Result<(),
     let (x, y) = random_point(random, bits);
     comparison.read_point(bits, x, y)?;
     comparison.draw(random_register(random))
+}
+
+/// Two symbols counted in a tally from outside.
+fn tally_case(comparison: &mut Comparison, random: &mut Random) -> Result<(), Mismatch> {
+    let before = random_tally(random);
+    let entries = [random_entry(random), random_entry(random)];
+    let (_, between) = comparison.tally_entry((&before, Origin::Outside), &entries[0])?;
+    comparison.tally_entry((&between, Origin::Outside), &entries[1])?;
+    Ok(())
 }

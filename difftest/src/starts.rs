@@ -1,5 +1,6 @@
 //! Which starts came with which frame sizes, and for what frames were refused.
 
+use crate::seen;
 use clevisroot_sys::refusals::DONE;
 use clevisroot_sys::Answer;
 use reference::forms::{frame_bytes, packed_bit, start_accepted};
@@ -74,8 +75,8 @@ impl Causes {
     }
 
     pub fn verdict(&self) -> Result<(), String> {
-        match self.0.iter().position(|&count| count == 0) {
-            Some(cause) => Err(format!("never a frame refused for its {}", CAUSES[cause])),
+        match seen::never(&CAUSES, &self.0) {
+            Some(cause) => Err(format!("never a frame refused for its {cause}")),
             None => Ok(()),
         }
     }
@@ -83,11 +84,6 @@ impl Causes {
 
 impl fmt::Display for Causes {
     fn fmt(&self, f: &mut fmt::Formatter) -> fmt::Result {
-        let told: Vec<String> = CAUSES
-            .iter()
-            .zip(self.0)
-            .map(|(cause, count)| format!("{cause} {count}"))
-            .collect();
-        write!(f, "{}", told.join(", "))
+        write!(f, "{}", seen::told(&CAUSES, &self.0))
     }
 }

@@ -1,8 +1,8 @@
 //! What is held against the reference.
 
-use clevisroot_sys::{Answer, Drawn, Label, Nearest, Point, Tables};
+use clevisroot_sys::{Answer, Drawn, Label, Nearest, Point, Tables, Tallied, Tally};
 
-/// The ten calls of include/clevisroot.h.
+/// The calls of include/clevisroot.h.
 pub trait Core {
     fn check(&self, tables: Tables) -> Answer;
     fn reorder(&self, tables: Tables, tones_out: &mut [u16], bits_out: &mut [u8]) -> Answer;
@@ -46,6 +46,9 @@ pub trait Core {
     fn map_label(&self, bits: u8, label: u32) -> Point;
     fn read_point(&self, bits: u8, x: i16, y: i16) -> Label;
     fn draw(&self, reg: u32) -> Drawn;
+    fn tally_new(&self) -> Tally;
+    fn tally_read(&self, tally: Tally, sent: &[u8], read: &[u8]) -> Tallied;
+    fn tally_refused(&self, tally: Tally, sent: &[u8], refusal: u32) -> Tallied;
 }
 
 /// The static library.
@@ -121,5 +124,17 @@ impl Core for Library {
 
     fn draw(&self, reg: u32) -> Drawn {
         clevisroot_sys::draw(reg)
+    }
+
+    fn tally_new(&self) -> Tally {
+        clevisroot_sys::tally_new()
+    }
+
+    fn tally_read(&self, tally: Tally, sent: &[u8], read: &[u8]) -> Tallied {
+        clevisroot_sys::tally_read(tally, sent, read)
+    }
+
+    fn tally_refused(&self, tally: Tally, sent: &[u8], refusal: u32) -> Tallied {
+        clevisroot_sys::tally_refused(tally, sent, refusal)
     }
 }

@@ -1,7 +1,7 @@
 //! A second implementation of document 01, as amended, written from its text alone: lists of bits
 //! and plain loops, with one module for each section and the section's letters.
 //!
-//! The ten calls are in [`operations`]. Each answers for all inputs.
+//! The calls are in [`operations`]. Each answers for all inputs.
 
 pub mod coding;
 pub mod figures;
@@ -13,8 +13,9 @@ pub mod points;
 pub mod refusals;
 pub mod reordering;
 pub mod symbol;
+pub mod tally;
 pub mod words;
 
 pub use forms::{Mode, Tables};
 pub use operations::{check, draw, encode, encode_at, map_label, read, read_at, read_nearest};
-pub use operations::{read_point, reorder, Answer};
+pub use operations::{read_point, reorder, tally_entry, tally_new, Answer};

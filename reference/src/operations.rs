@@ -1,4 +1,4 @@
-//! The ten calls: which refusals each uses, in the order of their numbers, and what each answers.
+//! The calls: which refusals each uses, in the order in which it tests them, and what each answers.
 
 use crate::filler::{register_valid, Filler};
 use crate::forms::{bits_of_frame, frame_accepted, frame_bytes, frame_of_bits};
@@ -8,13 +8,14 @@ use crate::points::{constellation, label_of, Point};
 use crate::refusals::{refuse_if, test_tables, Refusal};
 use crate::reordering::{frame_size, reordered_bits, reordered_tones};
 use crate::symbol::{read_points, write_points};
+use crate::tally::{figures_of, Entry, Tally};
 
 /// What a call answers. Without contents every lent buffer is as it came.
 #[derive(Clone, Debug, PartialEq, Eq)]
 pub struct Answer<C> {
     pub number: u32,
     pub place: u32,
-    /// L, 0 on refusal and in the one-tone calls.
+    /// L, 0 on refusal, in the one-tone calls and those of a tally.
     pub size: u32,
     /// The register after the draws, as given on refusal, 0 where none was given.
     pub register: u32,
@@ -198,4 +199,15 @@ pub fn draw(register: u32) -> Answer<bool> {
         Ok((0, filler.register(), bit))
     };
     answer(register, outcome())
+}
+
+/// A new tally, which is as reset: the figures of no entries.
+pub fn tally_new() -> Tally {
+    figures_of(&[])
+}
+
+/// Counting a symbol, which was read or refused: 22, then 11. Without contents the tally is as it came.
+pub fn tally_entry(tally: &Tally, entry: &Entry) -> Answer<Tally> {
+    let outcome = tally.test(entry);
+    answer(0, outcome.map(|()| (0, 0, tally.with(entry))))
 }

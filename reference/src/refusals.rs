@@ -3,7 +3,7 @@
 use crate::forms::{Mode, Place, Subcarrier, Tables};
 use crate::reordering::{nonzero_entries, reordered_bits};
 
-/// One case for each number, carrying the place where it has one. Numbers 9 and 17 to 22 are unused.
+/// One case for each number, carrying the place where it has one. Numbers 9 and 17 to 21 are unused.
 #[derive(Clone, Copy, Debug, PartialEq, Eq)]
 pub enum Refusal {
     Size,
@@ -21,6 +21,7 @@ pub enum Refusal {
     Monitor(Place),
     Trellis(usize),
     Label,
+    Full,
     Range(Place),
 }
 
@@ -44,6 +45,7 @@ impl Refusal {
             Monitor(_) => 14,
             Trellis(_) => 15,
             Label => 16,
+            Full => 22,
             Range(_) => 23,
         }
     }
@@ -54,21 +56,22 @@ impl Refusal {
             Range(Place(p)) => p,
             Bits(Subcarrier(i)) | Stray(Subcarrier(i)) | Gain(Subcarrier(i)) => i,
             Trellis(number) => number,
-            Size | Odd | Few | Room | Frame | Seed | Label => 0,
+            Size | Odd | Few | Room | Frame | Seed | Label | Full => 0,
         };
         u32::try_from(place).expect("places are below 2 to the 16")
     }
 }
 
-/// The name that the page gives a number; 9 and 17 to 22 have none.
+/// The name that the page gives a number; 9 and 17 to 21 have none.
 pub fn name(number: u32) -> &'static str {
     const NAMES: [&str; 17] = [
         "DONE", "SIZE", "TONE", "TWICE", "BITS", "STRAY", "GAIN", "ODD", "FEW", "UNKNOWN", "ROOM",
         "FRAME", "SEED", "OFFGRID", "MONITOR", "TRELLIS", "LABEL",
     ];
     match number {
+        17..=21 => "UNKNOWN",
+        22 => "FULL",
         23 => "RANGE",
-        17..=22 => "UNKNOWN",
         _ => NAMES[number as usize],
     }
 }

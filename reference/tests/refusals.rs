@@ -4,9 +4,10 @@ use clevisroot_sys::refusals::*;
 use reference::figures::{equal_tones, table_a};
 use reference::filler::RESET;
 use reference::points::Point;
+use reference::tally::{Entry, Tally};
 use reference::words::lists_of;
 use reference::{check, draw, encode, map_label, read, read_nearest, read_point, reorder};
-use reference::{Mode, Tables};
+use reference::{tally_entry, tally_new, Mode, Tables};
 
 /// Number and place for bench table A after a change.
 fn changed(change: impl Fn(&mut Tables)) -> (u32, u32) {
@@ -211,6 +212,62 @@ fn range_23() {
         assert_eq!(told(&[(p, (-1023, 1023))]), (DONE, 0));
     }
     assert_eq!(told(&[(4, (1024, 0)), (3, (0, -1024))]), (RANGE, 3));
+}
+
+/// The number with which an entry is refused by a tally of so many symbols.
+fn counted(symbols: u32, entry: Entry) -> u32 {
+    let tally = Tally {
+        symbols,
+        ..tally_new()
+    };
+    let answer = tally_entry(&tally, &entry);
+    assert_eq!(answer.contents.is_none(), answer.number != DONE);
+    assert_eq!((answer.place, answer.size, answer.register), (0, 0, 0));
+    answer.number
+}
+
+fn read_entry(sent: usize, read: usize) -> Entry {
+    Entry::Read {
+        sent: vec![0; sent],
+        read: vec![0; read],
+    }
+}
+
+fn refused_entry(sent: usize, refusal: u32) -> Entry {
+    Entry::Refused {
+        sent: vec![0; sent],
+        refusal,
+    }
+}
+
+#[test]
+fn full_22_before_frame_11() {
+    for symbols in [65_535, 65_536, u32::MAX] {
+        assert_eq!(counted(symbols, read_entry(1, 1)), FULL);
+        assert_eq!(counted(symbols, read_entry(1, 2)), FULL);
+        assert_eq!(counted(symbols, refused_entry(1, 1)), FULL);
+        assert_eq!(counted(symbols, refused_entry(1, 0)), FULL);
+    }
+    for symbols in [0, 65_534] {
+        assert_eq!(counted(symbols, read_entry(1, 1)), DONE);
+        assert_eq!(counted(symbols, refused_entry(1, 1)), DONE);
+    }
+}
+
+#[test]
+fn frame_11_of_an_entry() {
+    for (sent, read) in [(0, 1), (1, 0), (7681, 7680), (7681, 7682), (7682, 7682)] {
+        assert_eq!(counted(0, read_entry(sent, read)), FRAME);
+    }
+    for (sent, refusal) in [(0, 0), (7681, 0), (7682, 1), (7682, 0)] {
+        assert_eq!(counted(0, refused_entry(sent, refusal)), FRAME);
+    }
+    for bytes in [0, 1, 7680, 7681] {
+        assert_eq!(counted(0, read_entry(bytes, bytes)), DONE);
+        for refusal in [1, 9, 24, u32::MAX] {
+            assert_eq!(counted(0, refused_entry(bytes, refusal)), DONE);
+        }
+    }
 }
 
 #[test]

@@ -1,6 +1,6 @@
 /*
- * Every function where it is done: the bench figures, frames from every start, and what the header
- * writes out in C.
+ * Every function where it is done, but for those of a tally (tally.c): the bench figures, frames from
+ * every start, and what the header writes out in C.
  */
 #include "test.h"
 
@@ -297,6 +297,8 @@ static void header(void)
     CHECK(strcmp(clevisroot_refusal_name(CLEVISROOT_LABEL), "LABEL") == 0);
     CHECK(strcmp(clevisroot_refusal_name(9), "UNKNOWN") == 0);
     CHECK(strcmp(clevisroot_refusal_name(17), "UNKNOWN") == 0);
+    CHECK(strcmp(clevisroot_refusal_name(21), "UNKNOWN") == 0);
+    CHECK(strcmp(clevisroot_refusal_name(CLEVISROOT_FULL), "FULL") == 0);
     CHECK(strcmp(clevisroot_refusal_name(CLEVISROOT_RANGE), "RANGE") == 0);
     CHECK(strcmp(clevisroot_refusal_name(24), "UNKNOWN") == 0);
     CHECK(strcmp(clevisroot_refusal_name(UINT32_MAX), "UNKNOWN") == 0);

@@ -1,7 +1,7 @@
 /*
- * Symbols there and back with every lent buffer against a page that nobody may touch: first with the
- * page behind its end, then before its start. A load or store outside a buffer ends the program, also
- * in the archive, which the sanitizers do not see into.
+ * Symbols there and back, and counted, with every lent buffer against a page that nobody may touch:
+ * first with the page before its start, then behind its end. A load or store outside a buffer ends the
+ * program, also in the archive, which the sanitizers do not see into.
  */
 #define _DEFAULT_SOURCE
 #include "test.h"
@@ -193,12 +193,33 @@ static void largest(uint32_t *random)
         frame_at(random, &set, 15 * CLEVISROOT_MAX_TONES, start);
 }
 
+/* Two frames that differ in every bit, counted; and one that was refused. */
+static void counted(size_t bytes)
+{
+    uint8_t *sent = (uint8_t *)lend(p_frame, bytes), *read = (uint8_t *)lend(p_back, bytes);
+    memset(sent, 0x96, bytes);
+    memset(read, 0x69, bytes);
+    clevisroot_tallied t =
+        clevisroot_tally_read(clevisroot_tally_new(), sent, bytes, read, bytes);
+    CHECK(t.number == CLEVISROOT_DONE && t.tally.wrong_bits == 8 * bytes);
+    t = clevisroot_tally_refused(t.tally, sent, bytes, CLEVISROOT_MONITOR);
+    CHECK(t.number == CLEVISROOT_DONE && t.tally.first_refused == 1);
+}
+
+static void counted_within(size_t first, size_t last)
+{
+    for (size_t bytes = first; bytes <= last; bytes++)
+        counted(bytes);
+}
+
 int main(void)
 {
     uint32_t random = 2463534242u;
     make_pages();
     for (behind = 0; behind < 2; behind++) {
         largest(&random);
+        counted_within(0, 800);
+        counted_within(CLEVISROOT_MAX_FRAME - 300, CLEVISROOT_MAX_FRAME);
         CHECK(symbols_within(&random, 1, 64, 40) > 2000);
         CHECK(symbols_within(&random, CLEVISROOT_MAX_TONES - 8, CLEVISROOT_MAX_TONES, 4) == 36);
     }

@@ -143,10 +143,34 @@ static void empty_frame(void)
     CHECK(c.number == CLEVISROOT_DONE && c.size == 0 && c.reg == a.reg && c.total == 0);
 }
 
+/* The frames of a tally's entries, null or not; a length other than 0 is 1. */
+static void tallies(const uint8_t *sent, size_t sent_len, const uint8_t *read, size_t read_len)
+{
+    clevisroot_tally tally = clevisroot_tally_new(), full = tally;
+    full.symbols = CLEVISROOT_MAX_SYMBOLS;
+    uint32_t number = sent_len == read_len ? CLEVISROOT_DONE : CLEVISROOT_FRAME;
+    CHECK(clevisroot_tally_read(tally, sent, sent_len, read, read_len).number == number);
+    CHECK(clevisroot_tally_read(full, sent, sent_len, read, read_len).number == CLEVISROOT_FULL);
+    CHECK(clevisroot_tally_refused(tally, sent, sent_len, 1).number == CLEVISROOT_DONE);
+    CHECK(clevisroot_tally_refused(tally, sent, sent_len, 0).number == CLEVISROOT_FRAME);
+    CHECK(clevisroot_tally_refused(full, sent, sent_len, 1).number == CLEVISROOT_FULL);
+}
+
+/* Each frame null, empty, or one byte. */
+static void every_frame_way(void)
+{
+    static const uint8_t byte;
+    for (unsigned k = 0; k < 9; k++) {
+        unsigned first = k / 3, second = k % 3;
+        tallies(first ? &byte : NULL, first / 2, second ? &byte : NULL, second / 2);
+    }
+}
+
 int main(void)
 {
     every_way(0);
     every_way(1);
     empty_frame();
+    every_frame_way();
     return verdict("null");
 }

@@ -1,6 +1,6 @@
 /*
- * Every refusal number of every function: number and place, L 0, the register as it came, and no
- * byte written. At the end each function has given exactly the numbers that the header lists.
+ * Every refusal number of every function: number and place, L 0, the register or the tally as it came,
+ * and no byte written. At the end each function has given exactly the numbers that the header lists.
  */
 #include "test.h"
 
@@ -17,6 +17,8 @@ static const uint32_t can_give[FUNCTIONS] = {
     1u | 1u << 16,
     1u | 1u << 13 | 1u << 16,
     1u | 1u << 12,
+    1u | 1u << 11 | 1u << 22,
+    1u | 1u << 11 | 1u << 22,
 };
 
 static void reorder(const table_set *set, size_t tones_len, size_t bits_len, uint32_t number,
@@ -312,6 +314,57 @@ static void one_tone(void)
     read_point(2, -1, 1, CLEVISROOT_DONE);
 }
 
+/* The answer has this number, and of a refusal the tally that was given. */
+static void hold_tallied(int function, clevisroot_tallied t, uint32_t number,
+                         clevisroot_tally before)
+{
+    given[function] |= 1u << t.number;
+    CHECK(t.number == number);
+    if (number == CLEVISROOT_DONE)
+        CHECK(t.tally.symbols == before.symbols + 1);
+    else
+        CHECK(same_figures(t.tally, before));
+}
+
+static const uint8_t long_frame[CLEVISROOT_MAX_FRAME + 1];
+
+static void count_read(uint32_t symbols, size_t sent_len, size_t read_len, uint32_t number)
+{
+    clevisroot_tally before = {symbols, 1, 2, 3, 4};
+    hold_tallied(COUNTING_READ,
+                 clevisroot_tally_read(before, long_frame, sent_len, long_frame, read_len), number,
+                 before);
+}
+
+static void count_refused(uint32_t symbols, size_t sent_len, uint32_t refusal, uint32_t number)
+{
+    clevisroot_tally before = {symbols, 1, 2, 3, CLEVISROOT_NONE_REFUSED};
+    hold_tallied(COUNTING_REFUSED, clevisroot_tally_refused(before, long_frame, sent_len, refusal),
+                 number, before);
+}
+
+/* Each reason for FRAME, in a tally of so many symbols; one that is full gives FULL instead. */
+static void tallies(uint32_t symbols)
+{
+    size_t most = CLEVISROOT_MAX_FRAME;
+    int full = symbols >= CLEVISROOT_MAX_SYMBOLS;
+    uint32_t done = full ? CLEVISROOT_FULL : CLEVISROOT_DONE;
+    uint32_t frame = full ? CLEVISROOT_FULL : CLEVISROOT_FRAME;
+    count_read(symbols, 0, 0, done);
+    count_read(symbols, most, most, done);
+    count_read(symbols, 0, 1, frame);
+    count_read(symbols, 1, 0, frame);
+    count_read(symbols, most, most - 1, frame);
+    count_read(symbols, most, most + 1, frame);
+    count_read(symbols, most + 1, most, frame);
+    count_read(symbols, most + 1, most + 1, frame);
+    count_refused(symbols, 0, 1, done);
+    count_refused(symbols, most, UINT32_MAX, done);
+    count_refused(symbols, most, 0, frame);
+    count_refused(symbols, most + 1, 1, frame);
+    count_refused(symbols, most + 1, 0, frame);
+}
+
 /* Tables that pass, so that every function is seen to answer 0 too. */
 static void done(void)
 {
@@ -332,6 +385,11 @@ int main(void)
     ranges(0);
     points();
     one_tone();
+    tallies(0);
+    tallies(CLEVISROOT_MAX_SYMBOLS - 1);
+    tallies(CLEVISROOT_MAX_SYMBOLS);
+    tallies(CLEVISROOT_MAX_SYMBOLS + 1);
+    tallies(UINT32_MAX);
     done();
     for (int function = 0; function < FUNCTIONS; function++)
         CHECK(given[function] == can_give[function]);

@@ -68,6 +68,13 @@ static void one_tone(void)
              clevisroot_draw(1).number;
 }
 
+static void tally(void)
+{
+    size_t most = CLEVISROOT_MAX_FRAME;
+    clevisroot_tallied t = clevisroot_tally_read(clevisroot_tally_new(), frame, most, frame, most);
+    number = t.number | clevisroot_tally_refused(t.tally, frame, most, 1).number;
+}
+
 typedef void call(void);
 
 static void *run(void *argument)
@@ -128,6 +135,7 @@ static void measure_all(uint8_t coded)
     measure("read_at", read_at, CLEVISROOT_STACK);
     measure("nearest", nearest, CLEVISROOT_NEAREST_STACK);
     measure("one tone", one_tone, CLEVISROOT_STACK);
+    measure("tally", tally, CLEVISROOT_STACK);
 }
 
 int main(void)

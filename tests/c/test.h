@@ -76,7 +76,7 @@ static inline void random_frame(uint32_t *state, uint8_t *frame, uint32_t size, 
         frame[bytes - 1] &= (uint8_t)((1u << (end % 8)) - 1);
 }
 
-/* The functions of the library. */
+/* The functions of the library that answer a number. */
 enum {
     CHECKING,
     REORDERING,
@@ -88,6 +88,8 @@ enum {
     MAPPING,
     LABELLING,
     DRAWING,
+    COUNTING_READ,
+    COUNTING_REFUSED,
     FUNCTIONS
 };
 
@@ -169,6 +171,12 @@ static inline void hold_read_nearest(const table_set *set, const int16_t *x, siz
     if (number != CLEVISROOT_DONE)
         CHECK(nearest.total == 0 && untouched(frame, sizeof frame) &&
               untouched(work, sizeof work));
+}
+
+/* Five numbers have nothing between them. */
+static inline int same_figures(clevisroot_tally one, clevisroot_tally other)
+{
+    return memcmp(&one, &other, sizeof one) == 0;
 }
 
 /* The squared distance of two points. */

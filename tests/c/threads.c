@@ -9,7 +9,7 @@
 #define SYMBOLS 400
 #define TONES 512
 
-/* A stream of symbols there and back, and one number made of all its points, frames and answers. */
+/* A stream of symbols there and back, counted; one number made of its points, frames and answers. */
 typedef struct {
     uint8_t coded;
     uint32_t seed;
@@ -18,6 +18,7 @@ typedef struct {
     uint8_t bits[TONES], frame[TONES * 2], back[TONES * 2], moved[TONES * 2], work[TONES * 8];
     uint16_t gains[TONES], tones[TONES];
     int16_t x[TONES], y[TONES], x_at[TONES], y_at[TONES];
+    clevisroot_tally tally;
 } stream;
 
 static void load(stream *s)
@@ -88,10 +89,29 @@ static uint32_t one_symbol(stream *s, const table_set *set, uint32_t size, uint3
     return written.reg;
 }
 
+/* The symbol counted as read, and as wrong with the bytes of its nearest frame, and as refused. */
+static void one_report(stream *s, uint32_t size)
+{
+    size_t bytes = clevisroot_frame_bytes(size);
+    clevisroot_tallied right =
+        clevisroot_tally_read(s->tally, s->frame, bytes, s->back, bytes);
+    clevisroot_tallied wrong =
+        clevisroot_tally_read(right.tally, s->frame, bytes, s->moved, bytes);
+    clevisroot_tallied refused =
+        clevisroot_tally_refused(wrong.tally, s->frame, bytes, CLEVISROOT_MONITOR);
+    if (right.tally.wrong_bits != s->tally.wrong_bits || refused.number != CLEVISROOT_DONE ||
+        refused.tally.symbols != s->tally.symbols + 3)
+        s->wrong++;
+    s->tally = refused.tally;
+    digest(s, s->tally.wrong_frames);
+    digest(s, s->tally.wrong_bits);
+}
+
 static void *run(void *argument)
 {
     stream *s = (stream *)argument;
     load(s);
+    s->tally = clevisroot_tally_new();
     table_set set = {s->coded, s->bits, TONES, s->gains, TONES, s->tones, TONES};
     clevisroot_answer checked = clevisroot_check(TABLES(&set));
     uint32_t reg = CLEVISROOT_RESET;
@@ -99,6 +119,7 @@ static void *run(void *argument)
         uint32_t after = one_symbol(s, &set, checked.size, reg);
         one_start(s, &set, checked.size, reg, (uint8_t)(k % 8));
         one_nearest(s, &set, checked.size, reg, (uint8_t)(k % 8));
+        one_report(s, checked.size);
         reg = after;
     }
     return NULL;

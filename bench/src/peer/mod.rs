@@ -10,6 +10,7 @@ pub(crate) mod path;
 mod plan;
 mod read;
 mod tables;
+mod tally;
 mod trellis;
 mod write;
 
@@ -18,6 +19,8 @@ use constellation::{label_of, point_of};
 use filler::{register_valid, Filler};
 use nearest::Received;
 use plan::Plan;
+
+pub use tally::{tally_new, tally_read, tally_refused};
 
 /// The largest G.
 const MOST_TONES: usize = 4096;
@@ -39,6 +42,7 @@ const OFFGRID: u32 = 13;
 const MONITOR: u32 = 14;
 const TRELLIS: u32 = 15;
 const LABEL: u32 = 16;
+const FULL: u32 = 22;
 const RANGE: u32 = 23;
 
 /// A number and its place.
