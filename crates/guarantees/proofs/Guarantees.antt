@@ -1,7 +1,7 @@
 -- The promises over the definitions of document 01: demand 3, in full; of demand 2, how many bits go on the tones, and which go where;
 -- what else is shown of the definitions; and of request R-13, nearest reading, by itself and against exact reading. That the code gives
 -- what they say is the `ensures` of each operation. Each proof cites the part that shows it. The words are those of specs/Words.antt and
--- of crate g9932.
+-- of crate g9932. Request R-12, the pair report, has a page of its own: crates/tally/proofs/Theorems.antt.
 use Prim.Native.Nat.{ℕ, _+_, _-_, _*_, _/_, _%_, _^_, _≤_, _<_}
 use mathlib.Core.Bool.{Bool, true, false, cond, not}
 use mathlib.Core.List.{List, [], _∷_, map}
