@@ -47,7 +47,7 @@ impl Facts {
         }
     }
 
-    pub fn monitored(&self) -> usize {
+    fn monitored(&self) -> usize {
         self.reach.tones
     }
 

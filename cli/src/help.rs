@@ -64,7 +64,7 @@ fn command_line(command: &Command) -> String {
 }
 
 fn row((form, about): &(String, &str)) -> String {
-    format!("  {form:<24}{about}\n")
+    format!("  {form:<26}{about}\n")
 }
 
 /// All options with what they do.

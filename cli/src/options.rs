@@ -47,25 +47,25 @@ pub const START: Opt = Opt {
 pub const PAIR_TABLES: Opt = Opt {
     name: "tables",
     kind: Kind::Input,
-    about: "the table set of a pair whose points are read",
+    about: "of report: the table set of a pair whose points are read here",
 };
 
 pub const PAIR_SENT: Opt = Opt {
     name: "sent",
     kind: Kind::Input,
-    about: "the frames that were sent on it",
+    about: "of report: the frames that were sent on that pair",
 };
 
 pub const PAIR_POINTS: Opt = Opt {
     name: "points",
     kind: Kind::Input,
-    about: "the points that came of them",
+    about: "of report: the points that came of them",
 };
 
 pub const PAIR_NAME: Opt = Opt {
     name: "pair",
     kind: Kind::Name,
-    about: "its name, else that of the points file",
+    about: "of report: the name of that pair, else that of its points file",
 };
 
 pub const OUT: Opt = Opt {

@@ -23,9 +23,9 @@ const STYLE: &str = r##"<style>
 @page{margin:12mm}
 *{box-sizing:border-box}
 body{margin:0;background:#ddd;color:#000;font:10pt/1.35 Helvetica,Arial,sans-serif}
-section{display:flex;flex-direction:column;width:186mm;min-height:240mm;margin:8mm auto;padding:12mm;background:#fff;overflow-wrap:anywhere}
+section{display:flex;flex-direction:column;width:210mm;min-height:240mm;margin:8mm auto;padding:12mm;background:#fff;overflow-wrap:anywhere}
 h1{margin:0 0 3mm;font-size:17pt;line-height:1.2}
-h2{margin:4mm 0 1.5mm;font-size:11pt}
+h2{margin:3mm 0 1mm;font-size:11pt}
 p{margin:0 0 1.5mm}
 .kind{margin:0;font-size:9pt}
 .verdict{margin:0 0 2.5mm;padding:2.5mm 3mm;border:1.5pt solid #000;font-size:12pt}
@@ -40,7 +40,10 @@ th{font-weight:normal;font-size:8.5pt}
 .refusals{font-size:9pt;line-height:1.2}
 .refusals td:nth-child(2){text-align:right}
 .refusals td:first-child,.refusals td:nth-child(2){white-space:nowrap}
-.facts{font-size:9pt;line-height:1.25}
+.many{font-size:7.5pt;line-height:1.1}
+.many td{padding:.2mm 2mm}
+.facts{font-size:8.5pt;line-height:1.2}
+.facts th,.facts td{padding:.4mm 2mm}
 .facts th{width:38mm}
 svg{width:100%;height:auto}
 svg text{font-size:11px}
@@ -50,7 +53,7 @@ svg text{font-size:11px}
 .refused{fill:#000}
 .wrong{fill:url(#hatch);stroke:#000;stroke-width:.6px}
 .sent{fill:#777}
-.hands{display:flex;gap:6mm;margin-top:auto;padding-top:14mm}
+.hands{display:flex;gap:6mm;margin-top:auto;padding-top:11mm}
 .hands span{flex:1;padding-top:1mm;border-top:.75pt solid #000;font-size:8.5pt}
 .hands span:last-child{flex:2}
 footer{margin-top:3mm;font-size:8pt}

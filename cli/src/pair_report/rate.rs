@@ -36,6 +36,7 @@ impl Rate {
     pub fn words(&self) -> String {
         let of = format!("{} of {}", self.wrong, count(self.bits, "bit"));
         match self.bytes {
+            _ if self.bits == 0 => "none, for no bit was read".to_string(),
             Some(bytes) => format!("{of} in {}", count(bytes, "byte")),
             None => of,
         }

@@ -2,12 +2,12 @@
 
 use super::meaning::meaning;
 use crate::words::count;
-use clevisroot_sys::refusals::name;
+use clevisroot_sys::refusals::{name, ALL};
 use std::cmp::Reverse;
 use std::collections::BTreeMap;
 
-/// All numbers that calls give, and a few that none gives.
-const MOST_ROWS: usize = 20;
+/// All numbers that calls give, and one row for the others.
+const MOST_ROWS: usize = 18;
 
 pub struct Row {
     /// "14 MONITOR"
@@ -22,13 +22,14 @@ pub fn title(number: u32) -> String {
     format!("{number} {}", name(number))
 }
 
-/// A row a number, in the order of the numbers. Where there are too many, those of the fewest symbols
-/// share the last row.
+/// A row a number, in the order of the numbers. Where there are too many, some share the last row:
+/// numbers that no call gives, then those of the fewest symbols.
 pub fn rows(refusals: &BTreeMap<u32, u32>) -> Vec<Row> {
     let mut numbers: Vec<(u32, u32)> = refusals.iter().map(|(&n, &symbols)| (n, symbols)).collect();
     let mut others = Vec::new();
     if numbers.len() > MOST_ROWS {
-        numbers.sort_by_key(|&(number, symbols)| (Reverse(symbols), number));
+        let unknown = |number| !ALL.iter().any(|(known, _)| *known == number);
+        numbers.sort_by_key(|&(number, symbols)| (unknown(number), Reverse(symbols), number));
         others = numbers.split_off(MOST_ROWS - 1);
         numbers.sort_unstable();
     }
@@ -42,7 +43,7 @@ pub fn rows(refusals: &BTreeMap<u32, u32>) -> Vec<Row> {
         rows.push(Row {
             title: count(others.len(), "other number"),
             symbols: others.iter().map(|(_, symbols)| symbols).sum(),
-            meaning: "fewer symbols each; --json has them all",
+            meaning: "--json has them all",
         });
     }
     rows

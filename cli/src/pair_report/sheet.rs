@@ -21,7 +21,7 @@ pub fn sheet(pair: &Pair) -> String {
         symbols(pair),
         refused(pair),
         facts(pair),
-        footer()
+        footer(pair)
     )
 }
 
@@ -56,7 +56,7 @@ fn figures(pair: &Pair) -> String {
         .collect();
     format!(
         "<table class=\"figures\">\n<tr>{heads}</tr>\n<tr>{cells}</tr>\n</table>\n\
-         <p class=\"small\">Wrong bits: {} of the frames that were read. Symbols count from 0.</p>\n",
+         <p class=\"small\">Wrong bits: {}; only frames that were read count. Symbols count from 0.</p>\n",
         rate.words()
     )
 }
@@ -69,6 +69,9 @@ fn symbols(pair: &Pair) -> String {
     format!("<h2>The symbols over time</h2>\n{picture}")
 }
 
+/// More refusals are printed small, so that they fit the sheet.
+const FEW: usize = 8;
+
 /// The refusals by number, with their meaning.
 fn refused(pair: &Pair) -> String {
     let row = |row: &Row| {
@@ -80,11 +83,16 @@ fn refused(pair: &Pair) -> String {
         format!("<tr><td>{title}</td><td>{symbols}</td><td>{meaning}</td></tr>\n")
     };
     let rows = refusals::rows(&pair.count.refusals);
+    let class = if rows.len() > FEW {
+        "refusals many"
+    } else {
+        "refusals"
+    };
     let rows: String = rows.iter().map(row).collect();
     let table = match rows.as_str() {
         "" => "<p>None.</p>\n".to_string(),
         rows => format!(
-            "<table class=\"refusals\">\n<tr><th>refusal</th><th>symbols</th><th>meaning</th></tr>\n\
+            "<table class=\"{class}\">\n<tr><th>refusal</th><th>symbols</th><th>meaning</th></tr>\n\
              {rows}</table>\n"
         ),
     };
@@ -120,10 +128,14 @@ fn facts(pair: &Pair) -> String {
 const HANDS: &str = "<div class=\"hands\"><span>Place</span><span>Date</span>\
                      <span>Signature of the jointer</span></div>\n";
 
-fn footer() -> String {
+fn footer(pair: &Pair) -> String {
+    let (given, it) = match pair.source.log {
+        Some(_) => ("entries in the log", "it"),
+        None => ("symbols in the files above", "them"),
+    };
     format!(
         "<footer>Counted by the library of clevisroot {}, which is proved. The figures are those of \
-         the entries in the log; nothing is known of what is not in it.</footer>\n",
+         the {given}; nothing is known of what is not in {it}.</footer>\n",
         env!("CARGO_PKG_VERSION")
     )
 }

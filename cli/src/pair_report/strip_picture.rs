@@ -3,7 +3,7 @@
 use super::count::Outcome;
 use super::strip::Strip;
 use crate::svg::{block, Pen};
-use crate::words::count;
+use std::ops::Range;
 
 const WIDTH: f64 = 720.0;
 /// Room for half of the last number under the axis.
@@ -34,18 +34,16 @@ fn words(outcome: Outcome) -> &'static str {
     }
 }
 
-const OUTCOMES: [Outcome; 3] = [Outcome::Refused, Outcome::WrongBits, Outcome::AsSent];
-
 /// The strip with its axis and its legend.
 pub fn draw(strip: &Strip) -> String {
     let mut pen = Pen::default();
-    for outcome in OUTCOMES {
+    for outcome in [Outcome::Refused, Outcome::WrongBits, Outcome::AsSent] {
         let (class, height) = look(outcome);
-        let columns = strip.columns.iter().enumerate();
-        let blocks = columns
-            .filter(|(_, column)| **column == outcome)
-            .map(|(index, _)| bar(strip, index, height));
-        pen.path(class, &blocks.collect::<String>());
+        let bars = runs(strip)
+            .into_iter()
+            .filter(|run| strip.columns[run.start] == outcome)
+            .map(|run| bar(strip, run, height));
+        pen.path(class, &bars.collect::<String>());
     }
     draw_axis(&mut pen, strip);
     draw_legend(&mut pen, strip);
@@ -56,22 +54,41 @@ pub fn draw(strip: &Strip) -> String {
     )
 }
 
+/// Columns that are drawn as one: neighbours that are alike, unless they stand apart.
+fn runs(strip: &Strip) -> Vec<Range<usize>> {
+    let mut runs: Vec<Range<usize>> = Vec::new();
+    let apart = width(strip) >= APART;
+    for (index, column) in strip.columns.iter().enumerate() {
+        match runs.last_mut() {
+            Some(run) if !apart && strip.columns[run.start] == *column => run.end = index + 1,
+            _ => runs.push(index..index + 1),
+        }
+    }
+    runs
+}
+
 /// How wide a column is.
 fn width(strip: &Strip) -> f64 {
     let columns = strip.columns.len().max(1) as f64;
     ((WIDTH - 2.0 * MARGIN) / columns).min(WIDEST)
 }
 
-fn bar(strip: &Strip, index: usize, height: f64) -> String {
+/// How long all columns are together.
+fn length(strip: &Strip) -> f64 {
+    width(strip) * strip.columns.len() as f64
+}
+
+fn bar(strip: &Strip, run: Range<usize>, height: f64) -> String {
     let width = width(strip);
     let gap = if width < APART { 0.0 } else { 0.15 * width };
-    let left = MARGIN + width * index as f64;
-    block((left + gap / 2.0, BASE - height), (width - gap, height))
+    let left = MARGIN + width * run.start as f64;
+    let length = width * run.len() as f64;
+    block((left + gap / 2.0, BASE - height), (length - gap, height))
 }
 
 /// A tick and a number under some of the symbols.
 fn draw_axis(pen: &mut Pen, strip: &Strip) {
-    let length = width(strip) * strip.columns.len() as f64;
+    let length = length(strip);
     pen.line((MARGIN, BASE), (MARGIN + length, BASE), "axis");
     for symbol in (0..strip.symbols).step_by(step(strip)) {
         let x = MARGIN + length * (symbol as f64 + 0.5) / strip.symbols as f64;
@@ -80,38 +97,31 @@ fn draw_axis(pen: &mut Pen, strip: &Strip) {
     }
 }
 
-/// 1, 2 or 5 times a power of ten, so that a dozen numbers at most stand under the strip.
+/// 1, 2 or 5 times a power of ten, so that the numbers under the strip stand apart.
 fn step(strip: &Strip) -> usize {
-    const MOST: usize = 12;
-    let length = width(strip) * strip.columns.len() as f64;
-    let room = ((length / (WIDTH / MOST as f64)) as usize).max(1);
-    let mut power = 1;
-    loop {
-        for step in [power, 2 * power, 5 * power] {
-            if strip.symbols.div_ceil(step) <= room {
-                return step;
-            }
-        }
-        power *= 10;
-    }
+    const MOST: f64 = 12.0;
+    let digits = strip.symbols.to_string().len() as f64;
+    let room = (length(strip) / (7.0 * digits + 12.0)).clamp(1.0, MOST);
+    let steps = (0..).flat_map(|power| [1, 2, 5].map(|step| step * 10_usize.pow(power)));
+    let mut fitting = steps.filter(|step| strip.symbols.div_ceil(*step) as f64 <= room);
+    fitting.next().unwrap_or(1)
 }
 
 fn draw_legend(pen: &mut Pen, strip: &Strip) {
     let bottom = HEIGHT - 8.0;
-    let mut x = MARGIN;
-    for outcome in OUTCOMES {
+    for (outcome, x) in [
+        (Outcome::Refused, MARGIN),
+        (Outcome::WrongBits, MARGIN + 82.0),
+        (Outcome::AsSent, MARGIN + 222.0),
+    ] {
         let (class, height) = look(outcome);
-        let height = height.min(50.0) / 3.5;
+        let height = 2.0 + height / 5.0;
         pen.path(class, &block((x, bottom - height), (10.0, height)));
         pen.text((x + 15.0, bottom), "key", words(outcome));
-        x += 26.0 + 6.3 * words(outcome).len() as f64;
     }
     let columns = match strip.symbols_a_column() {
-        0 | 1 => "a column a symbol, from 0 on".to_string(),
-        most => format!(
-            "a column shows the worst of up to {}",
-            count(most, "symbol")
-        ),
+        0 | 1 => "a column a symbol, counted from 0".to_string(),
+        most => format!("a column shows the worst of up to {most} symbols"),
     };
     pen.text((WIDTH - MARGIN, bottom), "key end", &columns);
 }

@@ -5,7 +5,7 @@ use super::rate::Rate;
 use super::refusals;
 use super::verdict::{remarks, verdict, Remark};
 use crate::span::Span;
-use crate::words::count;
+use crate::words::{count, shortened};
 
 const HEADER: [&str; 7] = [
     "pair",
@@ -43,7 +43,7 @@ fn cells(pair: &Pair) -> [String; 7] {
     let tally = &pair.count.tally;
     let first = pair.first_refused();
     [
-        pair.name.clone(),
+        shortened(&pair.name),
         tally.symbols.to_string(),
         tally.refused.to_string(),
         tally.wrong_frames.to_string(),
@@ -67,7 +67,11 @@ fn line(row: &[String; 7], width: impl Fn(usize) -> usize) -> String {
 }
 
 fn section(pair: &Pair) -> Vec<String> {
-    let mut lines = vec![format!("{}: {}", pair.name, pair.source.words())];
+    let mut lines = vec![format!(
+        "{}: {}",
+        shortened(&pair.name),
+        pair.source.words()
+    )];
     lines.extend(table_words(pair));
     lines.push(rate_words(&Rate::of(pair)));
     for row in refusals::rows(&pair.count.refusals) {
@@ -98,9 +102,7 @@ fn table_words(pair: &Pair) -> Option<String> {
 }
 
 /// "wrong bits: 3 of 40 bits, rate 7.5e-2"
-pub fn rate_words(rate: &Rate) -> String {
-    match rate.value() {
-        Some(value) => format!("wrong bits: {}, rate {value}", rate.words()),
-        None => "wrong bits: no rate, because no bit was read".to_string(),
-    }
+fn rate_words(rate: &Rate) -> String {
+    let value = rate.value().map(|value| format!(", rate {value}"));
+    format!("wrong bits: {}{}", rate.words(), value.unwrap_or_default())
 }

@@ -4,6 +4,7 @@ use super::pair::Pair;
 use super::refusals::title;
 use crate::facts::Facts;
 use crate::words::count;
+use clevisroot_sys::refusals::MONITOR;
 use clevisroot_sys::Tally;
 
 /// A sentence beside the verdict.
@@ -121,13 +122,15 @@ fn unshown(facts: &Facts) -> &'static str {
     }
 }
 
-/// After a refused symbol the register that is handed back is not the writer's.
+/// After a refused symbol the register that is handed back is not the writer's, and the monitored
+/// tones of those that follow show that.
 fn register_behind(pair: &Pair) -> Option<Remark> {
-    let monitored = pair.tables.as_ref().map_or(0, Facts::monitored);
-    let behind = pair.source.read.is_some() && monitored > 0 && pair.count.tally.refused > 0;
+    let count = &pair.count;
+    let again = count.tally.refused > 1 && count.refusals.contains_key(&MONITOR);
     let sentence =
         "A refused symbol leaves the register as it was and the writer's has gone on, so \
-                    symbols after it may be refused for that alone.";
+                    symbols after it may be refused with 14 MONITOR for that alone.";
+    let behind = again && pair.source.read.is_some();
     behind.then(|| Remark {
         sentence: sentence.to_string(),
         bold: false,
