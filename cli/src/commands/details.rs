@@ -113,9 +113,10 @@ A LOG is of one pair. Lines pair: NAME and tables: FILE come first, both if you 
 symbol, the frame that was sent and the one that was read, both in hex, or the word refused and a
 number (15 refused 14). A frame of no bytes is -. File names are taken from the log's folder.
 
-Or the points are read here, as read does, with the register carried on: then a log has the lines
-tables: FILE, sent: FILE (frames) and points: FILE, register: N and start: N if needed, and no
-symbols. Without a log, --tables, --sent and --points make a pair.
+Or the points are read here, as read does, each symbol with the register that it was written with,
+which the sent frames tell: then a log has the lines tables: FILE, sent: FILE (frames) and points:
+FILE, register: N and start: N if needed, and no symbols. Without a log, --tables, --sent and
+--points make a pair.
 
 The exit status is 0 whatever the figures are. It is 22 if a pair has more than 65535 symbols, and 11
 if two frames of a symbol have different lengths or are none of the table set; then there is no report.

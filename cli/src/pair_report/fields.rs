@@ -4,7 +4,7 @@ use super::meaning::meaning;
 use super::pair::Pair;
 use super::rate::Rate;
 use super::strip::Strip;
-use super::verdict::{finding, remarks, verdict, Remark};
+use super::verdict::{finding, turned, verdict};
 use crate::json::{Fields, Json};
 use clevisroot_sys::refusals::name;
 
@@ -29,7 +29,7 @@ fn object(pair: &Pair) -> Fields {
         ("first_refused", first.unwrap_or(Json::Null)),
     ]);
     fields.extend(rate(&Rate::of(pair)));
-    let remarks = remarks(pair).into_iter().map(remark).collect();
+    let turned = turned(pair);
     fields.extend([
         ("refusals", refusals(pair)),
         (
@@ -38,7 +38,8 @@ fn object(pair: &Pair) -> Fields {
         ),
         ("verdict", Json::text(finding(pair))),
         ("sentence", Json::text(verdict(pair))),
-        ("remarks", Json::List(remarks)),
+        ("turned_clip", Json::text(turned.sentence)),
+        ("turned_clip_cannot_show", Json::Flag(turned.bold)),
     ]);
     fields
 }
@@ -76,11 +77,4 @@ fn refusals(pair: &Pair) -> Json {
         ])
     };
     Json::List(pair.count.refusals.iter().map(object).collect())
-}
-
-fn remark(remark: Remark) -> Json {
-    Json::Object(vec![
-        ("sentence", Json::text(remark.sentence)),
-        ("bold", Json::Flag(remark.bold)),
-    ])
 }

@@ -11,7 +11,8 @@ use crate::refusal::Question;
 use crate::words::count;
 use clevisroot_sys::refusals::DONE;
 
-/// Reads one symbol after the other, each with the register that the one before it handed back.
+/// Reads one symbol after the other, each with the register that it was written with. The sent frames
+/// tell that one: what a refused symbol hands back is behind it, and would spoil those that follow.
 pub fn read_points(
     counting: &mut Counting,
     unread: &Unread,
@@ -36,7 +37,7 @@ pub fn read_points(
         };
         let lists = (symbol.x.as_slice(), symbol.y.as_slice());
         let (answer, read) = ask::read(set, lists, register, start);
-        register = answer.reg;
+        register = ask::encode(set, &frame.bytes, start, register).0.reg;
         let entry = LogEntry {
             sent: frame.bytes,
             received: match answer.number {

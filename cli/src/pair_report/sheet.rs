@@ -5,7 +5,7 @@ use super::rate::Rate;
 use super::refusals::{self, Row};
 use super::strip::Strip;
 use super::strip_picture;
-use super::verdict::{remarks, verdict, Remark};
+use super::verdict::{turned, verdict, Remark};
 use crate::span::Span;
 use crate::svg::escaped;
 use crate::words::shortened;
@@ -16,7 +16,7 @@ pub fn sheet(pair: &Pair) -> String {
         "<section>\n<p class=\"kind\">Pair report</p>\n<h1>{name}</h1>\n\
          <p class=\"verdict\">{}</p>\n{}{}{}{}{}{HANDS}{}</section>\n",
         escaped(&verdict(pair)),
-        remarks(pair).iter().map(paragraph).collect::<String>(),
+        paragraph(&turned(pair)),
         figures(pair),
         symbols(pair),
         refused(pair),

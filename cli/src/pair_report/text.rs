@@ -3,7 +3,7 @@
 use super::pair::Pair;
 use super::rate::Rate;
 use super::refusals;
-use super::verdict::{remarks, verdict, Remark};
+use super::verdict::{turned, verdict, Remark};
 use crate::span::Span;
 use crate::words::{count, shortened};
 
@@ -82,11 +82,9 @@ fn section(pair: &Pair) -> Vec<String> {
         ));
     }
     lines.push(verdict(pair));
-    let remark = |Remark { sentence, bold }| match bold {
-        true => format!("NOTE: {sentence}"),
-        false => sentence,
-    };
-    lines.extend(remarks(pair).into_iter().map(remark));
+    let Remark { sentence, bold } = turned(pair);
+    let note = if bold { "NOTE: " } else { "" };
+    lines.push(format!("{note}{sentence}"));
     lines
 }
 

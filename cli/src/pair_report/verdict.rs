@@ -4,10 +4,9 @@ use super::pair::Pair;
 use super::refusals::title;
 use crate::facts::Facts;
 use crate::words::count;
-use clevisroot_sys::refusals::MONITOR;
 use clevisroot_sys::Tally;
 
-/// A sentence beside the verdict.
+/// What the table set can show, beside the verdict.
 pub struct Remark {
     pub sentence: String,
     /// It must not be missed.
@@ -78,15 +77,8 @@ fn refused_sentence(pair: &Pair) -> String {
     format!("{refused} of {symbols} {first}; {rest}.")
 }
 
-/// What the figures rest on and cannot show.
-pub fn remarks(pair: &Pair) -> Vec<Remark> {
-    let mut remarks = vec![turned(pair)];
-    remarks.extend(register_behind(pair));
-    remarks
-}
-
 /// Whether a clip that is the wrong way round would show.
-fn turned(pair: &Pair) -> Remark {
+pub fn turned(pair: &Pair) -> Remark {
     let Some(facts) = &pair.tables else {
         let sentence = "The log names no table set, so it is not known whether a symbol would be \
                         refused if a clip is the wrong way round.";
@@ -120,19 +112,4 @@ fn unshown(facts: &Facts) -> &'static str {
     } else {
         "Uncoded, nothing is promised of such a symbol."
     }
-}
-
-/// After a refused symbol the register that is handed back is not the writer's, and the monitored
-/// tones of those that follow show that.
-fn register_behind(pair: &Pair) -> Option<Remark> {
-    let count = &pair.count;
-    let again = count.tally.refused > 1 && count.refusals.contains_key(&MONITOR);
-    let sentence =
-        "A refused symbol leaves the register as it was and the writer's has gone on, so \
-                    symbols after it may be refused with 14 MONITOR for that alone.";
-    let behind = again && pair.source.read.is_some();
-    behind.then(|| Remark {
-        sentence: sentence.to_string(),
-        bold: false,
-    })
 }
