@@ -6,11 +6,8 @@ use super::reading::read_points;
 use super::source::{ReadHere, Source};
 use super::stop::Stop;
 use crate::fault::Fault;
-use crate::files::{read_tables, Head, Log, TableSet, Unread};
+use crate::files::{read_tables, Head, Log, TableSet};
 use crate::output::Output;
-use crate::words::shown;
-use std::ffi::OsStr;
-use std::path::Path;
 
 /// The pair of a log; `name` is its name if the log has none.
 pub fn of_log(mut log: Log, name: String, output: &mut Output) -> Result<Pair, Stop> {
@@ -52,21 +49,9 @@ fn read_unread(
 }
 
 fn source(head: &Head, log: Option<String>) -> Source {
-    let read = |unread: &Unread| ReadHere {
-        sent: name_of(&unread.sent),
-        points: name_of(&unread.points),
-        register: unread.register,
-    };
     Source {
         log,
         start: head.start,
-        read: head.unread.as_ref().map(read),
+        read: head.unread.as_ref().map(ReadHere::of),
     }
-}
-
-fn name_of(file: &OsStr) -> String {
-    if file == "-" {
-        return "standard input".to_string();
-    }
-    shown(&Path::new(file).display().to_string())
 }

@@ -1,6 +1,7 @@
 //! Symbols of a pair that are read here, by the proved reader.
 
 use super::counting::Counting;
+use super::source::ReadHere;
 use super::stop::Stop;
 use crate::ask;
 use crate::fault::Fault;
@@ -32,7 +33,7 @@ pub fn read_points(
                 let counted = counting.count.tally.symbols as usize;
                 let frames = counted + usize::from(frame.is_some()) + left(&mut frames)?;
                 let symbols = counted + usize::from(symbol.is_some()) + left(&mut points)?;
-                return Err(unequal(&counting.name, frames, symbols).into());
+                return Err(unequal(&counting.name, unread, [frames, symbols]).into());
             }
         };
         let lists = (symbol.x.as_slice(), symbol.y.as_slice());
@@ -76,10 +77,11 @@ fn left<T: SymbolText>(symbols: &mut Symbols<T>) -> Result<usize, Fault> {
     Ok(left)
 }
 
-fn unequal(pair: &str, frames: usize, symbols: usize) -> Fault {
+fn unequal(pair: &str, unread: &Unread, [frames, symbols]: [usize; 2]) -> Fault {
+    let ReadHere { sent, points, .. } = ReadHere::of(unread);
+    let (frames, symbols) = (count(frames, "frame"), count(symbols, "symbol"));
     Fault::content(format!(
-        "pair {pair}: {} were sent, and points came of {}: give each frame the points of its symbol",
-        count(frames, "frame"),
-        count(symbols, "symbol")
+        "pair {pair}: {sent} has {frames}, and {points} the points of {symbols}: give each frame the \
+         points of its symbol"
     ))
 }

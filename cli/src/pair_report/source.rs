@@ -1,7 +1,10 @@
 //! Where the symbols of a pair come from.
 
+use crate::files::Unread;
 use crate::json::{Fields, Json};
-use crate::words::shortened;
+use crate::words::{shortened, shown};
+use std::ffi::OsStr;
+use std::path::Path;
 
 pub struct Source {
     pub log: Option<String>,
@@ -60,6 +63,14 @@ impl Source {
 }
 
 impl ReadHere {
+    pub fn of(unread: &Unread) -> ReadHere {
+        ReadHere {
+            sent: name_of(&unread.sent),
+            points: name_of(&unread.points),
+            register: unread.register,
+        }
+    }
+
     fn words(&self) -> String {
         let ReadHere {
             sent,
@@ -68,4 +79,11 @@ impl ReadHere {
         } = self;
         format!("points of {points}, sent frames of {sent}, register {register} before the first")
     }
+}
+
+fn name_of(file: &OsStr) -> String {
+    if file == "-" {
+        return "standard input".to_string();
+    }
+    shown(&Path::new(file).display().to_string())
 }

@@ -23,7 +23,7 @@ impl EntryPlace<'_> {
         let sentence = match number {
             FULL => format!(
                 "The report of a pair holds {MAX_SYMBOLS} symbols, and this is one more: split \
-                 the log, and report its parts as pairs of their own."
+                 the log or its files, and report the parts as pairs of their own."
             ),
             _ => frames(entry),
         };

@@ -54,19 +54,22 @@ fn json_has_what_the_text_has() {
             ("verdict", text("refused")),
         ],
     );
+}
+
+#[test]
+fn json_has_the_refusals_and_the_table_set() {
+    let pair = &pairs(&["examples/pair-8.log"], "")[0];
+    let number = Value::Number;
     let Value::List(refusals) = &pair["refusals"] else {
         panic!("no list")
     };
     let Value::Object(monitor) = &refusals[0] else {
         panic!("no object")
     };
+    let name = ("name", text("MONITOR"));
     has(
         monitor,
-        &[
-            ("number", number(14)),
-            ("name", text("MONITOR")),
-            ("symbols", number(2)),
-        ],
+        &[("number", number(14)), name, ("symbols", number(2))],
     );
     let Value::Object(tables) = &pair["table_set"] else {
         panic!("no object")

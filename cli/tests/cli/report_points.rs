@@ -167,10 +167,11 @@ fn each_frame_has_the_points_of_its_symbol() {
         assert_eq!((ran.status, ran.out.as_str()), (65, ""), "{}", ran.err);
         let plural = |count| if count == 1 { "" } else { "s" };
         let counts = format!(
-            "pair {name}: {sent} frame{} were sent, and points came of {came} symbol{}: ",
-            plural(sent),
+            "{name}.csv the points of {came} symbol{}: give each frame",
             plural(came)
         );
+        let sent = format!("{name}.hex has {sent} frame{}, and ", plural(sent));
+        assert!(ran.err.contains(&sent), "{}", ran.err);
         assert!(ran.err.contains(&counts), "{}", ran.err);
     }
 }
