@@ -4,7 +4,7 @@ use crate::call::{Asked, Call, Command, Operand};
 use crate::fault::Fault;
 use crate::files::{register_number, saturating};
 use crate::help;
-use crate::options::{Kind, Opt, OPTIONS, OUT, SVG};
+use crate::options::{Kind, Opt, HTML, OPTIONS, OUT, SVG};
 use crate::output::{is_standard_output, same_file};
 use crate::words::shown;
 use std::ffi::{OsStr, OsString};
@@ -165,7 +165,10 @@ fn set(call: &mut Call, option: &'static Opt, given: &Given) -> Result<(), Strin
         Kind::Output if word == "-" || word.is_empty() => {
             return Err("takes the name of a file".to_string())
         }
-        Kind::Flag | Kind::Output => call.options.push((option.name, value)),
+        Kind::Name if word.trim().is_empty() => return Err("takes a name".to_string()),
+        Kind::Flag | Kind::Input | Kind::Output | Kind::Name => {
+            call.options.push((option.name, value));
+        }
     }
     Ok(())
 }
@@ -187,10 +190,17 @@ fn start(word: &str) -> Result<u8, String> {
 
 fn check_operands(call: &Call) -> Result<(), Fault> {
     let command = call.command;
-    if call.operands.len() != command.operands.len() {
+    let given = call.operands.len();
+    let takes = |index| command.operand(index).is_some();
+    let missing = match command.operands.last() {
+        Some(Operand::Inputs(_)) => given + 1 < command.operands.len(),
+        _ => given < command.operands.len(),
+    };
+    if missing || !(0..given).all(takes) {
         return Err(command.wrong("not the operands it takes"));
     }
-    if call.operands.iter().filter(|word| *word == "-").count() > 1 {
+    let inputs = call.inputs();
+    if inputs.iter().filter(|(_, word)| *word == "-").count() > 1 {
         return Err(command.wrong("standard input can be one of the files, not two"));
     }
     for (operand, word) in command.operands.iter().zip(&call.operands) {
@@ -211,7 +221,7 @@ fn check_outputs(call: &Call) -> Result<(), Fault> {
             return wrong("--out and --svg name the same file".to_string());
         }
     }
-    for option in [&OUT, &SVG] {
+    for option in [&OUT, &SVG, &HTML] {
         let Some(output) = call.file(option).filter(|output| output.is_file()) else {
             continue;
         };
@@ -227,13 +237,11 @@ fn check_outputs(call: &Call) -> Result<(), Fault> {
     Ok(())
 }
 
-/// The operand whose file this output would overwrite.
-fn overwritten(call: &Call, output: &Path) -> Option<&'static str> {
-    let mut operands = call.command.operands.iter().zip(&call.operands);
-    let found = operands.find(|(operand, word)| {
-        matches!(operand, Operand::Input(_)) && same_file(output, input(word))
-    });
-    found.map(|(operand, _)| operand.name())
+/// What this output would overwrite of what is read.
+fn overwritten(call: &Call, output: &Path) -> Option<String> {
+    let mut inputs = call.inputs().into_iter();
+    let found = inputs.find(|(_, word)| same_file(output, input(word)));
+    found.map(|(name, _)| name)
 }
 
 /// The file of an operand; standard input has a name too.

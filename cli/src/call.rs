@@ -1,7 +1,7 @@
 //! A command of the tool, and a call of it.
 
 use crate::fault::Fault;
-use crate::options::{self, Opt};
+use crate::options::{self, Kind, Opt};
 use clevisroot_sys::RESET;
 use std::ffi::{OsStr, OsString};
 use std::path::Path;
@@ -11,6 +11,8 @@ use std::path::Path;
 pub enum Operand {
     /// A file that is read; `-` is standard input.
     Input(&'static str),
+    /// Any number of such files, as the last operands.
+    Inputs(&'static str),
     Number(&'static str),
     /// One of a few words.
     Word(&'static str, &'static [&'static str]),
@@ -19,7 +21,18 @@ pub enum Operand {
 impl Operand {
     pub fn name(&self) -> &'static str {
         match self {
-            Operand::Input(name) | Operand::Number(name) | Operand::Word(name, _) => name,
+            Operand::Input(name)
+            | Operand::Inputs(name)
+            | Operand::Number(name)
+            | Operand::Word(name, _) => name,
+        }
+    }
+
+    /// The operand as a form of a call shows it.
+    fn form(&self) -> String {
+        match self {
+            Operand::Inputs(name) => format!("[{name}...]"),
+            operand => operand.name().to_string(),
         }
     }
 }
@@ -49,9 +62,19 @@ impl Command {
 
     /// Its name and its operands.
     pub fn short_form(&self) -> String {
-        let names = self.operands.iter().map(Operand::name);
-        let words: Vec<&str> = [self.name].into_iter().chain(names).collect();
+        let operands = self.operands.iter().map(Operand::form);
+        let words: Vec<String> = [self.name.to_string()]
+            .into_iter()
+            .chain(operands)
+            .collect();
         words.join(" ")
+    }
+
+    /// The operand that a word of a call is, counted from 0.
+    pub fn operand(&self, index: usize) -> Option<&Operand> {
+        let many = |operand: &&Operand| matches!(operand, Operand::Inputs(_));
+        let last = || self.operands.last().filter(many);
+        self.operands.get(index).or_else(last)
     }
 
     /// The fault of a wrong call: what is wrong, and how it is called.
@@ -91,7 +114,7 @@ impl Call {
         self.value(option).is_some()
     }
 
-    fn value(&self, option: &Opt) -> Option<&OsStr> {
+    pub fn value(&self, option: &Opt) -> Option<&OsStr> {
         let mut options = self.options.iter();
         let found = options.find(|(name, _)| *name == option.name);
         found.map(|(_, value)| value.as_os_str())
@@ -100,6 +123,23 @@ impl Call {
     /// The file that an option names.
     pub fn file(&self, option: &Opt) -> Option<&Path> {
         self.value(option).map(Path::new)
+    }
+
+    /// The files that it reads, as they were named, with what each one is.
+    pub fn inputs(&self) -> Vec<(String, &OsStr)> {
+        let mut inputs = Vec::new();
+        for (index, word) in self.operands.iter().enumerate() {
+            if let Some(Operand::Input(name) | Operand::Inputs(name)) = self.command.operand(index)
+            {
+                inputs.push((name.to_string(), word.as_os_str()));
+            }
+        }
+        let options = self.command.options.iter();
+        for option in options.filter(|option| option.kind == Kind::Input) {
+            let name = format!("--{}", option.name);
+            inputs.extend(self.value(option).map(|word| (name, word)));
+        }
+        inputs
     }
 
     pub fn json(&self) -> bool {

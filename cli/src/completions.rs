@@ -1,7 +1,7 @@
 //! Completions for shells, from the tables of commands and options.
 
 use crate::call::{Command, Operand};
-use crate::options::{Kind, Opt};
+use crate::options::{Kind, Opt, OPTIONS};
 
 /// The starts that a frame can have.
 const STARTS: &str = "0 1 2 3 4 5 6 7";
@@ -24,14 +24,23 @@ fn options(command: &Command) -> String {
 fn words(command: &Command) -> String {
     let words = command.operands.iter().map(|operand| match operand {
         Operand::Word(_, words) => words.join(" "),
-        Operand::Input(_) | Operand::Number(_) => String::new(),
+        Operand::Input(_) | Operand::Inputs(_) | Operand::Number(_) => String::new(),
     });
     words.collect::<Vec<String>>().join(" ").trim().to_string()
 }
 
 fn takes_files(command: &Command) -> bool {
     let mut operands = command.operands.iter();
-    operands.any(|operand| matches!(operand, Operand::Input(_)))
+    operands.any(|operand| matches!(operand, Operand::Input(_) | Operand::Inputs(_)))
+}
+
+/// The options whose value is the name of a file, as a pattern of the shell.
+fn file_options() -> String {
+    let files = OPTIONS
+        .iter()
+        .filter(|option| matches!(option.kind, Kind::Input | Kind::Output));
+    let names: Vec<String> = files.map(|option| format!("--{}", option.name)).collect();
+    names.join("|")
 }
 
 pub fn bash(commands: &[Command]) -> String {
@@ -54,7 +63,7 @@ pub fn bash(commands: &[Command]) -> String {
          \x20   case \"$each\" in -*) ;; *) command=\"$each\"; break ;; esac\n\
          \x20 done\n\
          \x20 case \"$before\" in\n\
-         \x20   --out|--svg) COMPREPLY=($(compgen -f -- \"$word\")); return ;;\n\
+         \x20   {file_options}) COMPREPLY=($(compgen -f -- \"$word\")); return ;;\n\
          \x20   --register) COMPREPLY=($(compgen -W \"find 8388607\" -- \"$word\")); return ;;\n\
          \x20   --start) COMPREPLY=($(compgen -W \"{STARTS}\" -- \"$word\")); return ;;\n\
          \x20 esac\n\
@@ -66,7 +75,8 @@ pub fn bash(commands: &[Command]) -> String {
          \x20 COMPREPLY=($(compgen -W \"$reply\" $files -- \"$word\"))\n\
          }}\n\
          complete -o filenames -F _clevisroot clevisroot\n",
-        names = names(commands)
+        names = names(commands),
+        file_options = file_options()
     )
 }
 
@@ -102,7 +112,8 @@ fn fish_value(option: &Opt) -> String {
         Kind::Register => " -x".to_string(),
         Kind::RegisterOrFind => " -x -a 'find 8388607'".to_string(),
         Kind::Start => format!(" -x -a '{STARTS}'"),
-        Kind::Output => " -r -F".to_string(),
+        Kind::Input | Kind::Output => " -r -F".to_string(),
+        Kind::Name => " -x".to_string(),
     }
 }
 
@@ -126,6 +137,7 @@ fn zsh_case(command: &Command) -> String {
     let options = command.options.iter().map(|option| zsh_option(option));
     let operands = command.operands.iter().map(|operand| match operand {
         Operand::Input(name) => format!("':{name}:_files'"),
+        Operand::Inputs(name) => format!("'*:{name}:_files'"),
         Operand::Number(name) => format!("':{name}: '"),
         Operand::Word(name, words) => format!("':{name}:({})'", words.join(" ")),
     });
@@ -141,7 +153,8 @@ fn zsh_option(option: &Opt) -> String {
         Kind::Register => format!("'--{name}[{about}]:N: '"),
         Kind::RegisterOrFind => format!("'--{name}[{about}]:N:(find 8388607)'"),
         Kind::Start => format!("'--{name}[{about}]:N:({STARTS})'"),
-        Kind::Output => format!("'--{name}[{about}]:FILE:_files'"),
+        Kind::Input | Kind::Output => format!("'--{name}[{about}]:FILE:_files'"),
+        Kind::Name => format!("'--{name}[{about}]:NAME: '"),
     }
 }
 

@@ -24,11 +24,13 @@ files (# begins a comment; - is standard input, for one of the files)
            sub-carrier, bits, gain (512 stands for 1)
   FRAME    hex, two digits a byte, byte 0 first; an empty line between frames
   POINTS   x,y, a line a place in t' order; an empty line or a header x,y between symbols
+  LOG      pair: NAME and tables: FILE, then a line a symbol: the frame that was sent and the
+           one that was read, or the word refused and a number
 ";
 
 const STATUS: [(&str, &str); 10] = [
     ("0", "done; of turn: straight"),
-    ("1 to 8, 10 to 16, 23", "the refusal's number"),
+    ("1 to 8, 10 to 16, 22, 23", "the refusal's number"),
     ("32", "turn: turned"),
     (
         "33",
@@ -62,7 +64,7 @@ fn command_line(command: &Command) -> String {
 }
 
 fn row((form, about): &(String, &str)) -> String {
-    format!("  {form:<24}{about}\n")
+    format!("  {form:<26}{about}\n")
 }
 
 /// All options with what they do.

@@ -11,8 +11,12 @@ pub enum Kind {
     RegisterOrFind,
     /// The number of a bit.
     Start,
+    /// The name of a file that is read; `-` is standard input.
+    Input,
     /// The name of a file that is written.
     Output,
+    /// A name that a person gives.
+    Name,
 }
 
 pub struct Opt {
@@ -40,6 +44,30 @@ pub const START: Opt = Opt {
     about: "the bit of its first byte at which a frame starts, 0 to 7 (0 if not given)",
 };
 
+pub const PAIR_TABLES: Opt = Opt {
+    name: "tables",
+    kind: Kind::Input,
+    about: "of report: the table set of a pair whose points are read here",
+};
+
+pub const PAIR_SENT: Opt = Opt {
+    name: "sent",
+    kind: Kind::Input,
+    about: "of report: the frames that were sent on that pair",
+};
+
+pub const PAIR_POINTS: Opt = Opt {
+    name: "points",
+    kind: Kind::Input,
+    about: "of report: the points that came of them",
+};
+
+pub const PAIR_NAME: Opt = Opt {
+    name: "pair",
+    kind: Kind::Name,
+    about: "of report: the name of that pair, else that of its points file",
+};
+
 pub const OUT: Opt = Opt {
     name: "out",
     kind: Kind::Output,
@@ -50,6 +78,12 @@ pub const SVG: Opt = Opt {
     name: "svg",
     kind: Kind::Output,
     about: "a picture of the points and the bit loading",
+};
+
+pub const HTML: Opt = Opt {
+    name: "html",
+    kind: Kind::Output,
+    about: "a page that prints on one sheet a pair",
 };
 
 pub const ALL: Opt = Opt {
@@ -64,6 +98,12 @@ pub const STOP: Opt = Opt {
     about: "end at the first symbol that is refused",
 };
 
+pub const CSV: Opt = Opt {
+    name: "csv",
+    kind: Kind::Flag,
+    about: "a row a pair instead of text",
+};
+
 pub const JSON: Opt = Opt {
     name: "json",
     kind: Kind::Flag,
@@ -71,14 +111,20 @@ pub const JSON: Opt = Opt {
 };
 
 /// All of them, in the order of the help.
-pub const OPTIONS: [&Opt; 8] = [
+pub const OPTIONS: [&Opt; 14] = [
     &REGISTER,
     &REGISTER_OR_FIND,
     &START,
+    &PAIR_TABLES,
+    &PAIR_SENT,
+    &PAIR_POINTS,
+    &PAIR_NAME,
     &OUT,
     &SVG,
+    &HTML,
     &ALL,
     &STOP,
+    &CSV,
     &JSON,
 ];
 
@@ -97,7 +143,8 @@ impl Opt {
             Kind::Flag => None,
             Kind::Register | Kind::Start => Some("N"),
             Kind::RegisterOrFind => Some("N|find"),
-            Kind::Output => Some("FILE"),
+            Kind::Input | Kind::Output => Some("FILE"),
+            Kind::Name => Some("NAME"),
         }
     }
 }

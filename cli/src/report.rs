@@ -19,6 +19,10 @@ pub struct Report {
     pub result: Option<Written>,
     pub json: Fields,
     pub picture: Option<String>,
+    /// A page for a browser.
+    pub page: Option<String>,
+    /// Rows for a spreadsheet, where they are wanted instead of text.
+    pub rows: Option<String>,
     /// The symbol or the tables are refused.
     pub refused: bool,
     /// The reason in a line, where no result comes for one that was asked for.
@@ -34,6 +38,8 @@ impl Report {
             result: None,
             json,
             picture: None,
+            page: None,
+            rows: None,
             refused: false,
             reason: None,
         }

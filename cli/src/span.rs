@@ -19,7 +19,7 @@ impl Span {
     }
 
     /// The bits of the last byte after its end.
-    pub fn unused(self) -> u32 {
+    fn unused(self) -> u32 {
         self.end().next_multiple_of(8) - self.end()
     }
 
@@ -35,5 +35,29 @@ impl Span {
         };
         let (size, bytes) = (count(self.size, "bit"), count(self.bytes(), "byte"));
         format!("L = {size}{from} in {bytes}")
+    }
+
+    /// The bits of these bytes before its start, those after its end, or both: where one is 1.
+    pub fn outside(self, bytes: &[u8]) -> String {
+        let first = bytes.first().copied().unwrap_or(0);
+        let last = bytes.last().copied().unwrap_or(0);
+        let (before, after) = (u32::from(self.start), self.unused());
+        let mut wrong = Vec::new();
+        if first.trailing_zeros() < before {
+            wrong.push(match before {
+                1 => "the lowest bit of the first byte comes before the start and must be 0"
+                    .to_string(),
+                _ => format!(
+                    "the lower {before} bits of the first byte come before the start and must be 0"
+                ),
+            });
+        }
+        if last.leading_zeros() < after {
+            wrong.push(match after {
+                1 => "the upper bit of the last byte is not used and must be 0".to_string(),
+                _ => format!("the upper {after} bits of the last byte are not used and must be 0"),
+            });
+        }
+        wrong.join(", and ")
     }
 }

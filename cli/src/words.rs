@@ -26,3 +26,23 @@ pub fn shown(name: &str) -> String {
     };
     name.chars().map(spelled).collect()
 }
+
+/// A long path by its end, where the file's name is; a long name by both ends.
+pub fn shortened(path: &str) -> String {
+    const LONG: usize = 60;
+    let file = path.rsplit('/').next().unwrap_or(path);
+    if path.chars().count() <= LONG {
+        return path.to_string();
+    }
+    let kept = if file.chars().count() < LONG {
+        0
+    } else {
+        LONG / 2
+    };
+    let end: Vec<char> = path.chars().rev().take(LONG - kept - 1).collect();
+    let start = file.chars().take(kept);
+    start
+        .chain(['\u{2026}'])
+        .chain(end.into_iter().rev())
+        .collect()
+}

@@ -13,6 +13,7 @@ mod pages;
 mod picture;
 mod read;
 mod reading;
+mod report;
 mod tables;
 mod tone;
 mod tone_words;
@@ -23,13 +24,16 @@ mod verdict_totals;
 mod verdict_words;
 
 use crate::call::{Command, Operand};
-use crate::options::{ALL, JSON, OUT, REGISTER, REGISTER_OR_FIND, START, STOP, SVG};
+use crate::options::{
+    ALL, CSV, HTML, JSON, OUT, PAIR_NAME, PAIR_POINTS, PAIR_SENT, PAIR_TABLES, REGISTER,
+    REGISTER_OR_FIND, START, STOP, SVG,
+};
 
 const TABLES: Operand = Operand::Input("TABLES");
 const FRAME: Operand = Operand::Input("FRAME");
 const POINTS: Operand = Operand::Input("POINTS");
 
-pub const COMMANDS: [Command; 11] = [
+pub const COMMANDS: [Command; 12] = [
     Command {
         name: "check",
         operands: &[TABLES],
@@ -77,6 +81,24 @@ pub const COMMANDS: [Command; 11] = [
         about: "tell whether the clips are the wrong way round",
         details: details::TURN,
         run: turn::turn,
+    },
+    Command {
+        name: "report",
+        operands: &[Operand::Inputs("LOG")],
+        options: &[
+            &PAIR_TABLES,
+            &PAIR_SENT,
+            &PAIR_POINTS,
+            &PAIR_NAME,
+            &REGISTER,
+            &START,
+            &HTML,
+            &CSV,
+            &JSON,
+        ],
+        about: "count refusals and wrong bits over the symbols of a pair, or of many pairs",
+        details: details::REPORT,
+        run: report::report,
     },
     Command {
         name: "map",

@@ -41,7 +41,8 @@ impl SymbolText for Frame {
     }
 }
 
-fn word_bytes(word: &str) -> Result<Vec<u8>, String> {
+/// The bytes of a word of hex.
+pub fn word_bytes(word: &str) -> Result<Vec<u8>, String> {
     let digits = word
         .strip_prefix("0x")
         .or_else(|| word.strip_prefix("0X"))

@@ -2,6 +2,8 @@
 
 mod frame;
 mod lines;
+mod log;
+mod log_head;
 mod numbers;
 mod points;
 mod source;
@@ -10,6 +12,8 @@ mod table_file;
 mod tables;
 
 pub use frame::{hex_lines, Frame};
+pub use log::{Log, LogEntry, Received};
+pub use log_head::{Head, Unread};
 pub use numbers::{register_number, saturating, signed};
 pub use points::PointList;
 pub use symbols::{SymbolText, Symbols};

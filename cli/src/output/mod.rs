@@ -1,4 +1,5 @@
-//! Where answers go: standard output, standard error, and the files that `--out` and `--svg` name.
+//! Where answers go: standard output, standard error, and the files that `--out`, `--svg` and `--html`
+//! name.
 
 mod files;
 mod progress;

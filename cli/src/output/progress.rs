@@ -43,3 +43,10 @@ impl Progress {
         }
     }
 }
+
+impl Drop for Progress {
+    /// A fault may be printed next.
+    fn drop(&mut self) {
+        self.clear();
+    }
+}

@@ -6,7 +6,7 @@ use super::screen::{complain, Screen};
 use crate::call::Call;
 use crate::fault::Fault;
 use crate::json::{document, line, Fields, Json};
-use crate::options::{OUT, SVG};
+use crate::options::{HTML, OUT, SVG};
 use crate::report::Report;
 use std::io::{self, IsTerminal};
 use std::path::PathBuf;
@@ -17,6 +17,7 @@ pub struct Output {
     out: Option<PathBuf>,
     draft: Option<Draft>,
     svg: Option<PathBuf>,
+    html: Option<PathBuf>,
     /// The picture to write, and whether it is one of a refusal.
     picture: Option<(String, bool)>,
     screen: Screen,
@@ -41,6 +42,7 @@ impl Output {
             out,
             draft: None,
             svg: call.file(&SVG).map(PathBuf::from),
+            html: call.file(&HTML).map(PathBuf::from),
             picture: None,
             screen: Screen::open()?,
             progress: Progress::new(),
@@ -68,10 +70,13 @@ impl Output {
         if let (Some(path), Some(result)) = (&self.out, &report.result) {
             self.draft.insert(Draft::new(path)?).write(&result.file)?;
         }
-        let notes = self.write_files()?;
+        let mut notes = self.write_files()?;
+        notes.extend(self.write_page(&report)?);
         let text = if self.json {
             report.json.extend(noted(&notes));
             document(&report.json)
+        } else if let Some(rows) = report.rows.take() {
+            rows
         } else {
             let result = report.result.as_ref().filter(|_| self.out.is_none());
             let mark = if result.is_some() { "# " } else { "" };
@@ -79,9 +84,15 @@ impl Output {
             let text: String = lines.map(|line| format!("{mark}{line}\n")).collect();
             text + result.map_or("", |result| &result.screen)
         };
-        self.screen.print(&text)?;
+        self.print(&text)?;
         self.tell_reason("", &report);
         Ok(report.status)
+    }
+
+    /// A symbol more is counted, of which nothing is told yet.
+    pub fn counted(&mut self) {
+        self.symbols += 1;
+        self.progress.show(self.symbols);
     }
 
     /// Delivers the report of one symbol of a stream.
@@ -95,8 +106,7 @@ impl Output {
         };
         self.print(&text)?;
         self.tell_reason(&format!("symbol {number}: "), &report);
-        self.symbols += 1;
-        self.progress.show(self.symbols);
+        self.counted();
         Ok(())
     }
 
@@ -123,7 +133,6 @@ impl Output {
             let text = format!("\n  ],\n  \"totals\": {}\n}}\n", line(&fields));
             return self.print(&text);
         }
-        self.progress.clear();
         Ok(())
     }
 
@@ -210,6 +219,16 @@ impl Output {
             notes.push(format!("picture written to {}", draft.finish()?));
         }
         Ok(notes)
+    }
+
+    /// Writes the report's page and tells so, if one is wanted.
+    fn write_page(&self, report: &Report) -> Result<Option<String>, Fault> {
+        let (Some(path), Some(page)) = (&self.html, &report.page) else {
+            return Ok(None);
+        };
+        let mut draft = Draft::new(path)?;
+        draft.write(page)?;
+        Ok(Some(format!("page written to {}", draft.finish()?)))
     }
 
     /// A pipe takes what is printed away from the person, who should still have the reason.

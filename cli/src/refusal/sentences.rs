@@ -3,10 +3,10 @@
 use super::place::{place_of, subcarrier_of};
 use super::question::Question;
 use crate::ask;
-use crate::files::{Class, Frame, TableSet};
+use crate::files::{Class, TableSet};
 use crate::index::Place;
 use crate::register::{or_a_few_more, ENOUGH_TONES};
-use crate::span::{Span, LAST_START};
+use crate::span::LAST_START;
 use crate::words::{count, shown};
 use clevisroot_sys::refusals::{
     BITS, FEW, FRAME, GAIN, MONITOR, ODD, OFFGRID, RANGE, ROOM, SEED, SIZE, STRAY, TONE, TRELLIS,
@@ -123,7 +123,7 @@ fn frame(question: &Question) -> String {
              --start a number from 0 to {LAST_START}."
         ),
         Some(frame) if frame.count == span.bytes() => {
-            format!("{}: {}.", span.words(), outside(span, frame))
+            format!("{}: {}.", span.words(), span.outside(&frame.bytes))
         }
         frame => {
             let given = frame.map_or(0, |frame| frame.count);
@@ -136,31 +136,6 @@ fn frame(question: &Question) -> String {
             format!("{}, and this frame has {given}{between}.", span.words())
         }
     }
-}
-
-/// The bits before a frame's start, those after its end, or both: where one is 1.
-fn outside(span: Span, frame: &Frame) -> String {
-    let first = frame.bytes.first().copied().unwrap_or(0);
-    let last = frame.bytes.last().copied().unwrap_or(0);
-    let (before, after) = (u32::from(span.start), span.unused());
-    let mut wrong = Vec::new();
-    if first.trailing_zeros() < before {
-        wrong.push(match before {
-            1 => {
-                "the lowest bit of the first byte comes before the start and must be 0".to_string()
-            }
-            _ => format!(
-                "the lower {before} bits of the first byte come before the start and must be 0"
-            ),
-        });
-    }
-    if last.leading_zeros() < after {
-        wrong.push(match after {
-            1 => "the upper bit of the last byte is not used and must be 0".to_string(),
-            _ => format!("the upper {after} bits of the last byte are not used and must be 0"),
-        });
-    }
-    wrong.join(", and ")
 }
 
 fn seed(question: &Question) -> String {

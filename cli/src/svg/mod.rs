@@ -20,4 +20,5 @@ mod vectors;
 
 pub use comparison::draw as draw_compared;
 pub use page::draw;
+pub use pen::{block, escaped, Pen};
 pub use symbol::{Compared, Symbol};

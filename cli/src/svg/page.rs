@@ -7,7 +7,7 @@ use super::panels::{self, Panel};
 use super::pen::{escaped, Pen};
 use super::symbol::{Symbol, MARGIN, WIDTH};
 use crate::files::{Class, TableSet};
-use crate::words::{count, mode_word};
+use crate::words::{count, mode_word, shortened};
 
 pub fn draw(symbol: &Symbol) -> String {
     let title = title(symbol.set);
@@ -44,31 +44,11 @@ pub fn document(title: &str, styles: &str, pen: Pen, end: f64) -> String {
 pub fn title(set: &TableSet) -> String {
     format!(
         "{}: {}, {} of {}",
-        short_name(&set.name),
+        shortened(&set.name),
         mode_word(set.coded),
         count(set.tone_count(), "tone"),
         count(set.carriers(), "sub-carrier")
     )
-}
-
-/// A long path by its end, where the file's name is; a long name by both ends.
-fn short_name(path: &str) -> String {
-    const LONG: usize = 60;
-    let file = path.rsplit('/').next().unwrap_or(path);
-    if path.chars().count() <= LONG {
-        return path.to_string();
-    }
-    let kept = if file.chars().count() < LONG {
-        0
-    } else {
-        LONG / 2
-    };
-    let end: Vec<char> = path.chars().rev().take(LONG - kept - 1).collect();
-    let start = file.chars().take(kept);
-    start
-        .chain(['\u{2026}'])
-        .chain(end.into_iter().rev())
-        .collect()
 }
 
 /// What is drawn of the points.

@@ -4,13 +4,14 @@ use crate::run::{equal, file, path, run, run_with, tables};
 use std::fs;
 
 const A: &str = "examples/bench-a.txt";
-const COMMANDS: [&str; 11] = [
+const COMMANDS: [&str; 12] = [
     "check",
     "order",
     "encode",
     "read",
     "nearest",
     "turn",
+    "report",
     "map",
     "point",
     "figures",

@@ -5,20 +5,24 @@ use crate::run::{run, tool};
 use std::io::Write;
 use std::process::{Command, Stdio};
 
-const COMMANDS: [&str; 11] = [
+const COMMANDS: [&str; 12] = [
     "check",
     "order",
     "encode",
     "read",
     "nearest",
     "turn",
+    "report",
     "map",
     "point",
     "figures",
     "man",
     "completions",
 ];
-const OPTIONS: [&str; 7] = ["register", "start", "out", "svg", "all", "stop", "json"];
+const OPTIONS: [&str; 13] = [
+    "register", "start", "tables", "sent", "points", "pair", "out", "svg", "html", "all", "stop",
+    "csv", "json",
+];
 
 /// What a program answers to a text, if it is installed: its status, and all it prints.
 fn fed(program: &str, words: &[&str], text: &str) -> Option<(bool, String)> {
@@ -95,7 +99,7 @@ fn completed(words: &[&str]) -> Option<Vec<String>> {
 
 #[test]
 fn bash_completes() {
-    let cases: [(&[&str], &[&str]); 9] = [
+    let cases: [(&[&str], &[&str]); 12] = [
         (&["clevisroot", "en"], &["encode"]),
         (&["clevisroot", "--json", "tu"], &["turn"]),
         (&["clevisroot", "encode", "--re"], &["--register"]),
@@ -105,6 +109,17 @@ fn bash_completes() {
         (&["clevisroot", "turn", "--sta"], &["--start"]),
         (&["clevisroot", "read", "--start", "6"], &["6"]),
         (&["clevisroot", "completions", "z"], &["zsh"]),
+        (&["clevisroot", "rep"], &["report"]),
+        (&["clevisroot", "report", "--ht"], &["--html"]),
+        (
+            &[
+                "clevisroot",
+                "report",
+                "--sent",
+                "../examples/bench-a-stream.h",
+            ],
+            &["../examples/bench-a-stream.hex"],
+        ),
     ];
     for (words, expected) in cases {
         let Some(found) = completed(words) else {

@@ -68,6 +68,10 @@ fn assert_picture(folder: &Path, drawn: &str, kept: &str) {
 fn the_tool_s_page_shows_what_is_printed() {
     let folder = folder("readme-tool");
     for Shown { call, output } in files_on("cli/README.md") {
+        // A file of examples/ is shown as it is there.
+        if let Ok(kept) = fs::read_to_string(root().join(&call)) {
+            assert_eq!(kept, output, "{call}");
+        }
         fs::write(folder.join(call), output).unwrap();
     }
     let shown = calls_on("cli/README.md", "clevisroot ");

@@ -8,7 +8,7 @@ use std::process::{Command, Stdio};
 const A: &str = "examples/bench-a.txt";
 
 /// Every element is closed in turn, and text has no loose sign.
-fn well_formed(svg: &str) {
+pub fn well_formed(svg: &str) {
     let mut open = Vec::new();
     let mut rest = svg;
     while let Some((before, after)) = rest.split_once('<') {

@@ -1,0 +1,132 @@
+//! What is told of a table set that is accepted: its tones, and whether it shows a turned clip.
+
+use crate::ask::{self, trellis_tells};
+use crate::files::{Class, TableSet};
+use crate::json::{Fields, Json};
+use crate::register::{Reach, Reaches, ENOUGH_TONES, UNSEEN};
+use crate::words::mode_word;
+
+/// The most bits that a tone has.
+const MOST_BITS: u8 = 15;
+
+pub struct Facts {
+    /// The file that the table set came from.
+    pub name: String,
+    pub coded: bool,
+    /// L.
+    pub size: u32,
+    carriers: usize,
+    tones: usize,
+    silent: usize,
+    /// How many tones have 1 bit, 2 bits and so on.
+    by_bits: Vec<usize>,
+    /// N.
+    loaded: usize,
+    /// What the monitored tones of one symbol can tell.
+    reach: Reach,
+    /// The trellis code refuses every turned symbol.
+    trellis: bool,
+}
+
+impl Facts {
+    /// The facts of an accepted table set with this L.
+    pub fn of(set: &TableSet, size: u32) -> Facts {
+        let (_, order) = ask::order(set);
+        let of_bits = |bits| set.count(|class| class == Class::Data(bits));
+        Facts {
+            name: set.name.clone(),
+            coded: set.coded,
+            size,
+            carriers: set.carriers(),
+            tones: set.tone_count(),
+            silent: set.count(|class| class == Class::Silent),
+            by_bits: (1..=MOST_BITS).map(of_bits).collect(),
+            loaded: order.loaded(),
+            reach: Reaches::of(set, &order).alone(),
+            trellis: trellis_tells(set, &order),
+        }
+    }
+
+    fn monitored(&self) -> usize {
+        self.reach.tones
+    }
+
+    fn data(&self) -> usize {
+        self.tones - self.monitored() - self.silent
+    }
+
+    /// Whether exact reading refuses a turned symbol, if the register is the writer's.
+    pub fn shows_turned(&self) -> bool {
+        self.trellis || self.monitored() > 0
+    }
+
+    /// "coded, G = 8, NSC = 6: 5 with data, 1 monitored, 0 silent"
+    pub fn class_words(&self) -> String {
+        format!(
+            "{}, G = {}, NSC = {}: {} with data, {} monitored, {} silent",
+            mode_word(self.coded),
+            self.carriers,
+            self.tones,
+            self.data(),
+            self.monitored(),
+            self.silent
+        )
+    }
+
+    /// "2 of 1 bit, 1 of 4 bits"
+    pub fn loading_words(&self) -> String {
+        let counts = (1..=MOST_BITS).zip(&self.by_bits);
+        let words: Vec<String> = counts
+            .filter(|(_, tones)| **tones > 0)
+            .map(|(bits, tones)| format!("{tones} of {}", Class::Data(bits)))
+            .collect();
+        if words.is_empty() {
+            "none has any".to_string()
+        } else {
+            words.join(", ")
+        }
+    }
+
+    /// Whether a turned clip shows, and what reading needs for that.
+    pub fn turned_words(&self) -> String {
+        let Facts { loaded, reach, .. } = self;
+        let tones = match reach.tones {
+            1 => "1 tone is monitored".to_string(),
+            tones => format!("{tones} tones are monitored"),
+        };
+        if self.trellis {
+            format!("shows whatever the register, because N = {loaded} is odd")
+        } else if reach.settles() {
+            format!("shows whatever the register (--register find), because {tones}")
+        } else if reach.tells_way {
+            let checked = "and their filler bits check each other";
+            format!("shows whatever the register (--register find), because {tones} {checked}")
+        } else if reach.tones >= ENOUGH_TONES {
+            format!("shows only if the register is known: {tones}, but {UNSEEN}")
+        } else if reach.tones > 0 {
+            format!("shows if the register is known, because {tones}")
+        } else if self.coded {
+            format!("does not show, because no tone is monitored and N = {loaded} is even")
+        } else {
+            "does not show, because no tone is monitored".to_string()
+        }
+    }
+
+    pub fn fields(&self) -> Fields {
+        let number = |number: usize| Json::Number(number as i64);
+        let by_bits = self.by_bits.iter().map(|&tones| number(tones)).collect();
+        let always = self.trellis || self.reach.tells_way;
+        vec![
+            ("mode", Json::text(mode_word(self.coded))),
+            ("sub_carriers", number(self.carriers)),
+            ("tones", number(self.tones)),
+            ("data", number(self.data())),
+            ("monitored", number(self.monitored())),
+            ("silent", number(self.silent)),
+            ("tones_by_bits", Json::List(by_bits)),
+            ("non_zero_entries", number(self.loaded)),
+            ("turned_shows", Json::Flag(self.shows_turned())),
+            ("turned_shows_without_register", Json::Flag(always)),
+        ]
+    }
+}

@@ -1,0 +1,50 @@
+//! The refusals of a pair by number, with their meaning: as many rows as a sheet has room for.
+
+use super::meaning::meaning;
+use crate::words::count;
+use clevisroot_sys::refusals::{name, ALL};
+use std::cmp::Reverse;
+use std::collections::BTreeMap;
+
+/// All numbers that calls give, and one row for the others.
+const MOST_ROWS: usize = 18;
+
+pub struct Row {
+    /// "14 MONITOR"
+    pub title: String,
+    /// How many symbols were refused so.
+    pub symbols: u32,
+    pub meaning: &'static str,
+}
+
+/// "14 MONITOR"
+pub fn title(number: u32) -> String {
+    format!("{number} {}", name(number))
+}
+
+/// A row a number, in the order of the numbers. Where there are too many, some share the last row:
+/// numbers that no call gives, then those of the fewest symbols.
+pub fn rows(refusals: &BTreeMap<u32, u32>) -> Vec<Row> {
+    let mut numbers: Vec<(u32, u32)> = refusals.iter().map(|(&n, &symbols)| (n, symbols)).collect();
+    let mut others = Vec::new();
+    if numbers.len() > MOST_ROWS {
+        let unknown = |number| !ALL.iter().any(|(known, _)| *known == number);
+        numbers.sort_by_key(|&(number, symbols)| (unknown(number), Reverse(symbols), number));
+        others = numbers.split_off(MOST_ROWS - 1);
+        numbers.sort_unstable();
+    }
+    let row = |(number, symbols)| Row {
+        title: title(number),
+        symbols,
+        meaning: meaning(number),
+    };
+    let mut rows: Vec<Row> = numbers.into_iter().map(row).collect();
+    if !others.is_empty() {
+        rows.push(Row {
+            title: count(others.len(), "other number"),
+            symbols: others.iter().map(|(_, symbols)| symbols).sum(),
+            meaning: "--json has them all",
+        });
+    }
+    rows
+}

@@ -1,0 +1,141 @@
+//! One pair on one sheet of the page.
+
+use super::pair::Pair;
+use super::rate::Rate;
+use super::refusals::{self, Row};
+use super::strip::Strip;
+use super::strip_picture;
+use super::verdict::{turned, verdict, Remark};
+use crate::span::Span;
+use crate::svg::escaped;
+use crate::words::shortened;
+
+pub fn sheet(pair: &Pair) -> String {
+    let name = escaped(&shortened(&pair.name));
+    format!(
+        "<section>\n<p class=\"kind\">Pair report</p>\n<h1>{name}</h1>\n\
+         <p class=\"verdict\">{}</p>\n{}{}{}{}{}{HANDS}{}</section>\n",
+        escaped(&verdict(pair)),
+        paragraph(&turned(pair)),
+        figures(pair),
+        symbols(pair),
+        refused(pair),
+        facts(pair),
+        footer(pair)
+    )
+}
+
+fn paragraph(Remark { sentence, bold }: &Remark) -> String {
+    let sentence = escaped(sentence);
+    match bold {
+        true => format!("<p class=\"warning\"><strong>{sentence}</strong></p>\n"),
+        false => format!("<p>{sentence}</p>\n"),
+    }
+}
+
+/// The five figures and the rate.
+fn figures(pair: &Pair) -> String {
+    let tally = &pair.count.tally;
+    let rate = Rate::of(pair);
+    let first = pair.first_refused().map(|(symbol, _)| symbol.to_string());
+    let cells = [
+        ("symbols", tally.symbols.to_string()),
+        ("refused", tally.refused.to_string()),
+        ("wrong frames", tally.wrong_frames.to_string()),
+        ("wrong bits", tally.wrong_bits.to_string()),
+        ("first refused", first.unwrap_or("none".to_string())),
+        ("wrong-bit rate", rate.value().unwrap_or("none".to_string())),
+    ];
+    let heads: String = cells
+        .iter()
+        .map(|(head, _)| format!("<th>{head}</th>"))
+        .collect();
+    let cells: String = cells
+        .iter()
+        .map(|(_, cell)| format!("<td>{cell}</td>"))
+        .collect();
+    format!(
+        "<table class=\"figures\">\n<tr>{heads}</tr>\n<tr>{cells}</tr>\n</table>\n\
+         <p class=\"small\">Wrong bits: {}; only frames that were read count. Symbols count from 0.</p>\n",
+        rate.words()
+    )
+}
+
+fn symbols(pair: &Pair) -> String {
+    if pair.count.outcomes.is_empty() {
+        return String::new();
+    }
+    let picture = strip_picture::draw(&Strip::of(&pair.count.outcomes));
+    format!("<h2>The symbols over time</h2>\n{picture}")
+}
+
+/// More refusals are printed small, so that they fit the sheet.
+const FEW: usize = 8;
+
+/// The refusals by number, with their meaning.
+fn refused(pair: &Pair) -> String {
+    let row = |row: &Row| {
+        let Row {
+            title,
+            symbols,
+            meaning,
+        } = row;
+        format!("<tr><td>{title}</td><td>{symbols}</td><td>{meaning}</td></tr>\n")
+    };
+    let rows = refusals::rows(&pair.count.refusals);
+    let class = if rows.len() > FEW {
+        "refusals many"
+    } else {
+        "refusals"
+    };
+    let rows: String = rows.iter().map(row).collect();
+    let table = match rows.as_str() {
+        "" => "<p>None.</p>\n".to_string(),
+        rows => format!(
+            "<table class=\"{class}\">\n<tr><th>refusal</th><th>symbols</th><th>meaning</th></tr>\n\
+             {rows}</table>\n"
+        ),
+    };
+    format!("<h2>Refusals</h2>\n{table}")
+}
+
+/// Where the symbols come from, and what the table set is.
+fn facts(pair: &Pair) -> String {
+    let mut rows = pair.source.rows();
+    match &pair.tables {
+        Some(facts) => {
+            let span = Span {
+                start: pair.source.start,
+                size: facts.size,
+            };
+            rows.extend([
+                ("table set", shortened(&facts.name)),
+                ("its tones", facts.class_words()),
+                ("tones by bits", facts.loading_words()),
+                ("a frame", span.words()),
+            ]);
+        }
+        None => rows.push(("table set", "none is named".to_string())),
+    }
+    let row = |(head, words): &(&str, String)| {
+        format!("<tr><th>{head}</th><td>{}</td></tr>\n", escaped(words))
+    };
+    let rows: String = rows.iter().map(row).collect();
+    format!("<h2>Log and table set</h2>\n<table class=\"facts\">\n{rows}</table>\n")
+}
+
+/// What is filled in by hand.
+const HANDS: &str = "<div class=\"hands\"><span>Place</span><span>Date</span>\
+                     <span>Signature of the jointer</span></div>\n";
+
+fn footer(pair: &Pair) -> String {
+    let (given, it) = match pair.source.log {
+        Some(_) => ("entries in the log", "it"),
+        None => ("symbols in the files above", "them"),
+    };
+    format!(
+        "<footer>Counted by the library of clevisroot {}, which is proved. The figures are those of \
+         the {given}; nothing is known of what is not in {it}.</footer>\n",
+        env!("CARGO_PKG_VERSION")
+    )
+}
