@@ -105,10 +105,17 @@ impl Facts {
             format!("shows only if the register is known: {tones}, but {UNSEEN}")
         } else if reach.tones > 0 {
             format!("shows if the register is known, because {tones}")
-        } else if self.coded {
-            format!("does not show, because no tone is monitored and N = {loaded} is even")
         } else {
-            "does not show, because no tone is monitored".to_string()
+            format!("does not show, because {}", self.unshown_words())
+        }
+    }
+
+    /// Why a turned clip does not show.
+    pub fn unshown_words(&self) -> String {
+        if self.coded {
+            format!("no tone is monitored and N = {} is even", self.loaded)
+        } else {
+            "no tone is monitored".to_string()
         }
     }
 

@@ -87,15 +87,15 @@ pub fn turned(pair: &Pair) -> Remark {
             bold: false,
         };
     };
-    let words = facts.turned_words();
     if facts.shows_turned() {
         return Remark {
-            sentence: format!("A turned clip {words}."),
+            sentence: format!("A turned clip {}.", facts.turned_words()),
             bold: false,
         };
     }
     let sentence = format!(
-        "This table set cannot show a clip that is the wrong way round: a turned clip {words}. {}",
+        "This table set cannot show a clip that is the wrong way round, because {}. {}",
+        facts.unshown_words(),
         unshown(facts)
     );
     Remark {
@@ -107,9 +107,9 @@ pub fn turned(pair: &Pair) -> Remark {
 /// What becomes of a turned symbol that nothing shows. Only for coded ones it is proved.
 fn unshown(facts: &Facts) -> &'static str {
     if facts.coded {
-        "Such a symbol is not refused: it is read as another frame than was sent, and shows as \
-         wrong bits only."
+        "A turned symbol is not refused: it is read as another frame than was sent, which only \
+         the wrong bits show."
     } else {
-        "Uncoded, nothing is promised of such a symbol."
+        "Uncoded, nothing is promised of a turned symbol."
     }
 }

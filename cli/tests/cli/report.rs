@@ -169,11 +169,12 @@ fn a_small_rate_is_told_with_its_power_of_ten() {
 /// What is said of a turned clip, and whether it is a NOTE.
 #[test]
 fn what_the_table_set_can_show() {
-    let coded = "NOTE: This table set cannot show a clip that is the wrong way round: a turned clip does not \
-                 show, because no tone is monitored and N = 4 is even. Such a symbol is not refused: it is \
-                 read as another frame than was sent, and shows as wrong bits only.";
-    let uncoded = "NOTE: This table set cannot show a clip that is the wrong way round: a turned clip does \
-                   not show, because no tone is monitored. Uncoded, nothing is promised of such a symbol.";
+    let coded = "NOTE: This table set cannot show a clip that is the wrong way round, because no tone is \
+                 monitored and N = 4 is even. A turned symbol is not refused: it is read as another frame \
+                 than was sent, which only the wrong bits show.";
+    let uncoded =
+        "NOTE: This table set cannot show a clip that is the wrong way round, because no tone is \
+                   monitored. Uncoded, nothing is promised of a turned symbol.";
     let plain = tables(
         "report-uncoded.txt",
         "uncoded",
