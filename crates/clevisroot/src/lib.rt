@@ -6,7 +6,7 @@ ghost use Rattle.g9932.specs.Refusals.{numberOf, placeOf, refused, tableVerdict
 ghost use Rattle.g9932.specs.Answers.{verdictOf, reportOf, mapLabel, readPoint, drawAnswer};
 ghost use Rattle.g9932.specs.Nearest.{nearestOf, totalIn};
 ghost use Rattle.clevisroot.specs.CAnswers.{modeOf, answerOf, reported, withTotal, nearestAnswer, pointAnswered, labelAnswered, drawAnswered, tallyAnswered, Small, ReorderAnswered, EncodeAnswered, ReadAnswered, EncodeAtAnswered, ReadAtAnswered, NearestAnswered};
-ghost use Rattle.tally.specs.PairReport.{readAs, refusedWith, tallied, toldBy, newTally};
+ghost use Rattle.tally.specs.PairReport.{readAs, refusedWith, tallied, toldOf, newTally};
 use g9932::Answer;
 use g9932::Checked;
 use g9932::Drawn;
@@ -153,7 +153,7 @@ fn nearest_answered(answer: Nearest) -> NearestAnswer
 
 // The answer of counting a symbol.
 fn tally_answered(answer: Tallied) -> TallyAnswer
-    ensures { λ r. ⌜ r ≡ tallyAnswered (toldBy answer) ⌝ }
+    ensures { λ r. ⌜ r ≡ tallyAnswered (toldOf answer) ⌝ }
 {
     match answer {
         Tallied::Counted(tally) => TallyAnswer { number: 0, tally },
@@ -334,7 +334,7 @@ pub extern "C" fn clevisroot_draw(reg: u32) -> DrawAnswer
 pub extern "C" fn clevisroot_tally_new() -> Tally
     ensures { λ r. ⌜ r ≡ newTally ⌝ }
 {
-    Tally::as_reset()
+    Tally::new()
 }
 
 #[no_mangle]

@@ -1,35 +1,35 @@
 -- Laws of one call, for any tally whatever: its three answers, and what they leave in the tally.
 use Prim.Native.Nat.{ℕ, _+_, _^_, _≤_, _<_}
-use mathlib.Core.Bool.{Bool, true, false, cond, _&&_, and-false}
+use mathlib.Core.Bool.{Bool, true, false, cond, and-false}
 use mathlib.Core.Logic.{_↔_, _≢_, _⊎_, inl, inr}
 use mathlib.Core.Path.{_≡_, refl, ap}
 use native.Mathlib.Omega.{arith}
 use borrow.Author.Tests.{leb-true, leb-false, le-leb, lt-leb, ne-eqb}
-use lib.Dec.{ltb, eqb}
+use lib.Dec.{ltb}
 use Rattle.g9932.specs.Refusals.{refuseIf}
-use Rattle.tally.specs.PairReport.{Entry, isRefused, mostSymbols, fullTest, entryTest, tallyVerdict, mostFigure, raised, withEntry, Told, tallied}
+use Rattle.tally.specs.PairReport.{Entry, isRefused, mostSymbols, fullTest, entryTest, tallyVerdict, mostFigure, raised, firstAfter, withEntry, Told, tallied}
 use Rattle.tally.specs.declared.Tally.{Tally}
 
 module _ (t : Tally) (e : Entry) where
   -- ---- the three answers
 
-  pub full-first : mostSymbols ≤ t .symbols → tallied t e ≡ record { number = 22; tally = t }
+  pub full-first : mostSymbols ≤ t .symbols → tallied t e ≡ record { number = 22; place = 0; tally = t }
   unfolding tallied tallyVerdict refuseIf
   full-first h = rw (le-leb mostSymbols (t .symbols) h)
 
-  pub frame-next : t .symbols < mostSymbols → entryTest e ≡ true → tallied t e ≡ record { number = 11; tally = t }
+  pub frame-next : t .symbols < mostSymbols → entryTest e ≡ true → tallied t e ≡ record { number = 11; place = 0; tally = t }
   unfolding tallied tallyVerdict refuseIf
   frame-next h p = rw (lt-leb mostSymbols (t .symbols) h, p)
 
-  pub counted : t .symbols < mostSymbols → entryTest e ≡ false → tallied t e ≡ record { number = 0; tally = withEntry t e }
+  pub counted : t .symbols < mostSymbols → entryTest e ≡ false → tallied t e ≡ record { number = 0; place = 0; tally = withEntry t e }
   unfolding tallied tallyVerdict refuseIf
   counted h p = rw (lt-leb mostSymbols (t .symbols) h, p)
 
   -- which of them it is, and why
   pub data Answer : Type 0 where
-    full : mostSymbols ≤ t .symbols → tallied t e ≡ record { number = 22; tally = t } → Answer
-    frame : t .symbols < mostSymbols → entryTest e ≡ true → tallied t e ≡ record { number = 11; tally = t } → Answer
-    taken : t .symbols < mostSymbols → entryTest e ≡ false → tallied t e ≡ record { number = 0; tally = withEntry t e } → Answer
+    full : mostSymbols ≤ t .symbols → tallied t e ≡ record { number = 22; place = 0; tally = t } → Answer
+    frame : t .symbols < mostSymbols → entryTest e ≡ true → tallied t e ≡ record { number = 11; place = 0; tally = t } → Answer
+    taken : t .symbols < mostSymbols → entryTest e ≡ false → tallied t e ≡ record { number = 0; place = 0; tally = withEntry t e } → Answer
 
   pub answer : Answer
   answer = go (fullTest t) (entryTest e) refl refl
@@ -86,7 +86,7 @@ module _ (t : Tally) (e : Entry) where
   pub first-stays : t .«first_refused» ≢ mostSymbols → tallied t e .tally .«first_refused» ≡ t .«first_refused»
   first-stays some = go answer
     where
-      stays : cond (isRefused e && eqb (t .«first_refused») mostSymbols) (t .symbols) (t .«first_refused») ≡ t .«first_refused»
+      stays : firstAfter t (isRefused e) ≡ t .«first_refused»
       stays = rw (ne-eqb (t .«first_refused») mostSymbols some, and-false)
 
       go : Answer → tallied t e .tally .«first_refused» ≡ t .«first_refused»

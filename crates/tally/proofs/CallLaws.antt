@@ -6,10 +6,12 @@ use mathlib.Core.Logic.{_↔_, _≢_}
 use mathlib.Core.Path.{_≡_, refl, sym, ap, _∙_}
 use native.Mathlib.Omega.{arith}
 use lib.ListN.{length, take, length-append}
-use Rattle.tally.specs.PairReport.{Entry, isRefused, count, mostSymbols, figuresOf, entryTest, withEntry, tallied, newTally}
+use Rattle.g9932.specs.Order.{count}
+use Rattle.tally.specs.PairReport.{Entry, isRefused, mostSymbols, figuresOf, entryTest, withEntry, tallied, newTally}
 use Rattle.tally.specs.Calls.{Call, give, reset, tallyAfter, acceptedAfter, ByteCalls, figuresAfter, acceptedIn}
 use Rattle.tally.specs.Words.{ReadAsSent, Every, entryAt}
 use Rattle.tally.specs.declared.Tally.{Tally}
+use Rattle.tally.proofs.Answers as Answers
 use Rattle.tally.proofs.Answers.{Answer, full, frame, taken, answer, taken-exactly}
 use Rattle.tally.proofs.Figures.{Sound, mostWrong, counts-most, wrong-all, figures-more}
 use Rattle.tally.proofs.Meaning as Meaning
@@ -61,22 +63,33 @@ module _ (cs : List Call) (b : ByteCalls cs) where
       → (tallied (figuresAfter cs) e .number ≡ 0) ↔ ((length (acceptedIn cs) < mostSymbols) × (entryTest e ≡ false))
   accepted-exactly e = rw figures (taken-exactly (figuresOf (acceptedIn cs)) e)
 
+  pub full-exactly : (e : Entry) → (tallied (figuresAfter cs) e .number ≡ 22) ↔ (length (acceptedIn cs) ≡ mostSymbols)
+  full-exactly e =
+      let few = made .few in
+      let x = Answers.full-exactly (figuresOf (acceptedIn cs)) e in
+      rw figures (λ h. omega (arith, x .0 h), λ h. x .1 (omega arith))
+
   pub as-sent : ((figuresAfter cs .«wrong_bits» ≡ 0) × (figuresAfter cs .refused ≡ 0)) ↔ Every ReadAsSent (acceptedIn cs)
   as-sent = rw figures (λ h. Meaning.all-as-sent (acceptedIn cs) (made .sound) (h .0) (h .1), Meaning.none-counted (acceptedIn cs))
+
+  pub wrong-none : (figuresAfter cs .«wrong_frames» ≡ 0) ↔ (figuresAfter cs .«wrong_bits» ≡ 0)
+  wrong-none = rw figures (Meaning.wrong-none (acceptedIn cs))
 
   pub fits :
       (figuresAfter cs .symbols ≤ mostSymbols) × (figuresAfter cs .refused + figuresAfter cs .«wrong_frames» ≤ figuresAfter cs .symbols)
       × (figuresAfter cs .«wrong_bits» ≤ figuresAfter cs .symbols * mostWrong) × (figuresAfter cs .«wrong_bits» < 2 ^ 32)
+      × (figuresAfter cs .«first_refused» ≤ mostSymbols)
   fits =
       let few = made .few in
       let all = wrong-all (acceptedIn cs) (made .sound) in
-      rw figures (few, counts-most (acceptedIn cs), all, omega arith)
+      rw figures (few, counts-most (acceptedIn cs), all, omega arith, Meaning.first-most 0 (acceptedIn cs) (omega arith))
 
   pub none-refused : (figuresAfter cs .«first_refused» ≡ mostSymbols) ↔ (figuresAfter cs .refused ≡ 0)
   none-refused = rw figures (Meaning.none-first 0 (acceptedIn cs) (omega (arith, made .few)))
 
   pub first-refused : figuresAfter cs .refused ≢ 0
-      → (isRefused (entryAt (acceptedIn cs) (figuresAfter cs .«first_refused»)) ≡ true)
+      → (figuresAfter cs .«first_refused» < figuresAfter cs .symbols)
+      × (isRefused (entryAt (acceptedIn cs) (figuresAfter cs .«first_refused»)) ≡ true)
       × (count isRefused (take (figuresAfter cs .«first_refused») (acceptedIn cs)) ≡ 0)
   first-refused = rw figures (Meaning.first-refused (acceptedIn cs))
 

@@ -1,13 +1,23 @@
--- Laws of one entry: when FRAME applies to it, and how a figure is raised.
+-- Laws of one entry: when FULL and FRAME apply, and how a figure is raised.
 use Prim.Native.Nat.{ℕ, _+_, _≤_, _<_}
-use mathlib.Core.Bool.{true, false, or-true}
+use mathlib.Core.Bool.{Bool, true, false, or-true}
 use mathlib.Core.List.{List}
-use mathlib.Core.Path.{_≡_, refl}
+use mathlib.Core.Path.{_≡_, refl, sym, _∙_}
 use native.Mathlib.Omega.{arith}
-use borrow.Author.Tests.{le-ltb, lt-ltb, eq-eqb, ne-eqb}
+use borrow.Author.Tests.{leb-true, leb-false, le-ltb, lt-ltb, eq-eqb, ne-eqb}
 use lib.ListN.{length}
 use Rattle.g9932.specs.Sizes.{mostBytes}
-use Rattle.tally.specs.PairReport.{readAs, refusedWith, entryTest, mostFigure, raised}
+use Rattle.tally.specs.PairReport.{readAs, refusedWith, mostSymbols, fullTest, entryTest, mostFigure, raised}
+use Rattle.tally.specs.declared.Tally.{Tally}
+
+-- ---- FULL
+
+module _ {b : Bool} (t : Tally) (e : b ≡ fullTest t) where
+  pub is-full : b ≡ true → mostSymbols ≤ t .symbols
+  is-full q = leb-true mostSymbols (t .symbols) (sym e ∙ q)
+
+  pub has-room : b ≡ false → t .symbols < mostSymbols
+  has-room q = leb-false mostSymbols (t .symbols) (sym e ∙ q)
 
 -- ---- FRAME
 

@@ -1,7 +1,7 @@
 -- Laws of the figures of a list of entries: how large they grow, and what an entry more makes of them.
 use Prim.Native.Nat.{ℕ, suc, _+_, _*_, _≤_, _<_}
 use mathlib.Core.Bool.{Bool, false, cond, not, _&&_, _||_, and-false}
-use mathlib.Core.List.{List, [], _∷_, _++_}
+use mathlib.Core.List.{List, [], _∷_, _++_, map}
 use mathlib.Core.Path.{_≡_, refl, sym, _∙_}
 use native.Mathlib.Nat.{zero-add, add-zero}
 use native.Mathlib.Omega.{arith}
@@ -10,9 +10,11 @@ use lib.Dec.{ltb, eqb}
 use lib.ListN.{length, length-append}
 use Rattle.g9932.specs.Bits.{weight}
 use Rattle.g9932.specs.Sizes.{mostBytes}
+use Rattle.g9932.specs.Order.{sum, count}
+use Rattle.g9932.proofs.Counts.{count-append}
 use Rattle.g9932.proofs.Identities.{or-false}
 use Rattle.g9932.proofs.Words.{weight-le}
-use Rattle.tally.specs.PairReport.{Entry, readAs, refusedWith, wrongIn, isWrong, isRefused, count, allWrong, mostSymbols, firstRefused, figuresOf, entryTest, withEntry}
+use Rattle.tally.specs.PairReport.{Entry, readAs, refusedWith, wrongIn, isWrong, isRefused, mostSymbols, firstRefused, figuresOf, entryTest, withEntry}
 use Rattle.tally.specs.Calls.{ByteEntry}
 use Rattle.tally.specs.Words.{Every}
 use Rattle.tally.proofs.Entries.{raised-fits}
@@ -46,17 +48,16 @@ counts-most [] = omega arith
 counts-most (readAs s r ∷ es) = omega (arith, weight-le (isWrong (readAs s r)), counts-most es)
 counts-most (refusedWith s n ∷ es) = omega (arith, counts-most es)
 
-pub wrong-all : (es : List Entry) → Every Sound es → allWrong es ≤ length es * mostWrong
+pub wrong-all : (es : List Entry) → Every Sound es → sum (map wrongIn es) ≤ length es * mostWrong
 wrong-all [] h = omega arith
 wrong-all (e ∷ es) h = omega (arith, wrong-one e (h .0), wrong-all es (h .1))
 
 -- ---- an entry more
 
 count-more : (p : Entry → Bool) (es : List Entry) (e : Entry) → count p (es ++ (e ∷ [])) ≡ count p es + weight (p e)
-count-more p [] e = omega arith
-count-more p (d ∷ es) e = omega (arith, count-more p es e)
+count-more p es e = omega (arith, count-append p es (e ∷ []))
 
-wrong-more : (es : List Entry) (e : Entry) → allWrong (es ++ (e ∷ [])) ≡ allWrong es + wrongIn e
+wrong-more : (es : List Entry) (e : Entry) → sum (map wrongIn (es ++ (e ∷ []))) ≡ sum (map wrongIn es) + wrongIn e
 wrong-more [] e = omega arith
 wrong-more (d ∷ es) e = omega (arith, wrong-more es e)
 

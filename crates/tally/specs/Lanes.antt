@@ -15,8 +15,8 @@ abbrev pub AtMost : ℕ → List ℕ → Type 0
 AtMost k l = (j : ℕ) → getD l j 0 ≤ k
 
 -- the lanes hold the wrong bits of that many rows; a short frame leaves lanes unused
-pub record Rows (sent back : List ℕ) (rows : ℕ) (lanes : List ℕ) : Type 0 where
+pub record Rows (sent read : List ℕ) (rows : ℕ) (lanes : List ℕ) : Type 0 where
   pub lengthIs : length lanes ≡ laneCount
   pub unused : (j : ℕ) → length sent ≤ j → getD lanes j 0 ≡ 0
   pub small : AtMost (8 * rows) lanes
-  pub total : sum lanes ≡ wrongBits (take (laneCount * rows) sent) (take (laneCount * rows) back)
+  pub total : sum lanes ≡ wrongBits (take (laneCount * rows) sent) (take (laneCount * rows) read)

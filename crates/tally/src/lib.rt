@@ -2,10 +2,8 @@
 pub mod wrong_bits;
 
 ghost use mathlib.Core.Path.{_≡_};
-ghost use mathlib.Core.Bool.{cond, _&&_};
 ghost use Prim.Native.Nat.{_<_};
-ghost use lib.Dec.{eqb};
-ghost use Rattle.tally.specs.PairReport.{readAs, refusedWith, mostSymbols, raised, withSymbol, tallied, toldBy, newTally};
+ghost use Rattle.tally.specs.PairReport.{readAs, refusedWith, mostSymbols, fullTest, raised, firstAfter, withSymbol, tallied, toldOf, newTally};
 ghost use Rattle.tally.specs.declared.Tallied.the-variants as T;
 use g9932::Refusal;
 
@@ -14,6 +12,9 @@ const MOST_BYTES: usize = 7681;
 
 // As many symbols as a tally holds; as the number of the first refused symbol it says that none was refused.
 const MOST_SYMBOLS: u32 = 65535;
+
+// The most that a figure holds.
+const MOST_FIGURE: u32 = 4294967295;
 
 // The report of a pair: symbols given, symbols refused, frames read wrong, wrong bits, and the number of the first refused symbol.
 #[repr(C)]
@@ -31,19 +32,19 @@ pub enum Tallied {
     Refused { tally: Tally, refusal: Refusal },
 }
 
-// A figure raised; it stays at the most that 32 bits hold.
+// A figure raised; one that would not fit becomes the most that it holds.
 fn raise(figure: u32, by: u32) -> u32
     ensures { λ r. ⌜ r ≡ raised figure by ⌝ }
 {
-    if by > 4294967295 - figure {
-        return 4294967295;
+    if by > MOST_FIGURE - figure {
+        return MOST_FIGURE;
     }
     figure + by
 }
 
 impl Tally {
     // A new tally, which is as reset.
-    pub fn as_reset() -> Self
+    pub fn new() -> Self
         ensures { λ r. ⌜ r ≡ newTally ⌝ }
     {
         Self {
@@ -56,29 +57,36 @@ impl Tally {
     }
 
     // A symbol that was read: the frame that was sent, and the one that was read.
-    pub fn read(self, sent: &[u8], back: &[u8]) -> Tallied
-        ensures { λ r. ⌜ toldBy r ≡ tallied self (readAs (now (sent .entry)) (now (back .entry))) ⌝ }
+    pub fn read(self, sent: &[u8], read: &[u8]) -> Tallied
+        ensures { λ r. ⌜ toldOf r ≡ tallied self (readAs (now (sent .entry)) (now (read .entry))) ⌝ }
     {
-        if self.symbols >= MOST_SYMBOLS {
+        if self.is_full() {
             return self.refuse(Refusal::Full);
         }
-        if sent.len() != back.len() || sent.len() > MOST_BYTES {
+        if sent.len() != read.len() || sent.len() > MOST_BYTES {
             return self.refuse(Refusal::Frame);
         }
-        Tallied::Counted(self.with_symbol(false, wrong_bits::wrong_bits(sent, back)))
+        Tallied::Counted(self.with_symbol(false, wrong_bits::wrong_bits(sent, read)))
     }
 
     // A symbol that was refused: the frame that was sent, and the refusal's number.
     pub fn refused(self, sent: &[u8], refusal: u32) -> Tallied
-        ensures { λ r. ⌜ toldBy r ≡ tallied self (refusedWith (now (sent .entry)) refusal) ⌝ }
+        ensures { λ r. ⌜ toldOf r ≡ tallied self (refusedWith (now (sent .entry)) refusal) ⌝ }
     {
-        if self.symbols >= MOST_SYMBOLS {
+        if self.is_full() {
             return self.refuse(Refusal::Full);
         }
         if sent.len() > MOST_BYTES || refusal == 0 {
             return self.refuse(Refusal::Frame);
         }
         Tallied::Counted(self.with_symbol(true, 0))
+    }
+
+    // Whether FULL (22) applies.
+    fn is_full(self) -> bool
+        ensures { λ r. ⌜ r ≡ fullTest self ⌝ }
+    {
+        self.symbols >= MOST_SYMBOLS
     }
 
     // A refused entry, with the tally as it came.
@@ -107,7 +115,7 @@ impl Tally {
 
     // The first refused symbol, after one that is refused or not.
     fn first_after(self, refused: bool) -> u32
-        ensures { λ r. ⌜ r ≡ cond (refused && eqb (self .«first_refused») mostSymbols) (self .symbols) (self .«first_refused») ⌝ }
+        ensures { λ r. ⌜ r ≡ firstAfter self refused ⌝ }
     {
         if refused & (self.first_refused == MOST_SYMBOLS) {
             return self.symbols;

@@ -14,10 +14,10 @@ ghost use Rattle.tally.specs.PairReport.{wrongBits};
 const LANES: usize = 256;
 
 // The wrong bits of a byte: the ones in the exclusive-or.
-fn wrong_in(sent: u8, back: u8) -> u8
-    ensures { λ r. ⌜ (r ≡ ones (bitXor sent back)) × (r ≤ 8) ⌝ }
+fn wrong_in_byte(sent: u8, read: u8) -> u8
+    ensures { λ r. ⌜ (r ≡ ones (bitXor sent read)) × (r ≤ 8) ⌝ }
 {
-    u8::count_ones(sent ^ back) as u8
+    u8::count_ones(sent ^ read) as u8
 }
 
 // The bytes of a row where so many are left.
@@ -28,15 +28,15 @@ fn row_length(left: usize) -> usize
 }
 
 // Adds the wrong bits of a row to the lanes.
-fn add_row(lanes: &mut [u8], sent: &[u8], back: &[u8], row: usize)
-    requires { ⌜ (laneCount * row < length (now sent)) × (length (now sent) ≤ mostBytes) × (length (now back) ≡ length (now sent)) × Rows (now sent) (now back) row (now lanes) ⌝ }
-    ensures { λ _. ⌜ Rows (now (sent .entry)) (now (back .entry)) (row + 1) (now (lanes .exit)) ⌝ }
+fn add_row(lanes: &mut [u8], sent: &[u8], read: &[u8], row: usize)
+    requires { ⌜ (laneCount * row < length (now sent)) × (length (now sent) ≤ mostBytes) × (length (now read) ≡ length (now sent)) × Rows (now sent) (now read) row (now lanes) ⌝ }
+    ensures { λ _. ⌜ Rows (now (sent .entry)) (now (read .entry)) (row + 1) (now (lanes .exit)) ⌝ }
 {
     let at = LANES * row;
     let end = row_length(sent.len() - at);
     let mut j = 0;
     while j < end {
-        lanes[j] = lanes[j] + wrong_in(sent[at + j], back[at + j]);
+        lanes[j] = lanes[j] + wrong_in_byte(sent[at + j], read[at + j]);
         j += 1;
     }
 }
@@ -56,14 +56,14 @@ fn sum_lanes(lanes: &[u8], used: usize) -> u32
 }
 
 // The wrong bits of a frame. Called by proved code only.
-pub fn wrong_bits(sent: &[u8], back: &[u8]) -> u32
-    requires { ⌜ (length (now sent) ≤ mostBytes) × (length (now back) ≡ length (now sent)) ⌝ }
-    ensures { λ r. ⌜ r ≡ wrongBits (now (sent .entry)) (now (back .entry)) ⌝ }
+pub fn wrong_bits(sent: &[u8], read: &[u8]) -> u32
+    requires { ⌜ (length (now sent) ≤ mostBytes) × (length (now read) ≡ length (now sent)) ⌝ }
+    ensures { λ r. ⌜ r ≡ wrongBits (now (sent .entry)) (now (read .entry)) ⌝ }
 {
     let mut lanes = [0u8; LANES];
     let mut row = 0;
     while LANES * row < sent.len() {
-        add_row(&mut lanes, sent, back, row);
+        add_row(&mut lanes, sent, read, row);
         row += 1;
     }
     sum_lanes(&lanes, row_length(sent.len()))

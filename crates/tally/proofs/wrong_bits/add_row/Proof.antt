@@ -9,10 +9,10 @@ use Rattle.tally.proofs.wrong_bits.add_row.Statement.{statement}
 use Rattle.tally.proofs.wrong_bits.add_row.Tie as tie
 
 abbrev Inv-loop : tie.InvT-loop
-Inv-loop lanes₀ sent back row at end j₀ lanes j = (j ≤ end) × Part sent back row j lanes
+Inv-loop lanes₀ sent read row at end j₀ lanes j = (j ≤ end) × Part sent read row j lanes
 
 abbrev μ-loop : tie.MeasureT-loop
-μ-loop lanes₀ sent back row at end j₀ lanes j = end - j
+μ-loop lanes₀ sent read row at end j₀ lanes j = end - j
 
 loop-holds : tie.Need-loop-holds Inv-loop μ-loop
 loop-holds c = (omega arith, part-begin (c .before .before .before .before .pre .3))
@@ -27,14 +27,14 @@ add-lanes : tie.Need-add-lanes Inv-loop μ-loop
 add-lanes c =
     let l = c .before .before .before .before .before .loop in
     let a = c .before .before .before .before .before .before .before .before .before .before in
-    omega (arith, l .inv .1 .ahead (l .j) (omega arith), c .wrong-in .ensures .1, a .pre .0, a .pre .1)
+    omega (arith, l .inv .1 .ahead (l .j) (omega arith), c .wrong-in-byte .ensures .1, a .pre .0, a .pre .1)
 
 loop-again : tie.Need-loop-again Inv-loop μ-loop
 loop-again c =
     let l = c .before .before .before .before .before .loop in
     let a = c .before .before .before .before .before .before .before .before .before .before in
     let n = c .before .before .before .before .before .before .row-length .ensures in
-    (omega arith, rw add-one (part-more (l .inv .1) (a .pre .2) (omega (arith, n .0, a .pre .0)) (omega (arith, n .1)) (c .wrong-in .ensures .0) (c .wrong-in .ensures .1)))
+    (omega arith, rw add-one (part-more (l .inv .1) (a .pre .2) (omega (arith, n .0, a .pre .0)) (omega (arith, n .1)) (c .wrong-in-byte .ensures .0) (c .wrong-in-byte .ensures .1)))
 
 returns : tie.Need-returns Inv-loop μ-loop
 returns c =

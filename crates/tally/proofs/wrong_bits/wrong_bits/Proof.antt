@@ -9,10 +9,10 @@ use Rattle.tally.proofs.wrong_bits.wrong_bits.Statement.{statement}
 use Rattle.tally.proofs.wrong_bits.wrong_bits.Tie as tie
 
 abbrev Inv-loop : tie.InvT-loop
-Inv-loop sent back lanes₀ row₀ lanes row = (row ≤ 31) × Rows sent back row lanes
+Inv-loop sent read lanes₀ row₀ lanes row = (row ≤ 31) × Rows sent read row lanes
 
 abbrev μ-loop : tie.MeasureT-loop
-μ-loop sent back lanes₀ row₀ lanes row = 31 - row
+μ-loop sent read lanes₀ row₀ lanes row = 31 - row
 
 loop-holds : tie.Need-loop-holds Inv-loop μ-loop
 loop-holds c = (omega arith, rows-none _ _)
