@@ -62,12 +62,14 @@ int main(void)
     for (uint8_t k = 0; k < SYMBOLS; k++) {
         const uint8_t frame[1] = {(uint8_t)(21 + k)};
         clevisroot_answer a = clevisroot_encode(TABLES, frame, 1, reg, x, NSC, y, NSC);
+        if (a.number != CLEVISROOT_DONE)
+            return 1;
         if (k == MOVED)
             move_point(x);
         if (k == TURNED)
             turn(x, y);
         clevisroot_tallied t = read_and_count(tally, frame, x, y, reg);
-        if (a.number != CLEVISROOT_DONE || t.number != CLEVISROOT_DONE)
+        if (t.number != CLEVISROOT_DONE)
             return 1;
         reg = a.reg;
         tally = t.tally;

@@ -71,19 +71,20 @@
  * bits, in the order of t'; those of a silent tone are thrown away. Give it to the next symbol. A
  * reader must be given what the writer was given.
  *
- * THE PAIR'S REPORT
+ * THE PAIR REPORT
  *
  * A tally counts over the symbols of a pair: how many were given, how many of them were refused, how
  * many were read as another frame than was sent, in how many bits, and which was the first that was
- * refused. It is a struct that the caller owns; clevisroot_tally_new makes one, and resets one. Each
- * symbol is given once, as the frame that was sent with either the frame that was read
- * (clevisroot_tally_read) or the number of the refusal (clevisroot_tally_refused); the answer has the
- * tally to go on with. Wrong bits are the ones in the exclusive-or of the two frames; a refused symbol
- * adds none. A refused entry leaves the tally as it was. After any calls from a new tally the figures
- * are those of the accepted entries since the last reset.
+ * refused. It is a struct that the caller owns; clevisroot_tally_new makes a new one, and to reset is to
+ * begin with a new one. Each symbol is an entry, given once: the frame that was sent with either the
+ * frame that was read (clevisroot_tally_read) or the number of the refusal (clevisroot_tally_refused).
+ * The answer has the tally to go on with. Wrong bits are the ones in the exclusive-or of the two
+ * frames; a symbol that was refused adds none. An entry that the tally refuses, with 22 or 11, leaves it
+ * as it was. After any calls from a new tally the figures are those of the entries that were accepted
+ * since the last reset.
  *
  * A tally holds 65535 symbols, and its figures fit 32 bits however these were read. Any numbers may
- * come in from outside: a figure that would not fit stays at UINT32_MAX, and first_refused is set only
+ * come in from outside: a figure that would not fit becomes UINT32_MAX, and first_refused is set only
  * where it is CLEVISROOT_NONE_REFUSED.
  *
  * ANSWERS AND REFUSALS
@@ -117,7 +118,7 @@
  *   15   a pair of entries breaks the trellis code                       number of the first pair
  *   16   one-tone calls: bits not 1 to 15, or label not below 2^bits     0
  *   17 to 21 unused: no call gives them
- *   22   the pair's report holds 65535 symbols                           0
+ *   22   a tally holds 65535 symbols or more                             0
  *   23   nearest reading: a coordinate is below -1023 or above 1023      first place in t'
  *
  * Places, sub-carriers and pairs count from 0. For 13 a monitored tone can have the points of 2
@@ -369,8 +370,8 @@ clevisroot_tally clevisroot_tally_new(void);
 
 /*
  * Counts a symbol that was read: the frame that was sent, and the one that was read.
- * Refusals 22 if the tally holds 65535 symbols; then 11 if the frames' lengths differ or are above
- * CLEVISROOT_MAX_FRAME.
+ * Refusals 22 if the tally holds 65535 symbols or more; then 11 if the frames' lengths differ or are
+ * above CLEVISROOT_MAX_FRAME bytes.
  */
 clevisroot_tallied clevisroot_tally_read(
     clevisroot_tally tally, const uint8_t *sent, size_t sent_len,
@@ -379,8 +380,8 @@ clevisroot_tallied clevisroot_tally_read(
 /*
  * Counts a symbol that was refused: the frame that was sent, and the number of the refusal, which may
  * be any but 0.
- * Refusals 22 if the tally holds 65535 symbols; then 11 if the frame is above CLEVISROOT_MAX_FRAME
- * bytes or the number is 0.
+ * Refusals 22 if the tally holds 65535 symbols or more; then 11 if the frame is above
+ * CLEVISROOT_MAX_FRAME bytes or the number is 0.
  */
 clevisroot_tallied clevisroot_tally_refused(
     clevisroot_tally tally, const uint8_t *sent, size_t sent_len, uint32_t refusal);

@@ -124,17 +124,30 @@ pub fn print_counting(effort: Effort) {
         "", "library", "peer", "library/peer", "middle half"
     );
     let mut slowest: f64 = 0.0;
+    let mut beyond = Vec::new();
     for bytes in [7681, 1000, 100, 10] {
+        let mut ratio: f64 = 0.0;
         for (name, wrong) in [("half wrong", Wrong::Half), ("as sent", Wrong::Nothing)] {
             let measured = measure_counting(effort, bytes, wrong);
             print_count(&format!("{bytes} bytes, {name}"), &measured);
             slowest = slowest.max(measured.median(LIBRARY));
+            ratio = ratio.max(measured.ratio(LIBRARY, PEER).median);
+        }
+        if ratio > 1.0 {
+            beyond.push(bytes.to_string());
         }
     }
     println!(
         "counting by the library takes {:.2} % of the symbol time at most",
         100.0 * slowest / SYMBOL_TIME
     );
+    match beyond.as_slice() {
+        [] => println!("it takes at most 1.0 of the peer's time"),
+        lengths => println!(
+            "it takes more than 1.0 of the peer's time at {} bytes",
+            lengths.join(", ")
+        ),
+    }
 }
 
 fn print_count(name: &str, measured: &Measured<2>) {

@@ -48,7 +48,7 @@ const OUTCOMES: [&str; 18] = [
     "wrong bits stay",
     "11 for two lengths",
     "11 for frames that are too long",
-    "11 for one of a refused symbol",
+    "11 for a refused symbol's that is too long",
     "11 for the number 0",
     "22 by calls alone",
     "22 of a tally from outside",
