@@ -132,7 +132,7 @@
  * If the two wires of the pair are exchanged (the clips are the wrong way round), every point
  * (X, Y) arrives as (-X, -Y). Coded, reading without noise refuses such a symbol with 14 if any tone
  * is monitored, and with 15 if none is and the count of non-zero entries in b' is odd. If none is
- * monitored and the count is even, the turned symbol is read as another frame, and nothing tells.
+ * monitored and the count is even, the turned symbol is read as another frame, and no refusal tells.
  * Nearest reading never refuses it: it compares no monitored point.
  */
 #ifndef CLEVISROOT_H

@@ -95,6 +95,10 @@ module _ (t : Tally) (e : Entry) where
   pub full-first : 65_535 ≤ t .symbols → tallied t e ≡ record { number = 22; place = 0; tally = t }
   full-first = Answers.full-first t e
 
+  -- Then comes 11, and leaves the tally as it came too.
+  pub frame-next : t .symbols < 65_535 → entryTest e ≡ true → tallied t e ≡ record { number = 11; place = 0; tally = t }
+  frame-next = Answers.frame-next t e
+
   -- An entry is accepted where the tally is not full and 11 does not apply, and raises the figures.
   pub counted : t .symbols < 65_535 → entryTest e ≡ false → tallied t e ≡ record { number = 0; place = 0; tally = withEntry t e }
   counted = Answers.counted t e
