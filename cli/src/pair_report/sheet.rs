@@ -3,20 +3,21 @@
 use super::pair::Pair;
 use super::rate::Rate;
 use super::refusals::{self, Row};
+use super::remarks::remarks;
 use super::strip::Strip;
 use super::strip_picture;
-use super::verdict::{turned, verdict, Remark};
-use crate::span::Span;
+use super::turned::{turned, Turned};
+use super::verdict::verdict;
 use crate::svg::escaped;
 use crate::words::shortened;
 
 pub fn sheet(pair: &Pair) -> String {
-    let name = escaped(&shortened(&pair.name));
+    let name = escaped(&pair.title());
     format!(
         "<section>\n<p class=\"kind\">Pair report</p>\n<h1>{name}</h1>\n\
          <p class=\"verdict\">{}</p>\n{}{}{}{}{}{HANDS}{}</section>\n",
         escaped(&verdict(pair)),
-        paragraph(&turned(pair)),
+        remarked(pair),
         figures(pair),
         symbols(pair),
         refused(pair),
@@ -25,12 +26,19 @@ pub fn sheet(pair: &Pair) -> String {
     )
 }
 
-fn paragraph(Remark { sentence, bold }: &Remark) -> String {
-    let sentence = escaped(sentence);
-    match bold {
-        true => format!("<p class=\"warning\"><strong>{sentence}</strong></p>\n"),
-        false => format!("<p>{sentence}</p>\n"),
-    }
+/// The remarks, and what is to say of a turned clip.
+fn remarked(pair: &Pair) -> String {
+    let paragraph = |sentence: &String| format!("<p>{}</p>\n", escaped(sentence));
+    let remarks: String = remarks(pair).iter().map(paragraph).collect();
+    let Turned { sentence, bold } = turned(pair);
+    let turned = match bold {
+        true => format!(
+            "<p class=\"warning\"><strong>{}</strong></p>\n",
+            escaped(&sentence)
+        ),
+        false => paragraph(&sentence),
+    };
+    remarks + &turned
 }
 
 /// The five figures and the rate.
@@ -44,7 +52,10 @@ fn figures(pair: &Pair) -> String {
         ("wrong frames", tally.wrong_frames.to_string()),
         ("wrong bits", tally.wrong_bits.to_string()),
         ("first refused", first.unwrap_or("none".to_string())),
-        ("wrong-bit rate", rate.value().unwrap_or("none".to_string())),
+        (
+            "wrong-bit rate",
+            rate.marked("\u{2265} ").unwrap_or("none".to_string()),
+        ),
     ];
     let heads: String = cells
         .iter()
@@ -102,20 +113,14 @@ fn refused(pair: &Pair) -> String {
 /// Where the symbols come from, and what the table set is.
 fn facts(pair: &Pair) -> String {
     let mut rows = pair.source.rows();
-    match &pair.tables {
-        Some(facts) => {
-            let span = Span {
-                start: pair.source.start,
-                size: facts.size,
-            };
-            rows.extend([
-                ("table set", shortened(&facts.name)),
-                ("its tones", facts.class_words()),
-                ("tones by bits", facts.loading_words()),
-                ("a frame", span.words()),
-            ]);
-        }
-        None => rows.push(("table set", "none is named".to_string())),
+    match (&pair.tables, pair.span()) {
+        (Some(facts), Some(span)) => rows.extend([
+            ("table set", shortened(&facts.name)),
+            ("its tones", facts.class_words()),
+            ("tones by bits", facts.loading_words()),
+            ("a frame", span.words()),
+        ]),
+        _ => rows.push(("table set", "none is named".to_string())),
     }
     let row = |(head, words): &(&str, String)| {
         format!("<tr><th>{head}</th><td>{}</td></tr>\n", escaped(words))
@@ -129,13 +134,13 @@ const HANDS: &str = "<div class=\"hands\"><span>Place</span><span>Date</span>\
                      <span>Signature of the jointer</span></div>\n";
 
 fn footer(pair: &Pair) -> String {
-    let (given, it) = match pair.source.log {
-        Some(_) => ("entries in the log", "it"),
-        None => ("symbols in the files above", "them"),
+    let (given, it) = match pair.source.read {
+        Some(_) => ("symbols in the files above", "them"),
+        None => ("entries in the log", "it"),
     };
     format!(
-        "<footer>Counted by the library of clevisroot {}, which is proved. The figures are those of \
-         the {given}; nothing is known of what is not in {it}.</footer>\n",
+        "<footer>The five figures are counted by the library of clevisroot {}, which is proved. They \
+         are those of the {given}; nothing is known of what is not in {it}.</footer>\n",
         env!("CARGO_PKG_VERSION")
     )
 }
