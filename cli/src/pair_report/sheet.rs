@@ -11,19 +11,42 @@ use super::verdict::verdict;
 use crate::svg::escaped;
 use crate::words::shortened;
 
+/// More rows of refusals are printed small and close, so that they fit the sheet.
+const FEW: usize = 8;
+
+/// The letters of a name that fit a line or two of large type.
+const SHORT: usize = 60;
+
 pub fn sheet(pair: &Pair) -> String {
-    let name = escaped(&pair.title());
+    let rows = refusals::rows(&pair.count.refusals);
+    let many = marked("many", rows.len() > FEW);
     format!(
-        "<section>\n<p class=\"kind\">Pair report</p>\n<h1>{name}</h1>\n\
+        "<section{many}>\n<p class=\"kind\">Pair report</p>\n{}\
          <p class=\"verdict\">{}</p>\n{}{}{}{}{}{HANDS}{}</section>\n",
+        heading(pair),
         escaped(&verdict(pair)),
         remarked(pair),
         figures(pair),
         symbols(pair),
-        refused(pair),
+        refused(&rows),
         facts(pair),
         footer(pair)
     )
+}
+
+/// A class, where it is wanted.
+fn marked(class: &str, wanted: bool) -> String {
+    if wanted {
+        format!(" class=\"{class}\"")
+    } else {
+        String::new()
+    }
+}
+
+fn heading(pair: &Pair) -> String {
+    let title = pair.title();
+    let long = marked("long", title.chars().count() > SHORT);
+    format!("<h1{long}>{}</h1>\n", escaped(&title))
 }
 
 /// The remarks, and what is to say of a turned clip.
@@ -80,11 +103,8 @@ fn symbols(pair: &Pair) -> String {
     format!("<h2>The symbols over time</h2>\n{picture}")
 }
 
-/// More refusals are printed small, so that they fit the sheet.
-const FEW: usize = 8;
-
 /// The refusals by number, with their meaning.
-fn refused(pair: &Pair) -> String {
+fn refused(rows: &[Row]) -> String {
     let row = |row: &Row| {
         let Row {
             title,
@@ -93,17 +113,11 @@ fn refused(pair: &Pair) -> String {
         } = row;
         format!("<tr><td>{title}</td><td>{symbols}</td><td>{meaning}</td></tr>\n")
     };
-    let rows = refusals::rows(&pair.count.refusals);
-    let class = if rows.len() > FEW {
-        "refusals many"
-    } else {
-        "refusals"
-    };
     let rows: String = rows.iter().map(row).collect();
     let table = match rows.as_str() {
         "" => "<p>None.</p>\n".to_string(),
         rows => format!(
-            "<table class=\"{class}\">\n<tr><th>refusal</th><th>symbols</th><th>meaning</th></tr>\n\
+            "<table class=\"refusals\">\n<tr><th>refusal</th><th>symbols</th><th>meaning</th></tr>\n\
              {rows}</table>\n"
         ),
     };
