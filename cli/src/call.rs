@@ -96,6 +96,24 @@ pub enum Asked {
     Find,
 }
 
+impl Asked {
+    /// The register that the library is given where none has to be found.
+    pub fn value(&self) -> u32 {
+        match self {
+            Asked::Given(register, _) => *register,
+            Asked::Reset | Asked::Find => RESET,
+        }
+    }
+
+    /// The register as it was typed.
+    pub fn typed(&self) -> Option<&str> {
+        match self {
+            Asked::Given(_, typed) => Some(typed),
+            Asked::Reset | Asked::Find => None,
+        }
+    }
+}
+
 /// A command with all that belongs to it.
 pub struct Call {
     pub command: &'static Command,
@@ -158,21 +176,5 @@ impl Call {
             let name = self.command.operands[operand].name();
             self.command.wrong(&format!("{name} is not {kind}"))
         })
-    }
-
-    /// The register as it was typed.
-    pub fn typed_register(&self) -> Option<&str> {
-        match &self.register {
-            Asked::Given(_, typed) => Some(typed),
-            Asked::Reset | Asked::Find => None,
-        }
-    }
-
-    /// The register that the library is given where none has to be found.
-    pub fn register_value(&self) -> u32 {
-        match self.register {
-            Asked::Given(register, _) => register,
-            Asked::Reset | Asked::Find => RESET,
-        }
     }
 }

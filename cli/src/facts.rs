@@ -5,6 +5,7 @@ use crate::files::{Class, TableSet};
 use crate::json::{Fields, Json};
 use crate::register::{Reach, Reaches, ENOUGH_TONES, UNSEEN};
 use crate::words::mode_word;
+use clevisroot_sys::refusals::{FEW, MONITOR, SIZE, TRELLIS};
 
 /// The most bits that a tone has.
 const MOST_BITS: u8 = 15;
@@ -21,11 +22,11 @@ pub struct Facts {
     /// How many tones have 1 bit, 2 bits and so on.
     by_bits: Vec<usize>,
     /// N.
-    loaded: usize,
+    pub loaded: usize,
     /// What the monitored tones of one symbol can tell.
     reach: Reach,
     /// The trellis code refuses every turned symbol.
-    trellis: bool,
+    pub trellis: bool,
 }
 
 impl Facts {
@@ -47,7 +48,8 @@ impl Facts {
         }
     }
 
-    fn monitored(&self) -> usize {
+    /// How many tones are monitored.
+    pub fn monitored(&self) -> usize {
         self.reach.tones
     }
 
@@ -56,7 +58,7 @@ impl Facts {
     }
 
     /// Whether exact reading refuses a turned symbol, if the register is the writer's.
-    pub fn shows_turned(&self) -> bool {
+    fn shows_turned(&self) -> bool {
         self.trellis || self.monitored() > 0
     }
 
@@ -90,10 +92,7 @@ impl Facts {
     /// Whether a turned clip shows, and what reading needs for that.
     pub fn turned_words(&self) -> String {
         let Facts { loaded, reach, .. } = self;
-        let tones = match reach.tones {
-            1 => "1 tone is monitored".to_string(),
-            tones => format!("{tones} tones are monitored"),
-        };
+        let tones = self.monitored_words();
         if self.trellis {
             format!("shows whatever the register, because N = {loaded} is odd")
         } else if reach.settles() {
@@ -107,6 +106,24 @@ impl Facts {
             format!("shows if the register is known, because {tones}")
         } else {
             format!("does not show, because {}", self.unshown_words())
+        }
+    }
+
+    /// "1 tone is monitored"
+    pub fn monitored_words(&self) -> String {
+        match self.monitored() {
+            1 => "1 tone is monitored".to_string(),
+            tones => format!("{tones} tones are monitored"),
+        }
+    }
+
+    /// Whether a symbol can be refused with this number: the tables themselves are accepted.
+    pub fn can_refuse(&self, number: u32) -> bool {
+        match number {
+            SIZE..=FEW => false,
+            MONITOR => self.monitored() > 0,
+            TRELLIS => self.coded,
+            _ => true,
         }
     }
 

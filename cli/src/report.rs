@@ -21,7 +21,7 @@ pub struct Report {
     pub picture: Option<String>,
     /// A page for a browser.
     pub page: Option<String>,
-    /// Rows for a spreadsheet, where they are wanted instead of text.
+    /// Rows for a spreadsheet, where they are wanted instead of text; none of a refusal.
     pub rows: Option<String>,
     /// The symbol or the tables are refused.
     pub refused: bool,

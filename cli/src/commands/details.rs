@@ -107,19 +107,23 @@ pub const REPORT: &str = "\
 Counts, over the symbols of each pair, how many were refused, how many frames were read wrong and by
 how many bits, and which symbol was refused first, symbols counted from 0; then says in a sentence
 what that shows, and no more. The rate is of the bits of the frames that were read: L a frame where
-the table set is known, else 8 a byte. --html FILE writes a page that prints on one sheet a pair.
+the table set is known, else 8 a byte, and then the rate may be more. --html FILE writes a page that
+prints on one sheet a pair.
 
-A LOG is of one pair. Lines pair: NAME and tables: FILE come first, both if you like; then a line a
-symbol, the frame that was sent and the one that was read, both in hex, or the word refused and a
-number (15 refused 14). A frame of no bytes is -. File names are taken from the log's folder.
+A LOG is of one pair. Lines pair: NAME and tables: FILE come first, both optional, and start: N with
+tables:; then a line a symbol, the frame that was sent and the one that was read, both in hex, or the
+word refused and a number (15 refused 14). A frame of no bytes is -. File names are taken from the
+log's folder.
 
 Or the points are read here, as read does, each symbol with the register that it was written with,
-which the sent frames tell: then a log has the lines tables: FILE, sent: FILE (frames) and points:
-FILE, register: N and start: N if needed, and no symbols. Without a log, --tables, --sent and
---points make a pair.
+which the sent frames tell, so that none may be left out: then a log has the lines tables: FILE,
+sent: FILE (frames) and points: FILE, register: N and start: N if needed, and no symbols. Without a
+log, --tables, --sent and --points make a pair.
 
-The exit status is 0 whatever the figures are. It is 22 if a pair has more than 65535 symbols, and 11
-if two frames of a symbol have different lengths or are none of the table set; then there is no report.
+The exit status is 0 whatever the figures are. There is no report, and the status is that of the
+refusal, if a pair has more than 65535 symbols (22); if two frames of a symbol have different
+lengths, one is longer than any frame or is none of the table set, or the number of a refusal is 0
+(11); if a table set is refused (1 to 8), a --start (11) or a --register (12).
 
 examples
   clevisroot report examples/pair-7.log examples/pair-8.log --html report.html

@@ -27,7 +27,7 @@ struct Encode {
 pub fn encode(call: &Call) -> Result<u8, Fault> {
     let tables = Tables::of(call)?;
     let task = Encode {
-        register: call.register_value(),
+        register: call.register.value(),
         remarks: remarks(&tables.set, &tables.order),
         tables,
         totals: Totals::default(),

@@ -8,9 +8,9 @@ use crate::files::{Entry, TableSet};
 use crate::index::Subcarrier;
 use crate::json::Json;
 use crate::output::Output;
+use crate::refusal::title;
 use crate::report::{fields, Report};
 use clevisroot_sys as library;
-use clevisroot_sys::refusals::name;
 use clevisroot_sys::RESET;
 use std::fmt::Display;
 
@@ -219,7 +219,7 @@ fn turned(set: &TableSet) -> String {
 fn answer_or(number: u32, figure: String) -> String {
     match number {
         0 => figure,
-        _ => format!("{number} {}", name(number)),
+        _ => title(number),
     }
 }
 

@@ -26,7 +26,7 @@ struct Nearest {
 pub fn nearest(call: &Call) -> Result<u8, Fault> {
     let task = Nearest {
         tables: Tables::of(call)?,
-        register: call.register_value(),
+        register: call.register.value(),
         all: call.has(&ALL),
         totals: DistanceTotals::default(),
     };

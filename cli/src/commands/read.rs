@@ -31,7 +31,7 @@ pub fn read(call: &Call) -> Result<u8, Fault> {
     let task = Read {
         tables: Tables::of(call)?,
         find,
-        register: (!find).then(|| call.register_value()),
+        register: (!find).then(|| call.register.value()),
         finder: Finder::new(),
         totals: Totals::default(),
     };

@@ -38,7 +38,7 @@ impl Tables {
             set,
             order,
             reaches,
-            typed: call.typed_register().map(str::to_string),
+            typed: call.register.typed().map(str::to_string),
             named_start: call.start,
         })
     }

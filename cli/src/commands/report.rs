@@ -2,7 +2,7 @@
 
 use crate::call::{Asked, Call};
 use crate::fault::Fault;
-use crate::files::{Head, Log, Unread};
+use crate::files::{name_of, Head, Log, Unread};
 use crate::options::{Opt, CSV, HTML, JSON, PAIR_NAME, PAIR_POINTS, PAIR_SENT, PAIR_TABLES};
 use crate::output::{same_file, Output};
 use crate::pair_report::{lines, list, of_files, of_log, page, rows, Pair, Stop};
@@ -24,7 +24,9 @@ pub fn report(call: &Call) -> Result<u8, Fault> {
         Err(Stop::Fault(fault)) => Err(fault),
         Err(Stop::Refused(refusal, place)) => {
             let json = fields("report", [Some(refusal.number), Some(place), None, None]);
-            output.single(Report::refused_result(&refusal, json))
+            let mut report = Report::refused_result(&refusal, json);
+            report.rows = call.has(&CSV).then(String::new);
+            output.single(report)
         }
     }
 }
@@ -43,7 +45,7 @@ fn pairs(call: &Call, own: Option<Head>, output: &mut Output) -> Result<Vec<Pair
     let mut pairs = Vec::new();
     for operand in &call.operands {
         let log = Log::open(operand)?;
-        keep(call, &log.head)?;
+        check_overwriting(call, &log.head)?;
         pairs.push(of_log(log, stem(operand), output)?);
     }
     if let Some(head) = own {
@@ -67,7 +69,7 @@ fn own_pair(call: &Call) -> Result<Option<Head>, Fault> {
             unread: Some(Unread {
                 sent,
                 points,
-                register: call.register_value(),
+                register: call.register.clone(),
             }),
         })),
         (None, None, None) if named => wrong(
@@ -83,7 +85,7 @@ fn own_pair(call: &Call) -> Result<Option<Head>, Fault> {
 }
 
 /// The page must not take the place of a file that a log names.
-fn keep(call: &Call, head: &Head) -> Result<(), Fault> {
+fn check_overwriting(call: &Call, head: &Head) -> Result<(), Fault> {
     let Some(html) = call.file(&HTML).filter(|html| html.is_file()) else {
         return Ok(());
     };
@@ -100,7 +102,7 @@ fn keep(call: &Call, head: &Head) -> Result<(), Fault> {
 /// The name of a file without its folder and its ending.
 fn stem(file: &OsStr) -> String {
     if file == "-" {
-        return "standard input".to_string();
+        return name_of(file);
     }
     name(Path::new(file).file_stem().unwrap_or(file))
 }

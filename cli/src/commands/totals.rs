@@ -1,6 +1,7 @@
 //! The totals of a stream of `encode` or `read`.
 
 use crate::json::Json;
+use crate::refusal::title;
 use crate::report::Report;
 use crate::words::count;
 use clevisroot_sys::refusals::{name, DONE};
@@ -72,7 +73,7 @@ impl Totals {
         );
         let refusals = self.numbers.iter().filter(|(number, _)| **number != DONE);
         let mut list: Vec<String> = refusals
-            .map(|(&number, times)| format!("{number} {} {times}", name(number)))
+            .map(|(&number, times)| format!("{} {times}", title(number)))
             .collect();
         if let Some((first, _)) = self.first {
             list.push(format!("first symbol {first}"));

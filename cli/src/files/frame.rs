@@ -11,13 +11,19 @@ pub struct Frame {
     pub bytes: Vec<u8>,
     /// The bytes that the file has for this frame.
     pub count: usize,
+    /// The name that messages have for the file.
+    pub name: String,
+    /// The line with its first byte.
+    pub line: Option<usize>,
 }
 
 impl SymbolText for Frame {
-    fn new(_: &str) -> Frame {
+    fn new(file: &str) -> Frame {
         Frame {
             bytes: Vec::new(),
             count: 0,
+            name: file.to_string(),
+            line: None,
         }
     }
 
@@ -30,7 +36,8 @@ impl SymbolText for Frame {
     }
 
     /// Whitespace may stand between bytes, and `0x` in front of a word.
-    fn take(&mut self, _: usize, text: &str) -> Result<(), String> {
+    fn take(&mut self, line: usize, text: &str) -> Result<(), String> {
+        self.line.get_or_insert(line);
         for word in text.split_whitespace() {
             let bytes = word_bytes(word)?;
             self.count += bytes.len();

@@ -2,6 +2,7 @@
 
 use super::numbers::{register_number, saturating};
 use super::source::quoted;
+use crate::call::Asked;
 use crate::span::LAST_START;
 use crate::words::shown;
 use clevisroot_sys::RESET;
@@ -44,7 +45,7 @@ pub struct Unread {
     /// The file of the points that came.
     pub points: OsString,
     /// The register before the first symbol.
-    pub register: u32,
+    pub register: Asked,
 }
 
 impl Head {
@@ -90,25 +91,29 @@ impl Headers {
                 return Err((*line, format!("`{key}:` needs a line `{missing}:` too")));
             }
         }
-        let register = self
-            .number(REGISTER, register_number, 1..=RESET)?
-            .unwrap_or(RESET);
         let decimal = |word: &str| saturating(word, u32::MAX);
         let start = self.number(START, decimal, 0..=LAST_START.into())?;
         let unread = match (self.file(SENT, folder)?, self.file(POINTS, folder)?) {
             (Some(sent), Some(points)) => Some(Unread {
                 sent,
                 points,
-                register,
+                register: self.register()?,
             }),
             _ => None,
         };
         Ok(Head {
             pair: self.lines.get(PAIR).map(|(_, name)| shown(name)),
             tables: self.file(TABLES, folder)?,
-            start: start.and_then(|start| start.try_into().ok()).unwrap_or(0),
+            start: start.map_or(0, |(start, _)| start as u8),
             unread,
         })
+    }
+
+    fn register(&self) -> Result<Asked, Wrong> {
+        let given = self.number(REGISTER, register_number, 1..=RESET)?;
+        Ok(given.map_or(Asked::Reset, |(register, word)| {
+            Asked::Given(register, word)
+        }))
     }
 
     fn file(&self, key: &str, folder: &Path) -> Result<Option<OsString>, Wrong> {
@@ -121,12 +126,13 @@ impl Headers {
         }
     }
 
+    /// The number that a line has, and the word as it was typed.
     fn number(
         &self,
         key: &str,
         read: impl Fn(&str) -> Option<u32>,
         range: RangeInclusive<u32>,
-    ) -> Result<Option<u32>, Wrong> {
+    ) -> Result<Option<(u32, String)>, Wrong> {
         let Some((line, word)) = self.lines.get(key) else {
             return Ok(None);
         };
@@ -135,7 +141,9 @@ impl Headers {
             let word = quoted(word);
             format!("`{key}:` is a whole number from {least} to {most}, not {word}")
         };
-        let number = read(word).filter(|number| range.contains(number));
-        number.map(Some).ok_or_else(|| (*line, message()))
+        match read(word).filter(|number| range.contains(number)) {
+            Some(number) => Ok(Some((number, word.clone()))),
+            None => Err((*line, message())),
+        }
     }
 }

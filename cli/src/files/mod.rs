@@ -16,6 +16,7 @@ pub use log::{Log, LogEntry, Received};
 pub use log_head::{Head, Unread};
 pub use numbers::{register_number, saturating, signed};
 pub use points::PointList;
+pub use source::name_of;
 pub use symbols::{SymbolText, Symbols};
 pub use table_file::read_tables;
 pub use tables::{Class, Entry, TableSet};

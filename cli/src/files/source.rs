@@ -17,12 +17,20 @@ pub struct Source {
     text: String,
 }
 
+/// The name that messages have for a file, or for standard input if the operand is `-`.
+pub fn name_of(operand: &OsStr) -> String {
+    if operand == "-" {
+        return "standard input".to_string();
+    }
+    shown(&Path::new(operand).display().to_string())
+}
+
 /// Opens a file, or standard input if the operand is `-`; with the name that messages have for it.
 pub fn open(operand: &OsStr) -> Result<(String, Box<dyn BufRead>), Fault> {
+    let name = name_of(operand);
     if operand == "-" {
-        return Ok(("standard input".to_string(), Box::new(io::stdin().lock())));
+        return Ok((name, Box::new(io::stdin().lock())));
     }
-    let name = shown(&Path::new(operand).display().to_string());
     match File::open(operand) {
         Ok(file) => Ok((name, Box::new(BufReader::new(file)))),
         Err(error) => Err(Fault::access(name, error)),

@@ -75,8 +75,8 @@ impl Output {
         let text = if self.json {
             report.json.extend(noted(&notes));
             document(&report.json)
-        } else if let Some(rows) = report.rows.take() {
-            rows
+        } else if let Some(rows) = &report.rows {
+            rows.clone()
         } else {
             let result = report.result.as_ref().filter(|_| self.out.is_none());
             let mark = if result.is_some() { "# " } else { "" };
@@ -231,9 +231,11 @@ impl Output {
         Ok(Some(format!("page written to {}", draft.finish()?)))
     }
 
-    /// A pipe takes what is printed away from the person, who should still have the reason.
+    /// Rows have no place for the reason, and a pipe takes what is printed away from the person, who
+    /// should still have it.
     fn tell_reason(&mut self, symbol: &str, report: &Report) {
-        if let (Some(reason), false) = (&report.reason, io::stdout().is_terminal()) {
+        let shown = report.rows.is_none() && io::stdout().is_terminal();
+        if let (Some(reason), false) = (&report.reason, shown) {
             self.progress.clear();
             complain(&format!("{symbol}{reason}"));
         }

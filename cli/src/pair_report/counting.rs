@@ -6,7 +6,8 @@ use super::source::Source;
 use super::stop::Stop;
 use crate::ask;
 use crate::facts::Facts;
-use crate::files::{LogEntry, Received, TableSet};
+use crate::files::{Head, LogEntry, Received, TableSet};
+use crate::json::Json;
 use crate::refusal::{EntryPlace, Question, Refusal};
 use crate::span::Span;
 use clevisroot_sys::refusals::{DONE, FRAME};
@@ -18,16 +19,24 @@ pub struct Counting<'a> {
     tables: Option<&'a TableSet>,
     /// The bits of a frame of these tables.
     span: Span,
+    /// The symbols are points that are read here.
+    read_here: bool,
     pub count: Count,
 }
 
 impl Counting<'_> {
-    /// No symbol yet; frames start at this bit of their first byte.
-    pub fn new(name: String, tables: Option<&TableSet>, start: u8) -> Result<Counting<'_>, Stop> {
+    /// No symbol yet of the pair with this head.
+    pub fn new<'a>(
+        name: String,
+        tables: Option<&'a TableSet>,
+        head: &Head,
+    ) -> Result<Counting<'a>, Stop> {
+        let start = head.start;
         let mut counting = Counting {
             name,
             tables,
             span: Span { start, size: 0 },
+            read_here: head.unread.is_some(),
             count: Count::new(),
         };
         if let Some(set) = tables {
@@ -45,6 +54,8 @@ impl Counting<'_> {
         }
         let mut refusal = question.refusal(answer);
         refusal.place += &format!(", of pair {} with {}", self.name, question.set.name);
+        let pair = ("pair", Json::text(self.name.clone()));
+        refusal.details.insert(0, pair);
         Err(Stop::Refused(Box::new(refusal), answer.place))
     }
 
@@ -55,12 +66,15 @@ impl Counting<'_> {
             symbol: self.count.tally.symbols,
             file,
             line,
+            read_here: self.read_here,
         };
-        if let Err(number) = self.count.add(entry) {
-            return Err(Stop::entry(place.refusal(number, entry)));
-        }
-        let misfit = self.misfit(entry, &place);
-        misfit.map_or(Ok(()), |refusal| Err(Stop::entry(refusal)))
+        let added = self.count.add(entry);
+        let refusal = match (added, self.misfit(entry, &place)) {
+            (Ok(()), None) => return Ok(()),
+            (Ok(()) | Err(FRAME), Some(misfit)) => misfit,
+            (Err(number), _) => place.refusal(number, entry),
+        };
+        Err(Stop::entry(refusal))
     }
 
     /// A frame of the entry that is none of the tables, where they are known.

@@ -2,21 +2,26 @@
 
 use super::pair::Pair;
 use super::rate::Rate;
-use super::refusals::title;
+use super::remarks::remarks;
+use super::turned::turned;
 use super::verdict::verdict;
+use crate::refusal::title;
 
-const HEADER: [&str; 11] = [
+const HEADER: [&str; 14] = [
     "pair",
     "symbols",
     "refused",
     "wrong frames",
     "wrong bits",
     "bits read",
+    "bits are",
     "wrong-bit rate",
     "first refused",
     "refusals",
     "table set",
     "verdict",
+    "turned clip",
+    "remarks",
 ];
 
 pub fn rows(pairs: &[Pair]) -> String {
@@ -26,7 +31,7 @@ pub fn rows(pairs: &[Pair]) -> String {
     lines.collect()
 }
 
-fn cells(pair: &Pair) -> [String; 11] {
+fn cells(pair: &Pair) -> [String; 14] {
     let tally = &pair.count.tally;
     let rate = Rate::of(pair);
     let refusals = pair.count.refusals.iter();
@@ -42,11 +47,14 @@ fn cells(pair: &Pair) -> [String; 11] {
         tally.wrong_frames.to_string(),
         tally.wrong_bits.to_string(),
         rate.bits.to_string(),
+        rate.basis().to_string(),
         rate.value().unwrap_or_default(),
         first.unwrap_or_default(),
         refusals.join("; "),
         tables.unwrap_or_default(),
         verdict(pair),
+        turned(pair).sentence,
+        remarks(pair).join(" "),
     ]
 }
 

@@ -3,8 +3,10 @@
 use super::meaning::meaning;
 use super::pair::Pair;
 use super::rate::Rate;
+use super::remarks::remarks;
 use super::strip::Strip;
-use super::verdict::{finding, turned, verdict};
+use super::turned::turned;
+use super::verdict::{verdict, Finding};
 use crate::json::{Fields, Json};
 use clevisroot_sys::refusals::name;
 
@@ -29,19 +31,25 @@ fn object(pair: &Pair) -> Fields {
         ("first_refused", first.unwrap_or(Json::Null)),
     ]);
     fields.extend(rate(&Rate::of(pair)));
+    fields.extend(words(pair));
+    fields
+}
+
+fn words(pair: &Pair) -> Fields {
     let turned = turned(pair);
-    fields.extend([
+    let remarks = remarks(pair).into_iter().map(Json::text);
+    vec![
         ("refusals", refusals(pair)),
         (
             "strip",
             Json::text(Strip::of(&pair.count.outcomes).letters()),
         ),
-        ("verdict", Json::text(finding(pair))),
+        ("verdict", Json::text(Finding::of(pair).word())),
         ("sentence", Json::text(verdict(pair))),
+        ("remarks", Json::List(remarks.collect())),
         ("turned_clip", Json::text(turned.sentence)),
         ("turned_clip_cannot_show", Json::Flag(turned.bold)),
-    ]);
-    fields
+    ]
 }
 
 fn tables(pair: &Pair) -> Json {

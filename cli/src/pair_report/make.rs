@@ -13,7 +13,7 @@ use crate::output::Output;
 pub fn of_log(mut log: Log, name: String, output: &mut Output) -> Result<Pair, Stop> {
     let name = log.head.pair.clone().unwrap_or(name);
     let tables = tables_of(&log.head)?;
-    let mut counting = Counting::new(name, tables.as_ref(), log.head.start)?;
+    let mut counting = Counting::new(name, tables.as_ref(), &log.head)?;
     let file = log.name().to_string();
     while let Some((line, entry)) = log.next()? {
         counting.take(&entry, &file, Some(line))?;
@@ -26,7 +26,7 @@ pub fn of_log(mut log: Log, name: String, output: &mut Output) -> Result<Pair, S
 /// A pair whose files are named without a log.
 pub fn of_files(head: &Head, name: String, output: &mut Output) -> Result<Pair, Stop> {
     let tables = tables_of(head)?;
-    let mut counting = Counting::new(name, tables.as_ref(), head.start)?;
+    let mut counting = Counting::new(name, tables.as_ref(), head)?;
     read_unread(&mut counting, head, tables.as_ref(), output)?;
     Ok(counting.finish(source(head, None)))
 }

@@ -12,12 +12,14 @@ mod pair;
 mod rate;
 mod reading;
 mod refusals;
+mod remarks;
 mod sheet;
 mod source;
 mod stop;
 mod strip;
 mod strip_picture;
 mod text;
+mod turned;
 mod verdict;
 
 pub use csv::rows;

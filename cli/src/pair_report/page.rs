@@ -25,6 +25,7 @@ const STYLE: &str = r##"<style>
 body{margin:0;background:#ddd;color:#000;font:10pt/1.35 Helvetica,Arial,sans-serif}
 section{display:flex;flex-direction:column;width:210mm;min-height:240mm;margin:8mm auto;padding:12mm;background:#fff;overflow-wrap:anywhere}
 h1{margin:0 0 3mm;font-size:17pt;line-height:1.2}
+h1.long{font-size:10pt}
 h2{margin:3mm 0 1mm;font-size:11pt}
 p{margin:0 0 1.5mm}
 .kind{margin:0;font-size:9pt}
@@ -40,8 +41,6 @@ th{font-weight:normal;font-size:8.5pt}
 .refusals{font-size:9pt;line-height:1.2}
 .refusals td:nth-child(2){text-align:right}
 .refusals td:first-child,.refusals td:nth-child(2){white-space:nowrap}
-.many{font-size:7.5pt;line-height:1.1}
-.many td{padding:.2mm 2mm}
 .facts{font-size:8.5pt;line-height:1.2}
 .facts th,.facts td{padding:.4mm 2mm}
 .facts th{width:38mm}
@@ -57,6 +56,14 @@ svg text{font-size:11px}
 .hands span{flex:1;padding-top:1mm;border-top:.75pt solid #000;font-size:8.5pt}
 .hands span:last-child{flex:2}
 footer{margin-top:3mm;font-size:8pt}
+.many h2{margin:1.5mm 0 .5mm}
+.many .verdict{padding:1.5mm 3mm;font-size:11pt}
+.many .figures td{font-size:12pt}
+.many .refusals,.many .refusals th{font-size:7pt;line-height:1.05}
+.many .refusals th,.many .refusals td{padding:.3mm 2mm}
+.many .facts th,.many .facts td{padding:.2mm 2mm}
+.many .hands{padding-top:8mm}
+.many footer{margin-top:1.5mm}
 .hatch{position:absolute;width:0;height:0}
 @media print{
 body{background:none}

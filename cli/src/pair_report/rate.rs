@@ -7,20 +7,20 @@ pub struct Rate {
     wrong: u32,
     /// The bits of the frames that were read.
     pub bits: u64,
-    /// Their bytes, where no table set says how many bits of them are used.
-    bytes: Option<u64>,
+    /// L, where a table set tells it. Else every bit of a byte counts, used or not.
+    size: Option<u32>,
 }
 
 impl Rate {
     pub fn of(pair: &Pair) -> Rate {
         let counted = &pair.count;
-        let bytes = counted.bytes_read;
-        let (bits, bytes) = match &pair.tables {
-            Some(facts) => (u64::from(facts.size) * u64::from(counted.read()), None),
-            None => (8 * bytes, Some(bytes)),
+        let size = pair.tables.as_ref().map(|facts| facts.size);
+        let bits = match size {
+            Some(size) => u64::from(size) * u64::from(counted.read()),
+            None => 8 * counted.bytes_read,
         };
         let wrong = counted.tally.wrong_bits;
-        Rate { wrong, bits, bytes }
+        Rate { wrong, bits, size }
     }
 
     /// "1.2e-3", or "0"; none where no bit was read.
@@ -32,21 +32,31 @@ impl Rate {
         }
     }
 
-    /// "3 of 40 bits", "3 of 64 bits in 8 bytes"
+    /// The same with "at least" in front, in this form, where the rate may be more: of unknown L, a
+    /// frame may have fewer bits.
+    pub fn marked(&self, at_least: &str) -> Option<String> {
+        let mark = match (self.size, self.wrong) {
+            (None, 1..) => at_least,
+            _ => "",
+        };
+        self.value().map(|value| format!("{mark}{value}"))
+    }
+
+    /// "3 of 40 bits (5 a frame)", "3 of 64 bits (8 a byte, L is not known)"
     pub fn words(&self) -> String {
         let of = format!("{} of {}", self.wrong, count(self.bits, "bit"));
-        match self.bytes {
+        match self.size {
             _ if self.bits == 0 => "none, for no bit was read".to_string(),
-            Some(bytes) => format!("{of} in {}", count(bytes, "byte")),
-            None => of,
+            Some(size) => format!("{of} ({size} a frame)"),
+            None => format!("{of} (8 a byte, L is not known)"),
         }
     }
 
     /// What the bits of a frame are.
     pub fn basis(&self) -> &'static str {
-        match self.bytes {
-            Some(_) => "8 a byte",
-            None => "L a frame",
+        match self.size {
+            Some(_) => "L a frame",
+            None => "8 a byte",
         }
     }
 }

@@ -4,9 +4,9 @@ use super::counting::Counting;
 use super::source::ReadHere;
 use super::stop::Stop;
 use crate::ask;
+use crate::call::Asked;
 use crate::fault::Fault;
 use crate::files::{Frame, LogEntry, PointList, Received, SymbolText, Symbols, TableSet, Unread};
-use crate::index::Place;
 use crate::output::Output;
 use crate::refusal::Question;
 use crate::words::count;
@@ -21,8 +21,8 @@ pub fn read_points(
     start: u8,
     output: &mut Output,
 ) -> Result<(), Stop> {
-    let mut register = unread.register;
-    check_register(counting, set, start, register)?;
+    check_start_and_register(counting, set, start, &unread.register)?;
+    let mut register = unread.register.value();
     let mut frames = Symbols::<Frame>::open(&unread.sent)?;
     let mut points = Symbols::<PointList>::open(&unread.points)?;
     loop {
@@ -46,23 +46,24 @@ pub fn read_points(
                 number => Received::Refused(number),
             },
         };
-        counting.take(&entry, &symbol.name, symbol.line_of(Place(0)))?;
+        counting.take(&entry, &frame.name, frame.line)?;
         output.counted();
     }
 }
 
 /// A start or a register that the library refuses would be refused again for each symbol.
-fn check_register(
+fn check_start_and_register(
     counting: &Counting,
     set: &TableSet,
     start: u8,
-    register: u32,
+    register: &Asked,
 ) -> Result<(), Stop> {
     let zeros = vec![0; ask::frame_bytes(set, start)];
-    let (answer, _) = ask::encode(set, &zeros, start, register);
+    let (answer, _) = ask::encode(set, &zeros, start, register.value());
     let question = Question {
         start,
-        register,
+        register: register.value(),
+        typed: register.typed(),
         ..Question::of_tables(set)
     };
     counting.accept(&question, &answer)

@@ -1,13 +1,14 @@
 //! The refusals of a pair by number, with their meaning: as many rows as a sheet has room for.
 
 use super::meaning::meaning;
+use crate::refusal::title;
 use crate::words::count;
-use clevisroot_sys::refusals::{name, ALL};
+use clevisroot_sys::refusals::ALL;
 use std::cmp::Reverse;
 use std::collections::BTreeMap;
 
-/// All numbers that calls give, and one row for the others.
-const MOST_ROWS: usize = 18;
+/// All refusals that calls give, and in the place of DONE one row for other numbers.
+const MOST_ROWS: usize = ALL.len();
 
 pub struct Row {
     /// "14 MONITOR"
@@ -15,11 +16,6 @@ pub struct Row {
     /// How many symbols were refused so.
     pub symbols: u32,
     pub meaning: &'static str,
-}
-
-/// "14 MONITOR"
-pub fn title(number: u32) -> String {
-    format!("{number} {}", name(number))
 }
 
 /// A row a number, in the order of the numbers. Where there are too many, some share the last row:
@@ -43,7 +39,7 @@ pub fn rows(refusals: &BTreeMap<u32, u32>) -> Vec<Row> {
         rows.push(Row {
             title: count(others.len(), "other number"),
             symbols: others.iter().map(|(_, symbols)| symbols).sum(),
-            meaning: "--json has them all",
+            meaning: "not listed here",
         });
     }
     rows

@@ -3,34 +3,65 @@
 use super::pair::Pair;
 use super::rate::Rate;
 use super::refusals::{self, Row};
+use super::remarks::remarks;
 use super::strip::Strip;
 use super::strip_picture;
-use super::verdict::{turned, verdict, Remark};
-use crate::span::Span;
+use super::turned::{turned, Turned};
+use super::verdict::verdict;
 use crate::svg::escaped;
 use crate::words::shortened;
 
+/// More rows of refusals are printed small and close, so that they fit the sheet.
+const FEW: usize = 8;
+
+/// The letters of a name that fit a line or two of large type.
+const SHORT: usize = 60;
+
 pub fn sheet(pair: &Pair) -> String {
-    let name = escaped(&shortened(&pair.name));
+    let rows = refusals::rows(&pair.count.refusals);
+    let many = marked("many", rows.len() > FEW);
     format!(
-        "<section>\n<p class=\"kind\">Pair report</p>\n<h1>{name}</h1>\n\
+        "<section{many}>\n<p class=\"kind\">Pair report</p>\n{}\
          <p class=\"verdict\">{}</p>\n{}{}{}{}{}{HANDS}{}</section>\n",
+        heading(pair),
         escaped(&verdict(pair)),
-        paragraph(&turned(pair)),
+        remarked(pair),
         figures(pair),
         symbols(pair),
-        refused(pair),
+        refused(&rows),
         facts(pair),
         footer(pair)
     )
 }
 
-fn paragraph(Remark { sentence, bold }: &Remark) -> String {
-    let sentence = escaped(sentence);
-    match bold {
-        true => format!("<p class=\"warning\"><strong>{sentence}</strong></p>\n"),
-        false => format!("<p>{sentence}</p>\n"),
+/// A class, where it is wanted.
+fn marked(class: &str, wanted: bool) -> String {
+    if wanted {
+        format!(" class=\"{class}\"")
+    } else {
+        String::new()
     }
+}
+
+fn heading(pair: &Pair) -> String {
+    let title = pair.title();
+    let long = marked("long", title.chars().count() > SHORT);
+    format!("<h1{long}>{}</h1>\n", escaped(&title))
+}
+
+/// The remarks, and what is to say of a turned clip.
+fn remarked(pair: &Pair) -> String {
+    let paragraph = |sentence: &String| format!("<p>{}</p>\n", escaped(sentence));
+    let remarks: String = remarks(pair).iter().map(paragraph).collect();
+    let Turned { sentence, bold } = turned(pair);
+    let turned = match bold {
+        true => format!(
+            "<p class=\"warning\"><strong>{}</strong></p>\n",
+            escaped(&sentence)
+        ),
+        false => paragraph(&sentence),
+    };
+    remarks + &turned
 }
 
 /// The five figures and the rate.
@@ -44,7 +75,10 @@ fn figures(pair: &Pair) -> String {
         ("wrong frames", tally.wrong_frames.to_string()),
         ("wrong bits", tally.wrong_bits.to_string()),
         ("first refused", first.unwrap_or("none".to_string())),
-        ("wrong-bit rate", rate.value().unwrap_or("none".to_string())),
+        (
+            "wrong-bit rate",
+            rate.marked("\u{2265} ").unwrap_or("none".to_string()),
+        ),
     ];
     let heads: String = cells
         .iter()
@@ -69,11 +103,8 @@ fn symbols(pair: &Pair) -> String {
     format!("<h2>The symbols over time</h2>\n{picture}")
 }
 
-/// More refusals are printed small, so that they fit the sheet.
-const FEW: usize = 8;
-
 /// The refusals by number, with their meaning.
-fn refused(pair: &Pair) -> String {
+fn refused(rows: &[Row]) -> String {
     let row = |row: &Row| {
         let Row {
             title,
@@ -82,17 +113,11 @@ fn refused(pair: &Pair) -> String {
         } = row;
         format!("<tr><td>{title}</td><td>{symbols}</td><td>{meaning}</td></tr>\n")
     };
-    let rows = refusals::rows(&pair.count.refusals);
-    let class = if rows.len() > FEW {
-        "refusals many"
-    } else {
-        "refusals"
-    };
     let rows: String = rows.iter().map(row).collect();
     let table = match rows.as_str() {
         "" => "<p>None.</p>\n".to_string(),
         rows => format!(
-            "<table class=\"{class}\">\n<tr><th>refusal</th><th>symbols</th><th>meaning</th></tr>\n\
+            "<table class=\"refusals\">\n<tr><th>refusal</th><th>symbols</th><th>meaning</th></tr>\n\
              {rows}</table>\n"
         ),
     };
@@ -102,20 +127,14 @@ fn refused(pair: &Pair) -> String {
 /// Where the symbols come from, and what the table set is.
 fn facts(pair: &Pair) -> String {
     let mut rows = pair.source.rows();
-    match &pair.tables {
-        Some(facts) => {
-            let span = Span {
-                start: pair.source.start,
-                size: facts.size,
-            };
-            rows.extend([
-                ("table set", shortened(&facts.name)),
-                ("its tones", facts.class_words()),
-                ("tones by bits", facts.loading_words()),
-                ("a frame", span.words()),
-            ]);
-        }
-        None => rows.push(("table set", "none is named".to_string())),
+    match (&pair.tables, pair.span()) {
+        (Some(facts), Some(span)) => rows.extend([
+            ("table set", shortened(&facts.name)),
+            ("its tones", facts.class_words()),
+            ("tones by bits", facts.loading_words()),
+            ("a frame", span.words()),
+        ]),
+        _ => rows.push(("table set", "none is named".to_string())),
     }
     let row = |(head, words): &(&str, String)| {
         format!("<tr><th>{head}</th><td>{}</td></tr>\n", escaped(words))
@@ -129,13 +148,13 @@ const HANDS: &str = "<div class=\"hands\"><span>Place</span><span>Date</span>\
                      <span>Signature of the jointer</span></div>\n";
 
 fn footer(pair: &Pair) -> String {
-    let (given, it) = match pair.source.log {
-        Some(_) => ("entries in the log", "it"),
-        None => ("symbols in the files above", "them"),
+    let (given, it) = match pair.source.read {
+        Some(_) => ("symbols in the files above", "them"),
+        None => ("entries in the log", "it"),
     };
     format!(
-        "<footer>Counted by the library of clevisroot {}, which is proved. The figures are those of \
-         the {given}; nothing is known of what is not in {it}.</footer>\n",
+        "<footer>The five figures are counted by the library of clevisroot {}, which is proved. They \
+         are those of the {given}; nothing is known of what is not in {it}.</footer>\n",
         env!("CARGO_PKG_VERSION")
     )
 }

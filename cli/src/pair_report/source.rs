@@ -1,10 +1,9 @@
 //! Where the symbols of a pair come from.
 
-use crate::files::Unread;
+use crate::call::Asked;
+use crate::files::{name_of, Unread};
 use crate::json::{Fields, Json};
-use crate::words::{shortened, shown};
-use std::ffi::OsStr;
-use std::path::Path;
+use crate::words::shortened;
 
 pub struct Source {
     pub log: Option<String>,
@@ -21,11 +20,13 @@ pub struct ReadHere {
     /// The file of the points that came.
     pub points: String,
     /// The register before the first symbol.
-    pub register: u32,
+    register: u32,
+    /// It was not given, so that it is the value at reset.
+    pub assumed: bool,
 }
 
 impl Source {
-    /// "log pair-7.log", "points of a.csv, sent frames of a.hex, register 8388607"
+    /// "log pair-7.log", "points of a.csv, sent frames of a.hex, register 4711 before the first"
     pub fn words(&self) -> String {
         let log = self.log.iter().map(|log| format!("log {log}"));
         let read = self.read.iter().map(ReadHere::words);
@@ -41,9 +42,10 @@ impl Source {
         let mut rows = Vec::new();
         rows.extend(self.log.as_ref().map(|log| ("log", shortened(log))));
         if let Some(read) = &self.read {
+            let register = format!("{}{}", read.register, read.reset_words());
             rows.push(("points that came", shortened(&read.points)));
             rows.push(("frames that were sent", shortened(&read.sent)));
-            rows.push(("register before the first", read.register.to_string()));
+            rows.push(("register before the first", register));
         }
         rows
     }
@@ -52,11 +54,13 @@ impl Source {
         let text = |text: Option<&String>| text.map_or(Json::Null, Json::text);
         let read = self.read.as_ref();
         let register = read.map(|read| Json::Number(read.register.into()));
+        let assumed = read.map(|read| Json::Flag(read.assumed));
         vec![
             ("log", text(self.log.as_ref())),
             ("sent", text(read.map(|read| &read.sent))),
             ("points", text(read.map(|read| &read.points))),
             ("register_before", register.unwrap_or(Json::Null)),
+            ("register_assumed", assumed.unwrap_or(Json::Null)),
             ("start", Json::Number(self.start.into())),
         ]
     }
@@ -67,7 +71,8 @@ impl ReadHere {
         ReadHere {
             sent: name_of(&unread.sent),
             points: name_of(&unread.points),
-            register: unread.register,
+            register: unread.register.value(),
+            assumed: unread.register == Asked::Reset,
         }
     }
 
@@ -76,14 +81,19 @@ impl ReadHere {
             sent,
             points,
             register,
+            ..
         } = self;
-        format!("points of {points}, sent frames of {sent}, register {register} before the first")
+        let reset = self.reset_words();
+        format!(
+            "points of {points}, sent frames of {sent}, register {register} before the first{reset}"
+        )
     }
-}
 
-fn name_of(file: &OsStr) -> String {
-    if file == "-" {
-        return "standard input".to_string();
+    fn reset_words(&self) -> &'static str {
+        if self.assumed {
+            ", its value at reset, for none was given"
+        } else {
+            ""
+        }
     }
-    shown(&Path::new(file).display().to_string())
 }

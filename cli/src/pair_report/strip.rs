@@ -17,8 +17,8 @@ impl Strip {
         let columns = symbols.min(MOST_COLUMNS);
         let worst = |column: usize| {
             let (start, end) = (column * symbols / columns, (column + 1) * symbols / columns);
-            let of_column = outcomes[start..end].iter().max();
-            of_column.copied().unwrap_or(Outcome::AsSent)
+            let of_column = outcomes[start..end].iter().copied();
+            of_column.fold(Outcome::AsSent, Ord::max)
         };
         Strip {
             columns: (0..columns).map(worst).collect(),
@@ -28,7 +28,7 @@ impl Strip {
 
     /// The most symbols that a column stands for.
     pub fn symbols_a_column(&self) -> usize {
-        self.symbols.div_ceil(self.columns.len().max(1))
+        self.symbols.div_ceil(MOST_COLUMNS)
     }
 
     /// A letter a column: `.` read as sent, `w` wrong bits, `R` refused.

@@ -69,8 +69,7 @@ fn runs(strip: &Strip) -> Vec<Range<usize>> {
 
 /// How wide a column is.
 fn width(strip: &Strip) -> f64 {
-    let columns = strip.columns.len().max(1) as f64;
-    ((WIDTH - 2.0 * MARGIN) / columns).min(WIDEST)
+    ((WIDTH - 2.0 * MARGIN) / strip.columns.len() as f64).min(WIDEST)
 }
 
 /// How long all columns are together.
@@ -102,9 +101,11 @@ fn step(strip: &Strip) -> usize {
     const MOST: f64 = 12.0;
     let digits = strip.symbols.to_string().len() as f64;
     let room = (length(strip) / (7.0 * digits + 12.0)).clamp(1.0, MOST);
-    let steps = (0..).flat_map(|power| [1, 2, 5].map(|step| step * 10_usize.pow(power)));
-    let mut fitting = steps.filter(|step| strip.symbols.div_ceil(*step) as f64 <= room);
-    fitting.next().unwrap_or(1)
+    let mut steps = [1, 2, 5];
+    while strip.symbols.div_ceil(steps[0]) as f64 > room {
+        steps = [steps[1], steps[2], 10 * steps[0]];
+    }
+    steps[0]
 }
 
 fn draw_legend(pen: &mut Pen, strip: &Strip) {
@@ -120,8 +121,8 @@ fn draw_legend(pen: &mut Pen, strip: &Strip) {
         pen.text((x + 15.0, bottom), "key", words(outcome));
     }
     let columns = match strip.symbols_a_column() {
-        0 | 1 => "a column a symbol, counted from 0".to_string(),
-        most => format!("a column shows the worst of up to {most} symbols"),
+        most @ 2.. => format!("a column shows the worst of up to {most} symbols"),
+        _ => "a column a symbol, counted from 0".to_string(),
     };
     pen.text((WIDTH - MARGIN, bottom), "key end", &columns);
 }

@@ -3,9 +3,10 @@
 use super::pair::Pair;
 use super::rate::Rate;
 use super::refusals;
-use super::verdict::{turned, verdict, Remark};
-use crate::span::Span;
-use crate::words::{count, shortened};
+use super::remarks::remarks;
+use super::turned::{turned, Turned};
+use super::verdict::verdict;
+use crate::words::count;
 
 const HEADER: [&str; 7] = [
     "pair",
@@ -34,7 +35,7 @@ fn table(pairs: &[Pair]) -> Vec<String> {
         .collect();
     let width = |column: usize| {
         let lengths = rows.iter().map(|row| row[column].chars().count());
-        lengths.max().unwrap_or(0)
+        lengths.fold(0, usize::max)
     };
     rows.iter().map(|row| line(row, width)).collect()
 }
@@ -43,12 +44,12 @@ fn cells(pair: &Pair) -> [String; 7] {
     let tally = &pair.count.tally;
     let first = pair.first_refused();
     [
-        shortened(&pair.name),
+        pair.title(),
         tally.symbols.to_string(),
         tally.refused.to_string(),
         tally.wrong_frames.to_string(),
         tally.wrong_bits.to_string(),
-        Rate::of(pair).value().unwrap_or("none".to_string()),
+        Rate::of(pair).marked(">=").unwrap_or("none".to_string()),
         first.map_or("none".to_string(), |(symbol, _)| symbol.to_string()),
     ]
 }
@@ -67,11 +68,7 @@ fn line(row: &[String; 7], width: impl Fn(usize) -> usize) -> String {
 }
 
 fn section(pair: &Pair) -> Vec<String> {
-    let mut lines = vec![format!(
-        "{}: {}",
-        shortened(&pair.name),
-        pair.source.words()
-    )];
+    let mut lines = vec![format!("{}: {}", pair.title(), pair.source.words())];
     lines.extend(table_words(pair));
     lines.push(rate_words(&Rate::of(pair)));
     for row in refusals::rows(&pair.count.refusals) {
@@ -82,7 +79,8 @@ fn section(pair: &Pair) -> Vec<String> {
         ));
     }
     lines.push(verdict(pair));
-    let Remark { sentence, bold } = turned(pair);
+    lines.extend(remarks(pair));
+    let Turned { sentence, bold } = turned(pair);
     let note = if bold { "NOTE: " } else { "" };
     lines.push(format!("{note}{sentence}"));
     lines
@@ -90,17 +88,14 @@ fn section(pair: &Pair) -> Vec<String> {
 
 /// What the table set is, where it is known.
 fn table_words(pair: &Pair) -> Option<String> {
-    let facts = pair.tables.as_ref()?;
-    let span = Span {
-        start: pair.source.start,
-        size: facts.size,
-    };
+    let (facts, span) = (pair.tables.as_ref()?, pair.span()?);
     let (name, classes, span) = (&facts.name, facts.class_words(), span.words());
     Some(format!("tables {name}: {classes}; {span}"))
 }
 
-/// "wrong bits: 3 of 40 bits, rate 7.5e-2"
+/// "wrong bits: 3 of 40 bits (5 a frame), rate 7.5e-2"
 fn rate_words(rate: &Rate) -> String {
-    let value = rate.value().map(|value| format!(", rate {value}"));
+    let value = rate.marked("at least ");
+    let value = value.map(|value| format!(", rate {value}"));
     format!("wrong bits: {}{}", rate.words(), value.unwrap_or_default())
 }

@@ -1,48 +1,74 @@
-//! What the figures of a pair show, in a sentence, and what they cannot show.
+//! What the figures of a pair show, in a sentence: no more than they do.
 
 use super::pair::Pair;
-use super::refusals::title;
-use crate::facts::Facts;
+use super::rate::Rate;
+use crate::refusal::title;
 use crate::words::count;
 use clevisroot_sys::Tally;
 
-/// What the table set can show, beside the verdict.
-pub struct Remark {
-    pub sentence: String,
-    /// It must not be missed.
-    pub bold: bool,
+/// What the figures show.
+pub enum Finding {
+    NoSymbols,
+    /// The first symbol that was refused, and its number.
+    Refused(u32, u32),
+    WrongBits,
+    /// No frame has any bits.
+    NoBits,
+    Clean,
 }
 
-/// The verdict in a word or two.
-pub fn finding(pair: &Pair) -> &'static str {
-    match pair.count.tally {
-        Tally { symbols: 0, .. } => "nothing",
-        Tally { refused: 1.., .. } => "refused",
-        Tally {
-            wrong_frames: 1.., ..
-        } => "wrong bits",
-        _ => "clean",
+impl Finding {
+    pub fn of(pair: &Pair) -> Finding {
+        let tally = &pair.count.tally;
+        match pair.first_refused() {
+            _ if tally.symbols == 0 => Finding::NoSymbols,
+            Some((symbol, number)) => Finding::Refused(symbol, number),
+            None if tally.wrong_frames > 0 => Finding::WrongBits,
+            None if Rate::of(pair).bits == 0 => Finding::NoBits,
+            None => Finding::Clean,
+        }
+    }
+
+    /// The verdict in a word or two.
+    pub fn word(&self) -> &'static str {
+        match self {
+            Finding::NoSymbols | Finding::NoBits => "nothing",
+            Finding::Refused(..) => "refused",
+            Finding::WrongBits => "wrong bits",
+            Finding::Clean => "clean",
+        }
     }
 }
 
-/// The verdict: no more than the figures show.
+/// The verdict.
 pub fn verdict(pair: &Pair) -> String {
     let Tally {
         symbols,
-        refused,
         wrong_frames,
         ..
     } = pair.count.tally;
     let wrong = wrong_words(&pair.count.tally);
-    match (symbols, refused, wrong_frames) {
-        (0, _, _) => "No symbols were given, so nothing can be said of this pair.".to_string(),
-        (_, 1.., _) => refused_sentence(pair),
-        (1, 0, 1..) => format!("The one symbol {wrong}."),
-        (_, 0, 1..) => {
+    match (Finding::of(pair), symbols) {
+        (Finding::NoSymbols, _) => {
+            "No symbols were given, so nothing can be said of this pair.".to_string()
+        }
+        (Finding::Refused(symbol, number), _) => refused_sentence(pair, symbol, number),
+        (Finding::WrongBits, 1) => format!("The one symbol {wrong}."),
+        (Finding::WrongBits, _) => {
             format!("None of the {symbols} symbols was refused, but {wrong_frames} {wrong}.")
         }
-        (1, 0, 0) => "Clean in this one symbol: it was read as it was sent.".to_string(),
-        (_, 0, 0) => format!("Clean in these {symbols} symbols: each was read as it was sent."),
+        (Finding::NoBits, 1) => {
+            "The one symbol was not refused, but its frame has no bits, so nothing was compared."
+                .to_string()
+        }
+        (Finding::NoBits, _) => format!(
+            "None of the {symbols} symbols was refused, but their frames have no bits, so nothing \
+             was compared."
+        ),
+        (Finding::Clean, 1) => "Clean in this one symbol: it was read as it was sent.".to_string(),
+        (Finding::Clean, _) => {
+            format!("Clean in these {symbols} symbols: each was read as it was sent.")
+        }
     }
 }
 
@@ -55,61 +81,35 @@ fn wrong_words(tally: &Tally) -> String {
     }
 }
 
-fn refused_sentence(pair: &Pair) -> String {
+/// Of a pair whose first refused symbol is this one, with this number.
+fn refused_sentence(pair: &Pair, symbol: u32, number: u32) -> String {
     let tally = &pair.count.tally;
-    let first = pair.first_refused().map(|(symbol, number)| {
-        let first = format!("symbol {symbol} with {}", title(number));
-        match tally.refused {
-            1 => format!("was refused, {first}"),
-            _ => format!("were refused, the first of them {first}"),
-        }
-    });
+    let first = format!("symbol {symbol} with {}", title(number));
+    let first = match tally.refused {
+        1 => format!("was refused, {first}"),
+        _ => format!("were refused, the first of them {first}"),
+    };
+    let (refused, symbols) = (tally.refused, count(tally.symbols, "symbol"));
+    let rest = rest_words(pair);
+    format!("{refused} of {symbols} {first}; {rest}.")
+}
+
+/// What became of the symbols that were not refused.
+fn rest_words(pair: &Pair) -> String {
+    let tally = &pair.count.tally;
     let wrong = wrong_words(tally);
-    let rest = match (pair.count.read(), tally.wrong_frames) {
+    let bits = Rate::of(pair).bits;
+    match (pair.count.read(), tally.wrong_frames) {
         (0, _) => "none was read".to_string(),
+        (1, _) if bits == 0 => {
+            "the frame of the other one has no bits, so nothing was compared".to_string()
+        }
+        (read, _) if bits == 0 => {
+            format!("the frames of the other {read} have no bits, so nothing was compared")
+        }
         (1, 0) => "the other one was read as it was sent".to_string(),
         (read, 0) => format!("the other {read} were read as they were sent"),
         (1, _) => format!("the other one {wrong}"),
         (read, frames) => format!("of the other {read}, {frames} {wrong}"),
-    };
-    let (refused, symbols) = (tally.refused, count(tally.symbols, "symbol"));
-    let first = first.unwrap_or_default();
-    format!("{refused} of {symbols} {first}; {rest}.")
-}
-
-/// Whether a clip that is the wrong way round would show.
-pub fn turned(pair: &Pair) -> Remark {
-    let Some(facts) = &pair.tables else {
-        let sentence = "The log names no table set, so it is not known whether a symbol would be \
-                        refused if a clip is the wrong way round.";
-        return Remark {
-            sentence: sentence.to_string(),
-            bold: false,
-        };
-    };
-    if facts.shows_turned() {
-        return Remark {
-            sentence: format!("A turned clip {}.", facts.turned_words()),
-            bold: false,
-        };
-    }
-    let sentence = format!(
-        "This table set cannot show a clip that is the wrong way round, because {}. {}",
-        facts.unshown_words(),
-        unshown(facts)
-    );
-    Remark {
-        sentence,
-        bold: true,
-    }
-}
-
-/// What becomes of a turned symbol that nothing shows. Only for coded ones it is proved.
-fn unshown(facts: &Facts) -> &'static str {
-    if facts.coded {
-        "A turned symbol is not refused: it is read as another frame than was sent, which only \
-         the wrong bits show."
-    } else {
-        "Uncoded, nothing is promised of a turned symbol."
     }
 }

@@ -15,16 +15,15 @@ pub struct EntryPlace<'a> {
     pub symbol: u32,
     pub file: &'a str,
     pub line: Option<usize>,
+    /// The file is that of the sent frames, and the points are read here.
+    pub read_here: bool,
 }
 
 impl EntryPlace<'_> {
     /// An entry that the tally refuses with this number.
     pub fn refusal(&self, number: u32, entry: &LogEntry) -> Refusal {
         let sentence = match number {
-            FULL => format!(
-                "The report of a pair holds {MAX_SYMBOLS} symbols, and this is one more: split \
-                 the log or its files, and report the parts as pairs of their own."
-            ),
+            FULL => self.full(),
             _ => frames(entry),
         };
         self.told(number, sentence)
@@ -35,14 +34,28 @@ impl EntryPlace<'_> {
         let fault = if frame.len() == span.bytes() {
             format!("{}: {}", span.words(), span.outside(frame))
         } else {
-            let bytes = count(frame.len(), "byte");
+            let bytes = match frame.len() {
+                0..=MAX_FRAME => count(frame.len(), "byte"),
+                _ => format!("more than {MAX_FRAME} bytes"),
+            };
             format!("{}, and this frame has {bytes}", span.words())
         };
+        let none = if self.read_here { "" } else { ", or none" };
         let sentence = format!(
             "The frame that was {which} is none of {tables} ({fault}): name the table set and the \
-             start that were used, or mend the frame."
+             start that were used{none}."
         );
         self.told(FRAME, sentence)
+    }
+
+    fn full(&self) -> String {
+        let split = if self.read_here {
+            "split both files, and report the parts as pairs of their own, each with the register \
+             of its first symbol"
+        } else {
+            "split the log, and report the parts as pairs of their own"
+        };
+        format!("The report of a pair holds {MAX_SYMBOLS} symbols, and this is one more: {split}.")
     }
 
     fn told(&self, number: u32, sentence: String) -> Refusal {

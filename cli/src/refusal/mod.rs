@@ -10,4 +10,4 @@ mod told;
 pub use entry::EntryPlace;
 pub use place::{is_of_points, refused_places};
 pub use question::Question;
-pub use told::Refusal;
+pub use told::{title, Refusal};

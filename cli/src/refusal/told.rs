@@ -33,8 +33,12 @@ impl Question<'_> {
 }
 
 impl Refusal {
-    /// "14 MONITOR"
     pub fn title(&self) -> String {
-        format!("{} {}", self.number, name(self.number))
+        title(self.number)
     }
+}
+
+/// "14 MONITOR"
+pub fn title(number: u32) -> String {
+    format!("{number} {}", name(number))
 }

@@ -19,6 +19,7 @@ mod report_logs;
 mod report_page;
 mod report_points;
 mod report_refusals;
+mod report_remarks;
 mod robust;
 mod run;
 mod silent;

@@ -24,9 +24,10 @@ fn the_report_of_the_clean_example() {
          Kiln Lane, pair 7: log examples/pair-7.log\n\
          tables examples/bench-a.txt: coded, G = 8, NSC = 6: 5 with data, 1 monitored, 0 silent; \
          L = 5 bits in 1 byte\n\
-         wrong bits: 0 of 40 bits, rate 0\n\
+         wrong bits: 0 of 40 bits (5 a frame), rate 0\n\
          Clean in these 8 symbols: each was read as it was sent.\n\
-         A turned clip shows if the register is known, because 1 tone is monitored.\n"
+         Exact reading with the writer's register refuses a symbol of a clip that is the wrong way \
+         round, because 1 tone is monitored.\n"
     );
 }
 
@@ -111,6 +112,41 @@ fn the_verdict_says_what_the_figures_show() {
     }
 }
 
+/// Frames without bits: nothing was compared, so that nothing is clean.
+#[test]
+fn frames_without_bits_show_nothing() {
+    let set = tables("report-no-bits.txt", "uncoded", 2, &[(0, 0, 512)]);
+    let started = format!("tables: {set}\nstart: 3\n00 00\n");
+    let set = format!("tables: {set}\n- -\n- -\n- -\n");
+    let none = "None of the 3 symbols was refused, but their frames have no bits, so nothing was \
+                compared.";
+    let one = "The one symbol was not refused, but its frame has no bits, so nothing was compared.";
+    for (log, verdict, word) in [
+        ("- -\n- -\n- -\n", none, "nothing"),
+        (&set, none, "nothing"),
+        (&started, one, "nothing"),
+        ("- -\n", one, "nothing"),
+        (
+            "- -\n- refused 10\n",
+            "1 of 2 symbols was refused, symbol 1 with 10 ROOM; the frame of the other one has no bits, \
+             so nothing was compared.",
+            "refused",
+        ),
+        (
+            "- -\n- refused 10\n- -\n",
+            "1 of 3 symbols was refused, symbol 1 with 10 ROOM; the frames of the other 2 have no bits, \
+             so nothing was compared.",
+            "refused",
+        ),
+    ] {
+        let ran = of(log);
+        assert!(ran.out.contains(&format!("\n{verdict}\n")), "{}", ran.out);
+        let json = run_with(log.as_bytes(), &["report", "-", "--json"]).out;
+        assert!(json.contains(&format!("\"verdict\": \"{word}\"")), "{json}");
+        assert!(!(ran.out + &json).to_lowercase().contains("clean"), "{json}");
+    }
+}
+
 /// Whatever the form, a pair that is not clean is not called so.
 #[test]
 fn only_a_clean_pair_is_called_clean() {
@@ -130,15 +166,15 @@ fn the_rate_is_of_the_bits_that_were_read() {
     for (log, words) in [
         (
             "tables: examples/bench-a.txt\n15 14\n15 15\n15 refused 14\n",
-            "1 of 10 bits, rate 1.0e-1",
+            "1 of 10 bits (5 a frame), rate 1.0e-1",
         ),
         (
             "15 14\n15 15\n15 refused 14\n",
-            "1 of 16 bits in 2 bytes, rate 6.2e-2",
+            "1 of 16 bits (8 a byte, L is not known), rate at least 6.2e-2",
         ),
         (
             "001122334455667788 001122334455667788\n",
-            "0 of 72 bits in 9 bytes, rate 0",
+            "0 of 72 bits (8 a byte, L is not known), rate 0",
         ),
         ("15 refused 14\n", "none, for no bit was read"),
         ("- -\n- refused 10\n", "none, for no bit was read"),
@@ -159,56 +195,26 @@ fn the_rate_is_of_the_bits_that_were_read() {
     );
 }
 
+/// Without a table set a frame may have fewer bits than its bytes, and the rate may be more.
+#[test]
+fn the_rate_of_unknown_l_is_marked() {
+    let symbols = format!("15 05\n00 07\n{}", "1f 1f\n".repeat(7));
+    let row = |log: &str| {
+        let row = of(log).line(1).to_string();
+        row.split_whitespace().nth(6).unwrap().to_string()
+    };
+    assert_eq!(row(&symbols), ">=5.6e-2");
+    assert_eq!(row(&format!("{A}{symbols}")), "8.9e-2");
+    assert_eq!(row("15 15\n"), "0");
+    let words = "wrong bits: 4 of 72 bits (8 a byte, L is not known), rate at least 5.6e-2";
+    assert!(of(&symbols).out.contains(words), "{}", of(&symbols).out);
+}
+
 #[test]
 fn a_small_rate_is_told_with_its_power_of_ten() {
     let log = format!("{0}00 {0}01\n", "00".repeat(1249));
-    let words = "1 of 10000 bits in 1250 bytes, rate 1.0e-4";
+    let words = "1 of 10000 bits (8 a byte, L is not known), rate at least 1.0e-4";
     assert!(of(&log).out.contains(words), "{}", of(&log).out);
-}
-
-/// What is said of a turned clip, and whether it is a NOTE.
-#[test]
-fn what_the_table_set_can_show() {
-    let coded = "NOTE: This table set cannot show a clip that is the wrong way round, because no tone is \
-                 monitored and N = 4 is even. A turned symbol is not refused: it is read as another frame \
-                 than was sent, which only the wrong bits show.";
-    let uncoded =
-        "NOTE: This table set cannot show a clip that is the wrong way round, because no tone is \
-                   monitored. Uncoded, nothing is promised of a turned symbol.";
-    let plain = tables(
-        "report-uncoded.txt",
-        "uncoded",
-        2,
-        &[(0, 3, 512), (1, 2, 512)],
-    );
-    let watched = tables(
-        "report-watched.txt",
-        "uncoded",
-        2,
-        &[(0, 3, 512), (1, 0, 512)],
-    );
-    for (set, words) in [
-        ("examples/cannot-tell.txt", coded),
-        (&plain, uncoded),
-        (
-            &watched,
-            "A turned clip shows if the register is known, because 1 tone is monitored.",
-        ),
-        (
-            "examples/five-twos.txt",
-            "A turned clip shows whatever the register, because N = 5 is odd.",
-        ),
-    ] {
-        for symbol in ["00 00", "00 01", "00 refused 14"] {
-            let ran = of(&format!("tables: {set}\n{symbol}\n"));
-            assert_eq!(ran.out.lines().last(), Some(words), "{}", ran.out);
-            assert_eq!(ran.out.contains("NOTE"), words.starts_with("NOTE"));
-        }
-    }
-    let unknown =
-        "The log names no table set, so it is not known whether a symbol would be refused if a \
-                   clip is the wrong way round.";
-    assert_eq!(of("00 00\n").out.lines().last(), Some(unknown));
 }
 
 /// Every number that calls give has its meaning, and no two the same.

@@ -86,6 +86,7 @@ fn json_of_other_pairs() {
             ("sent", text("examples/bench-a-stream.hex")),
             ("points", text("examples/bench-a-stream.csv")),
             ("register_before", Value::Number(8_388_607)),
+            ("register_assumed", Value::Flag(false)),
         ],
     );
     has(
@@ -125,7 +126,7 @@ fn json_has_every_number() {
     assert_eq!(rows.len(), 18);
     assert_eq!(
         rows[17],
-        "refused: 42 symbols with 42 other numbers: --json has them all"
+        "refused: 42 symbols with 42 other numbers: not listed here"
     );
     for (number, name) in clevisroot_sys::refusals::ALL.iter().skip(1) {
         let row = format!("refused: 1 symbol with {number} {name}: ");
@@ -142,16 +143,23 @@ fn csv_is_a_row_a_pair() {
         "--csv",
     ]);
     assert_eq!((ran.status, ran.err.as_str()), (0, ""));
+    let turned =
+        "\"Exact reading with the writer's register refuses a symbol of a clip that is the \
+                  wrong way round, because 1 tone is monitored.\"";
     assert_eq!(
         ran.out,
-        "pair,symbols,refused,wrong frames,wrong bits,bits read,wrong-bit rate,first refused,refusals,\
-         table set,verdict\n\
-         \"Kiln Lane, pair 7\",8,0,0,0,40,0,,,examples/bench-a.txt,Clean in these 8 symbols: each was \
-         read as it was sent.\n\
-         \"Kiln Lane, pair 8\",12,3,2,4,45,8.9e-2,4,2 with 14 MONITOR; 1 with 15 TRELLIS,\
-         examples/bench-a.txt,\"3 of 12 symbols were refused, the first of them symbol 4 with 15 \
-         TRELLIS; of the other 9, 2 were read wrong, by 4 bits in all.\"\n"
+        format!(
+            "pair,symbols,refused,wrong frames,wrong bits,bits read,bits are,wrong-bit rate,first refused,\
+             refusals,table set,verdict,turned clip,remarks\n\
+             \"Kiln Lane, pair 7\",8,0,0,0,40,L a frame,0,,,examples/bench-a.txt,Clean in these 8 \
+             symbols: each was read as it was sent.,{turned},\n\
+             \"Kiln Lane, pair 8\",12,3,2,4,45,L a frame,8.9e-2,4,2 with 14 MONITOR; 1 with 15 TRELLIS,\
+             examples/bench-a.txt,\"3 of 12 symbols were refused, the first of them symbol 4 with 15 \
+             TRELLIS; of the other 9, 2 were read wrong, by 4 bits in all.\",{turned},\n"
+        )
     );
+    let row = run_with(b"15 14\n", &["report", "-", "--csv"]);
+    assert!(row.line(1).contains(",8,8 a byte,1.2e-1,"), "{}", row.out);
 }
 
 #[test]

@@ -19,8 +19,16 @@ fn a_pair_without_a_name_has_that_of_its_log() {
 fn a_name_does_not_steer_the_terminal() {
     let ran = of("pair: a\u{1b}[31mb\n15 15\n");
     assert!(ran.line(1).starts_with("a\\u{1b}[31mb "), "{}", ran.out);
-    let long = of(&format!("pair: {}\n15 15\n", "x".repeat(5000)));
-    assert!(long.line(1).len() < 150, "{}", long.line(1));
+}
+
+/// By its end, so that names with a different start never look alike.
+#[test]
+fn a_long_name_is_cut() {
+    let name = |name: &str| of(&format!("pair: {name}\n15 15\n")).line(1).to_string();
+    let shown = format!("a/{}", "x".repeat(118));
+    assert!(name(&shown).starts_with(&format!("{shown}  ")));
+    let long = name(&format!("{shown}{}", "y".repeat(5000)));
+    assert!(long.starts_with(&format!("{shown}\u{2026}  ")), "{long}");
 }
 
 #[test]
@@ -33,7 +41,8 @@ fn files_are_taken_from_the_log_s_folder() {
     fs::write(&log, "tables: sets/one.txt\nff ff\n").unwrap();
     let ran = run(&["report", log.to_str().unwrap()]);
     assert!(
-        ran.out.contains("wrong bits: 0 of 8 bits, rate 0"),
+        ran.out
+            .contains("wrong bits: 0 of 8 bits (8 a frame), rate 0"),
         "{}{}",
         ran.out,
         ran.err

@@ -46,7 +46,7 @@ fn sound(page: &str) {
 
 /// The sheet of each pair.
 fn sheets(page: &str) -> Vec<&str> {
-    page.split("<section>").skip(1).collect()
+    page.split("<section").skip(1).collect()
 }
 
 /// The parts of a path of this class in the strip; the one in the legend is left out.
@@ -92,8 +92,7 @@ fn a_sheet_a_pair() {
             "Place",
             "Date",
             "Signature of the jointer",
-            "Counted by the library of clevisroot 0.1.0, which is proved.",
-            "nothing is known of what is not in it",
+            "<footer>",
         ] {
             assert!(sheet.contains(part), "{part}");
         }
@@ -103,12 +102,31 @@ fn a_sheet_a_pair() {
     assert!(!sheets[1].to_lowercase().contains("clean"));
 }
 
+/// A log that names files has no entries of its own.
+#[test]
+fn the_footer_says_what_the_figures_are_of() {
+    let logs = ["examples/pair-8.log", "examples/pair-9.log"];
+    let page = page("footers.html", &logs, "");
+    let sheets = sheets(&page);
+    for (sheet, words) in sheets.iter().zip([
+        "entries in the log; nothing is known of what is not in it.",
+        "symbols in the files above; nothing is known of what is not in them.",
+    ]) {
+        let footer = format!(
+            "<footer>The five figures are counted by the library of clevisroot 0.1.0, which is \
+             proved. They are those of the {words}</footer>"
+        );
+        assert!(sheet.contains(&footer), "{sheet}");
+    }
+}
+
 #[test]
 fn what_cannot_show_a_turned_clip_is_in_bold() {
     let log = "tables: examples/cannot-tell.txt\n15 15\n";
     let bold = page("bold.html", &["-", "examples/pair-7.log"], log);
     let sheets = sheets(&bold);
-    let strong = "<strong>This table set cannot show a clip that is the wrong way round";
+    let strong =
+        "<strong>This table set cannot show by a refusal that a clip is the wrong way round";
     assert!(sheets[0].contains(strong), "{}", sheets[0]);
     assert!(!sheets[1].contains("<strong>"));
     let unknown = page("unknown.html", &["-"], "15 15\n");
@@ -122,6 +140,28 @@ fn names_are_escaped() {
     let name = "&lt;script&gt;alert(&quot;1&quot;)&lt;/script&gt; &amp; &lt;b&gt; \\u{1} \u{e4}";
     assert!(page.contains(&format!("<h1>{name}</h1>")), "{page}");
     assert!(page.contains(&format!("<title>Pair report: {name}</title>")));
+}
+
+#[test]
+fn the_heading_of_a_long_name_is_cut() {
+    let long = "Kiln Lane/".repeat(20);
+    let page = page("heading.html", &["-"], &format!("pair: {long}\n15 15\n"));
+    let heading = format!("<h1 class=\"long\">{}\u{2026}</h1>", &long[..120]);
+    assert!(page.contains(&heading), "{page}");
+}
+
+#[test]
+fn the_rate_of_unknown_l_is_marked() {
+    let page = page(
+        "marked.html",
+        &["-", "examples/pair-8.log"],
+        "15 14\n15 15\n",
+    );
+    let sheets = sheets(&page);
+    assert!(sheets[0].contains("<td>\u{2265} 6.2e-2</td>"), "{page}");
+    assert!(sheets[0].contains("Wrong bits: 1 of 16 bits (8 a byte, L is not known); only"));
+    assert!(sheets[1].contains("<td>8.9e-2</td>"), "{page}");
+    assert!(sheets[1].contains("Wrong bits: 4 of 45 bits (5 a frame); only"));
 }
 
 #[test]
@@ -213,9 +253,9 @@ fn many_refusals_are_printed_small() {
         .map(|number| format!("00 refused {number}\n"))
         .collect();
     let many = page("many.html", &["-"], &log);
-    assert!(many.contains("<table class=\"refusals many\">"));
+    assert!(many.contains("<section class=\"many\">"));
     assert_eq!(many.matches("<tr><td>").count(), 18 + 1);
-    assert!(page("few.html", &["examples/pair-8.log"], "").contains("<table class=\"refusals\">"));
+    assert!(page("few.html", &["examples/pair-8.log"], "").contains("<section>"));
 }
 
 /// A pair without a log has no log to speak of.
@@ -233,7 +273,7 @@ fn the_page_of_points() {
     assert!(page.contains("those of the symbols in the files above; nothing is known"));
     for row in [
         "<th>points that came</th><td>examples/bench-a.csv</td>",
-        "<td>8388607</td>",
+        "<td>8388607, its value at reset, for none was given</td>",
     ] {
         assert!(page.contains(row), "{row}");
     }

@@ -1,6 +1,8 @@
 //! Pairs that are made straight from points, with the proved reader.
 
-use crate::run::{file, frames, path, run, run_with, symbols, symbols_of, turned, Ran};
+use crate::json::{object, text, Value};
+use crate::refusals::refused;
+use crate::run::{file, frames, path, run, run_with, symbols, symbols_of, tables, turned, Ran};
 
 const A: &str = "examples/bench-a.txt";
 
@@ -81,7 +83,8 @@ fn turned_points_are_refused_or_read_as_other_frames() {
     let ran = of("unseen", set, &frames(30), &points, &[]);
     assert!(row(&ran).starts_with("unseen 30 0 30 "), "{}", ran.out);
     assert!(
-        ran.out.contains("\nNOTE: This table set cannot show"),
+        ran.out
+            .contains("\nNOTE: This table set cannot show by a refusal"),
         "{}",
         ran.out
     );
@@ -156,6 +159,82 @@ fn frames_may_start_inside_their_first_byte() {
         .starts_with("at place 0: the start of the frame, of pair start-8 with "));
     let ran = of("register-0", A, &frames(4), &points, &["--register", "0"]);
     assert_eq!((ran.status, ran.line(0)), (12, "refused: 12 SEED"));
+    assert!(ran.line(2).contains("so not 0: set it"), "{}", ran.out);
+}
+
+/// A second frame that is none of bench table A, and what is wrong with it.
+fn misfits() -> [(String, &'static str); 3] {
+    [
+        ("1500".to_string(), "and this frame has 2 bytes"),
+        (
+            "ff".to_string(),
+            "the upper 3 bits of the last byte are not used and must be 0",
+        ),
+        ("00".repeat(9000), "and this frame has more than 7681 bytes"),
+    ]
+}
+
+/// Its file and its line are named, whatever came of its points.
+#[test]
+fn a_sent_frame_that_does_not_fit() {
+    let points = symbols(3, "8388607");
+    let file = path("misfit.hex");
+    let file = file.to_str().unwrap();
+    let place = format!("at place 0: symbol 1 of pair misfit, line 4 of {file}");
+    for (frame, fault) in misfits() {
+        let mut sent = frames(3);
+        sent[1] = format!("# the second\n{frame}");
+        for second in [points[1].as_str(), "1,1\n"] {
+            let points = [&points[0], second, &points[2]].map(str::to_string);
+            let ran = of("misfit", A, &sent, &points, &[]);
+            assert_eq!(ran.line(1), place);
+            let sentence = format!("The frame that was sent is none of {A} (L = 5 bits in 1 byte");
+            refused(&ran, 11, "FRAME", &place, &sentence);
+            let advice = format!("{fault}): name the table set and the start that were used.");
+            refused(&ran, 11, "FRAME", &place, &advice);
+            let json = object(&of("misfit", A, &sent, &points, &["--json"]));
+            let names = [text(file), text("misfit")];
+            assert_eq!([&json["file"], &json["pair"]], names.each_ref());
+            let numbers = [4, 1].map(Value::Number);
+            assert_eq!([&json["line"], &json["symbol"]], numbers.each_ref());
+        }
+    }
+}
+
+/// A file without any line is one frame without bytes.
+#[test]
+fn a_sent_file_without_a_frame() {
+    let ran = of("no-frame", A, &[], &symbols(1, "8388607"), &[]);
+    let file = path("no-frame.hex");
+    let place = format!(
+        "at place 0: symbol 0 of pair no-frame, in {}",
+        file.display()
+    );
+    refused(
+        &ran,
+        11,
+        "FRAME",
+        &place,
+        "and this frame has 0 bytes): name",
+    );
+}
+
+/// One symbol more than a report holds: the parts need registers of their own.
+#[test]
+fn full_of_points() {
+    let set = tables("full-points.txt", "uncoded", 1, &[(0, 1, 512)]);
+    let (sent, points) = (
+        vec!["00".to_string(); 65_536],
+        vec!["1,1\n".to_string(); 65_536],
+    );
+    let ran = of("full-points", &set, &sent, &points, &[]);
+    let place = format!(
+        "at place 0: symbol 65535 of pair full-points, line 131071 of {}",
+        path("full-points.hex").display()
+    );
+    let sentence = "split both files, and report the parts as pairs of their own, each with the \
+                    register of its first symbol.";
+    refused(&ran, 22, "FULL", &place, sentence);
 }
 
 #[test]

@@ -23,7 +23,9 @@ fn full() {
         format!("pair: long\n{log}15 refused 14\n15 15\n"),
     );
     let place = format!("at place 0: symbol 65535 of pair long, line 65537 of {log}");
-    let sentence = "holds 65535 symbols, and this is one more: split the log";
+    let sentence =
+        "holds 65535 symbols, and this is one more: split the log, and report the parts as \
+                    pairs of their own.";
     refused(&run(&["report", &log]), 22, "FULL", &place, sentence);
     let json = object(&run(&["report", "examples/pair-7.log", &log, "--json"]));
     assert_eq!(
@@ -84,7 +86,9 @@ fn frames_of_another_table_set() {
         ("1500 1500", "The frame that was sent is none of examples/bench-a.txt (L = 5 bits in 1 byte, and this frame has 2 bytes)"),
         ("ff refused 14", "The frame that was sent is none of examples/bench-a.txt (L = 5 bits in 1 byte: the upper 3 bits of the last byte"),
         ("15 ff", "The frame that was read is none of examples/bench-a.txt (L = 5 bits"),
-        ("- -", "and this frame has 0 bytes): name the table set and the start that were used"),
+        ("- -", "and this frame has 0 bytes): name the table set and the start that were used, or none."),
+        ("15 1500", "The frame that was read is none of examples/bench-a.txt (L = 5 bits in 1 byte, and this frame has 2 bytes)"),
+        ("15 refused 0", "0 is no refusal, for it says that the symbol was read"),
     ] {
         let log = format!("pair: a\ntables: examples/bench-a.txt\n00 00\n{symbol}\n");
         let ran = run_with(log.as_bytes(), &["report", "-"]);
@@ -108,6 +112,31 @@ fn table_sets_that_are_refused() {
         [&object(&ran)["place"], &object(&ran)["sub_carrier"]],
         [&Value::Number(7); 2]
     );
+    assert_eq!(object(&ran)["pair"], text("standard input"));
+}
+
+/// Rows have no place for a refusal.
+#[test]
+fn a_refusal_with_csv_is_told_elsewhere() {
+    let set = tables("report-odd.txt", "coded", 8, &[(7, 1, 512)]);
+    let tables = format!("tables: {set}\n15 15\n");
+    for (log, status, reason) in [
+        (
+            "15 15\n15 1500\n",
+            11,
+            "clevisroot: refused: 11 FRAME at place 0: symbol 1 of pair",
+        ),
+        (
+            &tables,
+            7,
+            "clevisroot: refused: 7 ODD at place 0: the table set as a whole, of pair",
+        ),
+    ] {
+        let words = ["report", "examples/pair-7.log", "-", "--csv"];
+        let ran = run_with(log.as_bytes(), &words);
+        assert_eq!((ran.status, ran.out.as_str()), (status, ""));
+        assert!(ran.err.starts_with(reason), "{}", ran.err);
+    }
 }
 
 #[test]
