@@ -32,11 +32,11 @@ impl Rate {
         }
     }
 
-    /// The same with "at least" in front, in this form, where the rate may be more: of unknown L, a
-    /// frame may have fewer bits.
-    pub fn marked(&self, at_least: &str) -> Option<String> {
+    /// The same with "about" in front, in this form, where L is not known: some of a byte's bits may
+    /// not be used.
+    pub fn marked(&self, about: &str) -> Option<String> {
         let mark = match (self.size, self.wrong) {
-            (None, 1..) => at_least,
+            (None, 1..) => about,
             _ => "",
         };
         self.value().map(|value| format!("{mark}{value}"))

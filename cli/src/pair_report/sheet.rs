@@ -77,7 +77,7 @@ fn figures(pair: &Pair) -> String {
         ("first refused", first.unwrap_or("none".to_string())),
         (
             "wrong-bit rate",
-            rate.marked("\u{2265} ").unwrap_or("none".to_string()),
+            rate.marked("\u{2248} ").unwrap_or("none".to_string()),
         ),
     ];
     let heads: String = cells

@@ -49,7 +49,7 @@ fn cells(pair: &Pair) -> [String; 7] {
         tally.refused.to_string(),
         tally.wrong_frames.to_string(),
         tally.wrong_bits.to_string(),
-        Rate::of(pair).marked(">=").unwrap_or("none".to_string()),
+        Rate::of(pair).marked("~").unwrap_or("none".to_string()),
         first.map_or("none".to_string(), |(symbol, _)| symbol.to_string()),
     ]
 }
@@ -95,7 +95,7 @@ fn table_words(pair: &Pair) -> Option<String> {
 
 /// "wrong bits: 3 of 40 bits (5 a frame), rate 7.5e-2"
 fn rate_words(rate: &Rate) -> String {
-    let value = rate.marked("at least ");
+    let value = rate.marked("about ");
     let value = value.map(|value| format!(", rate {value}"));
     format!("wrong bits: {}{}", rate.words(), value.unwrap_or_default())
 }

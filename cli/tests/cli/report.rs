@@ -170,7 +170,7 @@ fn the_rate_is_of_the_bits_that_were_read() {
         ),
         (
             "15 14\n15 15\n15 refused 14\n",
-            "1 of 16 bits (8 a byte, L is not known), rate at least 6.2e-2",
+            "1 of 16 bits (8 a byte, L is not known), rate about 6.2e-2",
         ),
         (
             "001122334455667788 001122334455667788\n",
@@ -203,17 +203,17 @@ fn the_rate_of_unknown_l_is_marked() {
         let row = of(log).line(1).to_string();
         row.split_whitespace().nth(6).unwrap().to_string()
     };
-    assert_eq!(row(&symbols), ">=5.6e-2");
+    assert_eq!(row(&symbols), "~5.6e-2");
     assert_eq!(row(&format!("{A}{symbols}")), "8.9e-2");
     assert_eq!(row("15 15\n"), "0");
-    let words = "wrong bits: 4 of 72 bits (8 a byte, L is not known), rate at least 5.6e-2";
+    let words = "wrong bits: 4 of 72 bits (8 a byte, L is not known), rate about 5.6e-2";
     assert!(of(&symbols).out.contains(words), "{}", of(&symbols).out);
 }
 
 #[test]
 fn a_small_rate_is_told_with_its_power_of_ten() {
     let log = format!("{0}00 {0}01\n", "00".repeat(1249));
-    let words = "1 of 10000 bits (8 a byte, L is not known), rate at least 1.0e-4";
+    let words = "1 of 10000 bits (8 a byte, L is not known), rate about 1.0e-4";
     assert!(of(&log).out.contains(words), "{}", of(&log).out);
 }
 

@@ -158,7 +158,7 @@ fn the_rate_of_unknown_l_is_marked() {
         "15 14\n15 15\n",
     );
     let sheets = sheets(&page);
-    assert!(sheets[0].contains("<td>\u{2265} 6.2e-2</td>"), "{page}");
+    assert!(sheets[0].contains("<td>\u{2248} 6.2e-2</td>"), "{page}");
     assert!(sheets[0].contains("Wrong bits: 1 of 16 bits (8 a byte, L is not known); only"));
     assert!(sheets[1].contains("<td>8.9e-2</td>"), "{page}");
     assert!(sheets[1].contains("Wrong bits: 4 of 45 bits (5 a frame); only"));
