@@ -107,8 +107,8 @@ pub const REPORT: &str = "\
 Counts, over the symbols of each pair, how many were refused, how many frames were read wrong and by
 how many bits, and which symbol was refused first, symbols counted from 0; then says in a sentence
 what that shows, and no more. The rate is of the bits of the frames that were read: L a frame where
-the table set is known, else 8 a byte, and then the rate may be more. --html FILE writes a page that
-prints on one sheet a pair.
+the table set is known, else 8 a byte, of which some may not be used, so that it is told as about.
+--html FILE writes a page that prints on one sheet a pair.
 
 A LOG is of one pair. Lines pair: NAME and tables: FILE come first, both optional, and start: N with
 tables:; then a line a symbol, the frame that was sent and the one that was read, both in hex, or the

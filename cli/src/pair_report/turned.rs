@@ -18,7 +18,9 @@ pub fn turned(pair: &Pair) -> Turned {
                 .to_string(),
         );
     };
-    let refuses = "refuses a symbol of a clip that is the wrong way round, because";
+    let refuses =
+        "refuses a symbol that comes as it was written, but turned (a clip the wrong way \
+                   round), because";
     let Facts { coded, loaded, .. } = facts;
     if facts.trellis {
         return plain(format!("Exact reading {refuses} N = {loaded} is odd."));

@@ -26,8 +26,8 @@ fn the_report_of_the_clean_example() {
          L = 5 bits in 1 byte\n\
          wrong bits: 0 of 40 bits (5 a frame), rate 0\n\
          Clean in these 8 symbols: each was read as it was sent.\n\
-         Exact reading with the writer's register refuses a symbol of a clip that is the wrong way \
-         round, because 1 tone is monitored.\n"
+         Exact reading with the writer's register refuses a symbol that comes as it was \
+         written, but turned (a clip the wrong way round), because 1 tone is monitored.\n"
     );
 }
 
@@ -195,7 +195,7 @@ fn the_rate_is_of_the_bits_that_were_read() {
     );
 }
 
-/// Without a table set a frame may have fewer bits than its bytes, and the rate may be more.
+/// Without a table set a frame may have fewer bits than its bytes, and the rate is told as about.
 #[test]
 fn the_rate_of_unknown_l_is_marked() {
     let symbols = format!("15 05\n00 07\n{}", "1f 1f\n".repeat(7));

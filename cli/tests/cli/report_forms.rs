@@ -144,8 +144,8 @@ fn csv_is_a_row_a_pair() {
     ]);
     assert_eq!((ran.status, ran.err.as_str()), (0, ""));
     let turned =
-        "\"Exact reading with the writer's register refuses a symbol of a clip that is the \
-                  wrong way round, because 1 tone is monitored.\"";
+        "\"Exact reading with the writer's register refuses a symbol that comes as it was \
+                  written, but turned (a clip the wrong way round), because 1 tone is monitored.\"";
     assert_eq!(
         ran.out,
         format!(

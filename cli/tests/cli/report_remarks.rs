@@ -19,7 +19,9 @@ fn uncoded(name: &str, bits: usize) -> String {
 
 #[test]
 fn what_refuses_a_turned_symbol() {
-    let refuses = "refuses a symbol of a clip that is the wrong way round, because";
+    let refuses =
+        "refuses a symbol that comes as it was written, but turned (a clip the wrong way \
+                   round), because";
     let known = format!("Exact reading with the writer's register {refuses}");
     let watched = uncoded("report-watched.txt", 0);
     for (set, words) in [
