@@ -7,7 +7,8 @@
  *
  * It checks bit, gain and tone tables, re-orders them, turns a frame of bits into one integer
  * point per tone, and turns points back into the frame, noisy ones into the nearest: with trellis
- * coding or without. For the report of a pair it counts wrong bits and refused symbols.
+ * coding or without. For the report of a pair it counts wrong bits and refused symbols, and it tells
+ * from one tone whether a clip is the wrong way round.
  *
  * Link with libclevisroot.a (pkg-config: clevisroot). The archive needs memcpy and memset and no
  * other symbol, at most CLEVISROOT_STACK bytes of stack (clevisroot_read_nearest:
@@ -20,7 +21,8 @@
  *
  * THE TABLES
  *
- * Every call that takes tables takes the same seven arguments first:
+ * Every call that takes tables takes the same seven arguments first, but for clevisroot_clip_check,
+ * whose tables are coded, so that it has no `coded`:
  *
  *   coded             0: uncoded; anything else: trellis coded
  *   bits,  bits_len   bits[i] is the bit count of sub-carrier i, 0 to 15; G = bits_len, 1 to 4096
@@ -134,6 +136,21 @@
  * is monitored, and with 15 if none is and the count of non-zero entries in b' is odd. If none is
  * monitored and the count is even, the turned symbol is read as another frame, and no refusal tells.
  * Nearest reading never refuses it: it compares no monitored point.
+ *
+ * IS THE CLIP THE WRONG WAY ROUND?
+ *
+ * clevisroot_clip_check asks the first monitored tone in t', and looks at no other point. Its clip is
+ *
+ *   1  straight    the tone's point is the one that its filler bits give
+ *   2  turned      it is the opposite point
+ *   3  neither     it is another one: noise, another register, or no symbol of these tables
+ *   4  can't tell  no tone is monitored
+ *
+ * and 0 where the call is refused. Of coded tables with a monitored tone, and of points that are a
+ * symbol written with these tables and this register, or one turned by half a turn, it answers what
+ * two readings would: straight exactly when the points are read as they are, turned exactly when they
+ * are read with all signs changed. It costs little more than checking the tables. The filler bits
+ * come from the register: with another one than the writer's the answer means nothing.
  */
 #ifndef CLEVISROOT_H
 #define CLEVISROOT_H
@@ -192,6 +209,14 @@ enum {
     CLEVISROOT_RANGE = 23
 };
 
+/* What clevisroot_clip_check tells; 0 where it is refused, so that no refusal looks like "straight". */
+enum {
+    CLEVISROOT_CLIP_STRAIGHT = 1,
+    CLEVISROOT_CLIP_TURNED = 2,
+    CLEVISROOT_CLIP_NEITHER = 3,
+    CLEVISROOT_CLIP_CANT_TELL = 4
+};
+
 /* The register at reset. */
 #define CLEVISROOT_RESET UINT32_C(8388607)
 
@@ -199,7 +224,7 @@ enum {
 #define CLEVISROOT_MAX_SYMBOLS 65535
 #define CLEVISROOT_NONE_REFUSED 65535
 
-/* What the calls with tables answer, but for clevisroot_read_nearest. */
+/* What the calls with tables answer, but for clevisroot_read_nearest and clevisroot_clip_check. */
 typedef struct {
     uint32_t number; /* 0 or the refusal */
     uint32_t place;  /* where the refusal applies, 0 if done */
@@ -212,6 +237,13 @@ typedef struct {
     uint32_t number, place, size, reg;
     uint64_t total; /* 0 on refusal */
 } clevisroot_nearest;
+
+/* What clevisroot_clip_check answers. */
+typedef struct {
+    uint32_t number, place;
+    uint32_t clip; /* CLEVISROOT_CLIP_STRAIGHT and so on; 0 on refusal */
+    uint32_t reg;  /* the register as given, always */
+} clevisroot_clip;
 
 typedef struct {
     uint32_t number;
@@ -355,6 +387,17 @@ clevisroot_nearest clevisroot_read_nearest(
     const uint16_t *gains, size_t gains_len, const uint16_t *tones, size_t tones_len,
     const int16_t *x, size_t x_len, const int16_t *y, size_t y_len, uint32_t reg,
     uint8_t *frame, size_t frame_len, uint8_t start, uint8_t *work, size_t work_len);
+
+/*
+ * Tells from the first monitored tone in t' whether the clip is the wrong way round. The tables are
+ * coded. It draws no bits for the caller: the register comes back as it was given, also when the call
+ * is done. Read the symbol with the same register.
+ * Refusals 1 to 8, then 10 if x or y has not NSC entries, 12 for the register.
+ */
+clevisroot_clip clevisroot_clip_check(
+    const uint8_t *bits, size_t bits_len,
+    const uint16_t *gains, size_t gains_len, const uint16_t *tones, size_t tones_len,
+    const int16_t *x, size_t x_len, const int16_t *y, size_t y_len, uint32_t reg);
 
 /* The point of one label. Refusal 16 if bits is not 1 to 15, or label not below 2^bits. */
 clevisroot_point clevisroot_map_label(uint8_t bits, uint32_t label);

@@ -1,5 +1,5 @@
 /*
- * The names of the answers' numbers, for logs. Plain C, beside the proved library; include it only
+ * The names of the answers' numbers and of the clips, for logs. Plain C, beside the proved library; include it only
  * where the texts are wanted, so that a small target need not hold them.
  */
 #ifndef CLEVISROOT_NAMES_H
@@ -33,6 +33,18 @@ static inline const char *clevisroot_refusal_name(uint32_t number)
     case CLEVISROOT_LABEL: return "LABEL";
     case CLEVISROOT_FULL: return "FULL";
     case CLEVISROOT_RANGE: return "RANGE";
+    default: return "UNKNOWN";
+    }
+}
+
+/* "STRAIGHT", "TURNED", "NEITHER", "CANT_TELL"; "UNKNOWN" for a number that is no clip. Never null. */
+static inline const char *clevisroot_clip_name(uint32_t clip)
+{
+    switch (clip) {
+    case CLEVISROOT_CLIP_STRAIGHT: return "STRAIGHT";
+    case CLEVISROOT_CLIP_TURNED: return "TURNED";
+    case CLEVISROOT_CLIP_NEITHER: return "NEITHER";
+    case CLEVISROOT_CLIP_CANT_TELL: return "CANT_TELL";
     default: return "UNKNOWN";
     }
 }

@@ -1,6 +1,7 @@
 //! The functions of include/clevisroot.h and safe wrappers around them. The header says what each
 //! one does; the names here are its names without the prefix.
 
+pub mod clips;
 pub mod descriptors;
 mod raw;
 pub mod refusals;
@@ -38,6 +39,17 @@ pub struct Nearest {
     pub size: u32,
     pub reg: u32,
     pub total: u64,
+}
+
+/// What the first monitored tone tells of the clip, one of [`clips`], or 0 where the call is refused;
+/// the register as it was given.
+#[repr(C)]
+#[derive(Clone, Copy, Debug, PartialEq, Eq)]
+pub struct Clip {
+    pub number: u32,
+    pub place: u32,
+    pub clip: u32,
+    pub reg: u32,
 }
 
 #[repr(C)]
@@ -241,6 +253,33 @@ pub fn read_nearest(
         work.as_mut_ptr(),
         work.len()
     )
+}
+
+/// Tells from the first monitored tone whether the clip is the wrong way round. The tables are coded.
+pub fn clip_check(
+    bits: &[u8],
+    gains: &[u16],
+    tones: &[u16],
+    x: &[i16],
+    y: &[i16],
+    reg: u32,
+) -> Clip {
+    // SAFETY: each pointer and length come from one live slice; the library keeps none of them.
+    unsafe {
+        raw::clevisroot_clip_check(
+            bits.as_ptr(),
+            bits.len(),
+            gains.as_ptr(),
+            gains.len(),
+            tones.as_ptr(),
+            tones.len(),
+            x.as_ptr(),
+            x.len(),
+            y.as_ptr(),
+            y.len(),
+            reg,
+        )
+    }
 }
 
 /// The point of one label.

@@ -1,7 +1,7 @@
 //! The declarations of include/clevisroot.h, to which `tests/header.rs` holds them. Nothing checks
 //! them against the library.
 
-use crate::{Answer, Drawn, Label, Nearest, Point, Tallied, Tally};
+use crate::{Answer, Clip, Drawn, Label, Nearest, Point, Tallied, Tally};
 
 extern "C" {
     pub fn clevisroot_check(
@@ -117,6 +117,20 @@ extern "C" {
         work: *mut u8,
         work_len: usize,
     ) -> Nearest;
+
+    pub fn clevisroot_clip_check(
+        bits: *const u8,
+        bits_len: usize,
+        gains: *const u16,
+        gains_len: usize,
+        tones: *const u16,
+        tones_len: usize,
+        x: *const i16,
+        x_len: usize,
+        y: *const i16,
+        y_len: usize,
+        reg: u32,
+    ) -> Clip;
 
     pub fn clevisroot_map_label(bits: u8, label: u32) -> Point;
     pub fn clevisroot_read_point(bits: u8, x: i16, y: i16) -> Label;

@@ -1,7 +1,9 @@
 //! The C headers say what the Rust side says: version, numbers, names, sizes, and each function's
 //! arguments.
 
-use clevisroot_sys::{refusals, MAX_FRAME, MAX_SYMBOLS, MAX_TONES, MAX_WORK, NONE_REFUSED, RESET};
+use clevisroot_sys::{
+    clips, refusals, MAX_FRAME, MAX_SYMBOLS, MAX_TONES, MAX_WORK, NONE_REFUSED, RESET,
+};
 use std::collections::BTreeMap;
 
 const HEADER: &str = include_str!("../../include/clevisroot.h");
@@ -38,28 +40,43 @@ fn the_sizes_and_the_reset_are_the_same() {
     assert_eq!(defined("CLEVISROOT_RESET"), reset);
 }
 
-#[test]
-fn every_number_has_its_name_in_the_enum() {
+/// The entries of the header's enums whose names have this prefix, and no `CLIP_` behind it.
+fn entries(prefix: &str) -> Vec<(u32, &'static str)> {
     let entries = HEADER.lines().filter_map(|line| {
-        let (name, number) = line.trim().strip_prefix("CLEVISROOT_")?.split_once(" = ")?;
+        let (name, number) = line.trim().strip_prefix(prefix)?.split_once(" = ")?;
         Some((number.trim_end_matches(',').parse().ok()?, name))
     });
-    let entries: Vec<(u32, &str)> = entries.collect();
-    assert_eq!(entries, refusals::ALL);
+    entries
+        .filter(|(_, name)| !name.starts_with("CLIP_"))
+        .collect()
+}
+
+#[test]
+fn every_number_has_its_name_in_the_enum() {
+    assert_eq!(entries("CLEVISROOT_"), refusals::ALL);
+    assert_eq!(entries("CLEVISROOT_CLIP_"), clips::ALL);
+}
+
+/// The names for logs of what has this prefix, and no `CLIP_` behind it.
+fn names(prefix: &str) -> Vec<&'static str> {
+    let start = format!("case {prefix}");
+    let cases = NAMES.lines().filter_map(|line| {
+        let case = line.trim().strip_prefix(&start)?;
+        let (name, text) = case.split_once(": return \"")?;
+        Some((name, text)).filter(|_| !name.starts_with("CLIP_"))
+    });
+    let named = cases.map(|(name, text)| {
+        assert_eq!(text, format!("{name}\";"));
+        name
+    });
+    named.collect()
 }
 
 #[test]
 fn every_number_has_its_name_for_logs() {
-    let cases = NAMES.lines().filter_map(|line| {
-        let (name, text) = line
-            .trim()
-            .strip_prefix("case CLEVISROOT_")?
-            .split_once(": return \"")?;
-        assert_eq!(text, format!("{name}\";"));
-        Some(name)
-    });
-    let names: Vec<&str> = refusals::ALL.iter().map(|(_, name)| *name).collect();
-    assert_eq!(cases.collect::<Vec<_>>(), names);
+    let of = |all: &[(u32, &'static str)]| all.iter().map(|(_, name)| *name).collect::<Vec<_>>();
+    assert_eq!(names("CLEVISROOT_"), of(refusals::ALL));
+    assert_eq!(names("CLEVISROOT_CLIP_"), of(clips::ALL));
 }
 
 #[test]
@@ -70,7 +87,11 @@ fn a_number_that_is_none_is_unknown() {
     assert_eq!(refusals::name(22), "FULL");
     assert_eq!(refusals::name(17), "UNKNOWN");
     assert_eq!(refusals::name(99), "UNKNOWN");
-    assert!(NAMES.contains("default: return \"UNKNOWN\";"));
+    assert_eq!(clips::name(clips::CANT_TELL), "CANT_TELL");
+    assert_eq!(clips::name(0), "UNKNOWN");
+    assert_eq!(clips::name(5), "UNKNOWN");
+    let unknown = NAMES.matches("default: return \"UNKNOWN\";");
+    assert_eq!(unknown.count(), 2);
 }
 
 /// The functions that are declared between two texts, by name: each argument as `written` has it.
@@ -119,12 +140,12 @@ fn every_function_has_the_header_s_arguments() {
         declared(HEADER, &before, ");", in_rust)
     };
     let header: BTreeMap<_, _> = [
-        "answer", "nearest", "point", "label", "drawn", "tally", "tallied",
+        "answer", "nearest", "clip", "point", "label", "drawn", "tally", "tallied",
     ]
     .into_iter()
     .flat_map(of)
     .collect();
     let raw = declared(RAW, "pub fn clevisroot_", ") ->", str::to_string);
-    assert_eq!(header.len(), 13);
+    assert_eq!(header.len(), 14);
     assert_eq!(header, raw);
 }
