@@ -147,8 +147,8 @@ fn coordinate_of(weight: u32, e: u32) -> i16
     (2 * e + 1) as i16 - weight as i16
 }
 
-// The point of a label.
-fn point_of(b: u32, label: u32) -> Coordinates
+// The point of a label. Called by proved code only.
+pub fn point_of(b: u32, label: u32) -> Coordinates
     requires { ⌜ (1 ≤ b) × (b ≤ 15) × (label < 2 ^ b) ⌝ }
     ensures { λ r. ⌜ point (r .x) (r .y) ≡ pointOf b (lowestBits b label) ⌝ }
 {

@@ -1,11 +1,11 @@
 -- Points as two lists, X and Y.
-use Prim.Native.Nat.{suc}
+use Prim.Native.Nat.{ℕ, zero, suc, _<_}
 use mathlib.Core.List.{List, [], _∷_, map}
 use mathlib.Core.Path.{_≡_, refl, ap}
 use native.Mathlib.Omega.{arith}
-use lib.IntN.{ℤ}
-use lib.ListN.{length}
-use Rattle.g9932.specs.Sizes.{Point, points}
+use lib.IntN.{ℤ, pos}
+use lib.ListN.{length, getD}
+use Rattle.g9932.specs.Sizes.{Point, point, origin, points}
 
 pub points-both : (q : List Point) → points (map (λ p. p .px) q) (map (λ p. p .py) q) ≡ q
 unfolding points
@@ -30,3 +30,11 @@ unfolding points
 length-points [] Y h = refl
 length-points (x ∷ X) [] h = absurd (omega arith)
 length-points (x ∷ X) (y ∷ Y) h = ap suc (length-points X Y (omega arith))
+
+-- the point at a place of two lists
+pub point-at : (X Y : List ℤ) (k : ℕ) → k < length X → length Y ≡ length X → getD (points X Y) k origin ≡ point (getD X k (pos 0)) (getD Y k (pos 0))
+unfolding points
+point-at [] Y k h l = absurd (omega arith)
+point-at (x ∷ X) [] k h l = absurd (omega arith)
+point-at (x ∷ X) (y ∷ Y) zero h l = refl
+point-at (x ∷ X) (y ∷ Y) (suc k) h l = point-at X Y k (omega arith) (omega arith)

@@ -31,7 +31,6 @@ use Rattle.g9932.specs.declared.Found.the-variants.{Nothing}
 use Rattle.g9932.specs.declared.Mode.{Mode}
 use Rattle.g9932.specs.declared.Mode.the-variants.{Uncoded, Coded}
 use Rattle.passes.proofs.PlanLabels.{plan-placed}
-use Rattle.mapper.proofs.PointLoop.{point-at}
 use Rattle.paths.specs.Frames.{pairBy, pairsBy, sentCost, Labelled, LeastFrame}
 use Rattle.paths.specs.Paths.{Inputs}
 use Rattle.plan.specs.Plan.{leastOwn, sharing, PlanIs}
@@ -41,7 +40,7 @@ use Rattle.decisions.specs.Deciding.{pairMeters, BestAll, none, more}
 use Rattle.decisions.specs.Entries.{metersIn, Decidable}
 use Rattle.decisions.proofs.PathLabels.{traced-within, traced-labelled}
 use Rattle.nearest.specs.Planned.{Decides, NearestBits}
-use Rattle.g9932.proofs.PointLists.{length-points}
+use Rattle.g9932.proofs.PointLists.{length-points, point-at}
 use Rattle.paths.proofs.Frames.{least-frame}
 use Rattle.paths.specs.Survivors.{follow}
 use Rattle.nearest.proofs.PlanMeters.{metersCost, bitsIn, plan-shared, plan-total, meters-bits, pairs-metered, cost-metered}

@@ -14,7 +14,7 @@ use Rattle.g9932.specs.Bits.{first}
 use Rattle.g9932.specs.Nearest.{outOfRange, rangeTest}
 use Rattle.g9932.specs.Sizes.{Point, points}
 use Rattle.g9932.specs.declared.Found.the-variants.{Nothing}
-use Rattle.mapper.proofs.PointLoop.{point-at}
+use Rattle.g9932.proofs.PointLists.{point-at}
 
 -- what the code tests at a place is the rule's test there
 pub range-tested : (xs ys : List ℤ) (i : ℕ) → i < length xs → length ys ≡ length xs

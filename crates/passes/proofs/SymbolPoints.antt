@@ -23,7 +23,7 @@ use Rattle.g9932.specs.declared.Class.{Class}
 use Rattle.g9932.specs.declared.Class.the-variants.{Data, Monitored, Silent}
 use Rattle.g9932.specs.declared.Found.{Found}
 use Rattle.g9932.specs.declared.Found.the-variants.{At, Nothing}
-use Rattle.mapper.proofs.PointLoop.{point-at}
+use Rattle.g9932.proofs.PointLists.{point-at}
 use Rattle.mapper.specs.Reading.{pointAt, LabelIs, OffAt, passesFiller}
 use Rattle.plan.specs.Plan.{ClassBits, isDrawing}
 use Rattle.passes.proofs.FillerPlaces.{filled}

@@ -7,7 +7,7 @@ use mathlib.Core.Path.{_≡_, sym, _∙_}
 use lib.ListN.{length, getD}
 use lib.IntN.{pos}
 use Rattle.g9932.specs.Sizes.{points}
-use Rattle.mapper.proofs.PointLoop.{point-at}
+use Rattle.g9932.proofs.PointLists.{point-at}
 use Rattle.decisions.specs.Deciding.{Costed}
 use Rattle.decisions.proofs.Places.{costs-of, costed-more}
 use borrow.Author.Needs.{needs}

@@ -2,7 +2,7 @@
 -- left.
 use Rattle.decisions.proofs.Places.{point-of, points-more}
 use Rattle.decisions.specs.Deciding.{PlacePoints}
-use Rattle.mapper.proofs.PointLoop.{point-at}
+use Rattle.g9932.proofs.PointLists.{point-at}
 use Rattle.g9932.specs.Sizes.{points}
 use lib.IntN.{pos}
 use lib.ListN.{length, getD}

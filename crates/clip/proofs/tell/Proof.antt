@@ -1,0 +1,87 @@
+-- `clip::tell` meets its contract: the tone that is found is the first monitored one, and its point is compared.
+use Prim.Native.Nat.{_<_}
+use mathlib.Core.Path.{_≡_, sym, _∙_}
+use native.Mathlib.Omega.{arith}
+use lib.IntN.{pos}
+use lib.ListN.{length, getD}
+use mir.Syntax.{w16}
+use mir.ValLaws.{toZ-ofZ}
+use Rattle.g9932.specs.Clip.{clipOf}
+use Rattle.g9932.specs.Sizes.{Tables, tables, mostTones}
+use Rattle.g9932.specs.declared.Mode.the-variants.{Coded}
+use Rattle.g9932.proofs.Accepted.{accepted-tables}
+use Rattle.g9932.proofs.PointLists.{point-at}
+use Rattle.clip.specs.declared.FirstMonitored.the-variants.{At, Nowhere}
+use Rattle.clip.proofs.Look.{FoundIn, finds-all}
+use borrow.Author.Needs.{needs}
+use Rattle.clip.proofs.tell.Statement.{statement}
+use Rattle.clip.proofs.tell.Tie as tie
+
+first-monitored-requires : tie.Need-first-monitored-requires
+first-monitored-requires c κs =
+    let s = c .before .before .before in
+    let a = accepted-tables (tables Coded (s .args .bits .now) (s .args .gains .now) (s .args .tones .now)) (s .pre .tables) in
+    record { below = a .tonesBelow; gains = a .gainsLength; most = omega (arith, a .tonesMost, a .tableMost) }
+
+-- what is found is the first monitored tone
+module _ (c : tie.After-first-monitored) where
+  abbrev T : Tables
+  T = let a = c .before .before .before .before .args in tables Coded (a .bits .now) (a .gains .now) (a .tones .now)
+
+  found : FoundIn T (c .before .before .before .before .args .register) (c .first-monitored .result)
+  found = let a = c .before .before .before .before .args in rw (c .first-monitored .ensures) (finds-all (a .bits .now) (a .gains .now) (a .tones .now) (a .register))
+
+-- and it has a place in t'
+inside : (c : tie.After-known-told) → c .before .monitored .given .0 .0 .place .0 < length (c .before .before .before .before .before .before .before .args .tones .now)
+inside c = let f = rw (c .before .monitored .given .1) at (found (c .before .before .before)) in f .2
+
+small : (c : tie.After-known-told) → c .before .monitored .given .0 .0 .place .0 < mostTones
+small c =
+    let s = c .before .before .before .before .before .before .before in
+    let a = accepted-tables (tables Coded (s .args .bits .now) (s .args .gains .now) (s .args .tones .now)) (s .pre .tables) in
+    omega (arith, inside c, a .tonesMost, a .tableMost)
+
+shared-slice-copy-out-clip-at : tie.Need-shared-slice-copy-out-clip-at
+shared-slice-copy-out-clip-at c = rw (c .before .before .before .before .before .before .before .pre .xsLength) (inside c)
+
+shared-slice-copy-out-clip-at-2 : tie.Need-shared-slice-copy-out-clip-at-2
+shared-slice-copy-out-clip-at-2 c = rw (c .before .before .before .before .before .before .before .before .pre .ysLength) (inside (c .before))
+
+mul-clip-at : tie.Need-mul-clip-at
+mul-clip-at c = record { fits = omega (arith, small c) }
+
+mul-clip-at-2 : tie.Need-mul-clip-at-2
+mul-clip-at-2 c = record { fits = omega (arith, small (c .before)) }
+
+returns : tie.Need-returns
+unfolding clipOf
+returns c = rw (rw (c .enum-told .given .1) at (found (c .before .before)))
+
+returns-2 : tie.Need-returns-2
+unfolding clipOf
+returns-2 c =
+    let s = c .before .before .before .before .before .before .before .before .before .before in
+    let k = c .before .before .before in
+    let f = rw (k .before .monitored .given .1) at (found (k .before .before .before)) in
+    let at = k .before .monitored .given .0 .0 in
+    let X = s .args .xs .now in
+    let Y = s .args .ys .now in
+    let p = point-at X Y (at .place .0) (rw (s .pre .xsLength) (inside k)) (s .pre .ysLength ∙ sym (s .pre .xsLength)) in
+    let x = toZ-ofZ w16 (getD X (at .place .0) (pos 0)) (record { sfits = c .before .before .clip-at-arg .given }) in
+    let y = toZ-ofZ w16 (getD Y (at .place .0) (pos 0)) (record { sfits = c .before .clip-at-arg2 .given }) in
+    rw (f .0, p, ← (f .1)) (rw (x, y) at (c .clip-at .ensures))
+
+pub tell-spec : {M : Type 1} → statement M
+tell-spec =
+    tie.close
+    (tie.spec
+    first-monitored-requires
+    (λ c. search needs)
+    (λ c. search needs)
+    mul-clip-at
+    shared-slice-copy-out-clip-at
+    mul-clip-at-2
+    shared-slice-copy-out-clip-at-2
+    (λ c κs. search needs)
+    returns
+    returns-2)

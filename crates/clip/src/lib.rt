@@ -1,0 +1,158 @@
+// Is the clip the wrong way round? The first monitored tone in t' tells, and no other point is looked at.
+ghost use mathlib.Core.Path.{_≡_};
+ghost use Prim.Native.Nat.{_<_};
+ghost use Rattle.g9932.specs.Clip.{clipAgainst, clipOf, clipCheck, clipReportOf};
+ghost use Rattle.g9932.specs.Filler.{drawn};
+ghost use Rattle.g9932.specs.Points.{pointOf};
+ghost use Rattle.g9932.specs.Sizes.{tables, point, points, mostTones};
+ghost use Rattle.g9932.specs.Symbol.{classesBy, isMonitored};
+ghost use Rattle.g9932.specs.declared.Mode.the-variants.{Coded};
+ghost use Rattle.clip.specs.Tones.{along, toneLook, look, LookNeeds, TellNeeds};
+use g9932::Class;
+use g9932::Clip;
+use g9932::ClipChecked;
+use g9932::Mode;
+use g9932::Place;
+use g9932::Refusal;
+use tables::sizes::Sized;
+
+// How far the look along t has come: the place in t' of the next tone that is not a 1-bit tone, and the register before its draws.
+pub struct Along {
+    pub place: Place,
+    pub register: u32,
+}
+
+// What the look finds: the first monitored tone, or that there is none.
+pub enum FirstMonitored {
+    At(Along),
+    Nowhere,
+}
+
+// Whether a tone is monitored.
+fn is_monitored(class: Class) -> bool
+    ensures { λ r. ⌜ r ≡ isMonitored class ⌝ }
+{
+    match class {
+        Class::Data(_) => false,
+        Class::Monitored => true,
+        Class::Silent => false,
+    }
+}
+
+// Past a tone: a tone without data draws its filler bits, and a 1-bit tone stands behind all others.
+fn past(class: Class, at: Along) -> Along
+    requires { ⌜ at .place .0 < mostTones ⌝ }
+    ensures { λ r. ⌜ r ≡ toneLook class at ⌝ }
+{
+    let next = Place(at.place.0 + 1);
+    match class {
+        Class::Data(bits) => {
+            if bits < 2 {
+                return at;
+            }
+            Along {
+                place: next,
+                register: at.register,
+            }
+        }
+        Class::Monitored => Along {
+            place: next,
+            register: prbs::filler_label(at.register).register,
+        },
+        Class::Silent => Along {
+            place: next,
+            register: prbs::filler_label(at.register).register,
+        },
+    }
+}
+
+// The first monitored tone in t'. It is the first one in t, for no 1-bit tone is monitored. Called by proved code only.
+fn first_monitored(bits: &[u8], gains: &[u16], tones: &[u16], register: u32) -> FirstMonitored
+    requires { ⌜ LookNeeds (now bits) (now gains) (now tones) ⌝ }
+    ensures { λ r. ⌜ r ≡ look (classesBy (now (bits .entry)) (now (gains .entry)) (now (tones .entry))) (along 0 register) ⌝ }
+{
+    let mut at = Along {
+        place: Place(0),
+        register,
+    };
+    let mut i = 0;
+    while i < tones.len() {
+        let k = tables::tone_at(tones, Place(i));
+        let tone = tables::tone_of(tables::bits_of(bits, k), tables::gain_of(gains, k));
+        let class = tone.class;
+        if is_monitored(class) {
+            return FirstMonitored::At(at);
+        }
+        at = past(class, at);
+        i += 1;
+    }
+    FirstMonitored::Nowhere
+}
+
+// What the point of a monitored tone tells, by the register before its draws.
+fn clip_at(x: i16, y: i16, register: u32) -> Clip
+    ensures { λ r. ⌜ r ≡ clipAgainst (pointOf 2 (drawn 2 register)) (point x y) ⌝ }
+{
+    let filler = constellation::point_of(2, prbs::filler_label(register).label);
+    if (x == filler.x) & (y == filler.y) {
+        return Clip::Straight;
+    }
+    if (x == -filler.x) & (y == -filler.y) {
+        return Clip::Turned;
+    }
+    Clip::Neither
+}
+
+// What the first monitored tone tells. Its caller shows that nothing is refused.
+fn tell(
+    bits: &[u8],
+    gains: &[u16],
+    tones: &[u16],
+    xs: &[i16],
+    ys: &[i16],
+    register: u32,
+) -> Clip
+    requires { ⌜ TellNeeds (now bits) (now gains) (now tones) (now xs) (now ys) ⌝ }
+    ensures { λ r. ⌜ r ≡ clipOf (tables Coded (now (bits .entry)) (now (gains .entry)) (now (tones .entry))) (points (now (xs .entry)) (now (ys .entry))) register ⌝ }
+{
+    let monitored = first_monitored(bits, gains, tones, register);
+    match monitored {
+        FirstMonitored::Nowhere => Clip::CannotTell,
+        FirstMonitored::At(at) => {
+            let p = at.place.0;
+            clip_at(xs[p], ys[p], at.register)
+        }
+    }
+}
+
+// Checks the clip: refusals 1 to 8, 10 and 12. The tables are coded. The register comes back as it was given, whatever the answer. A call
+// takes some 9 KiB of stack, no heap and no global.
+pub fn check(
+    bits: &[u8],
+    gains: &[u16],
+    tones: &[u16],
+    xs: &[i16],
+    ys: &[i16],
+    register: u32,
+) -> ClipChecked
+    ensures { λ r. ⌜ clipReportOf r ≡ clipCheck (tables Coded (now (bits .entry)) (now (gains .entry)) (now (tones .entry))) (now (xs .entry)) (now (ys .entry)) register ⌝ }
+{
+    let sized = tables::sizes::size_tables(Mode::Coded, bits, gains, tones);
+    if let Sized::Refused(refusal) = sized {
+        return ClipChecked::Refused { refusal, register };
+    }
+    if (xs.len() != tones.len()) | (ys.len() != tones.len()) {
+        return ClipChecked::Refused {
+            refusal: Refusal::Room,
+            register,
+        };
+    }
+    if prbs::seed_refused(register) {
+        return ClipChecked::Refused {
+            refusal: Refusal::Seed,
+            register,
+        };
+    }
+    let clip = tell(bits, gains, tones, xs, ys, register);
+    ClipChecked::Told { clip, register }
+}
