@@ -1,25 +1,27 @@
 -- The core's answers, as C has them.
-use Prim.Native.Nat.{ℕ, zero, suc}
+use Prim.Native.Nat.{ℕ, zero, suc, _≤_}
 use mathlib.Core.Path.{_≡_, refl, sym, ap, _∙_, subst}
 use lib.IntN.{ℤ}
 use mathlib.Core.List.{List}
 use lib.ListN.{length}
 use Rattle.g9932.proofs.Aligned.{start-zero-encoding, start-zero-reading}
-use Rattle.g9932.specs.Sizes.{Tables, tables, points}
+use Rattle.g9932.specs.Sizes.{Tables, tables, mostTones, points}
 use Rattle.g9932.specs.Refusals.{Verdict, tableVerdict}
 use Rattle.g9932.specs.Answers.{verdictOf, Report, reportOf, reportBy, Reorders, Encoded, Encodes, Read, Reads}
 use Rattle.g9932.specs.Nearest.{NearestFrame, nearestReport, nearestOf, totalIn, ReadsNearest}
+use Rattle.g9932.specs.Clip.{clipCheck, clipReportBy, clipReportOf}
 use Rattle.g9932.specs.declared.Mode.{Mode}
 use Rattle.g9932.specs.declared.Mode.the-variants.{Coded}
 use Rattle.g9932.specs.declared.Checked.{Checked}
 use Rattle.g9932.specs.declared.Answer.{Answer}
+use Rattle.g9932.specs.declared.ClipChecked.{ClipChecked}
 use Rattle.g9932.specs.declared.Nearest.{Nearest}
 use Rattle.g9932.specs.declared.Nearest.the-variants.{Done, Refused}
 use Rattle.clevisroot.specs.CAnswers.{modeOf, answerOf, reported, withTotal, nearestAnswer, Small, ReorderAnswered, EncodeAnswered, ReadAnswered, EncodeAtAnswered, ReadAtAnswered, NearestAnswered}
 use Rattle.clevisroot.specs.declared.SymbolAnswer.{SymbolAnswer}
 use Rattle.clevisroot.specs.declared.NearestAnswer.{NearestAnswer}
 use Rattle.clevisroot.specs.declared.PointAnswer.{PointAnswer}
-use Rattle.clevisroot.proofs.Places.{small-table, small-order, small-encode, small-read, small-nearest}
+use Rattle.clevisroot.proofs.Places.{small-table, small-order, small-encode, small-read, small-nearest, clip-place}
 
 pub coded-mode : (n : ℕ) → (n ≡ 0 → ⊥) → Coded ≡ modeOf n
 coded-mode zero h = absurd (h refl)
@@ -49,6 +51,11 @@ nearest-as {b = b} e k t = rw e (t ∙ ap (λ (x : SymbolAnswer). withTotal x (t
 
 pub point-fields : {x x' y y' : ℤ} → x ≡ x' → y ≡ y' → _≡_ {A = PointAnswer} (record { number = 0; x = x; y = y }) (record { number = 0; x = x'; y = y' })
 point-fields e f = rw (e, f)
+
+-- the clip check's answer
+pub clip-small : (T : Tables) (xs ys : List ℤ) (r : ℕ) (a : ClipChecked) → clipReportOf a ≡ clipCheck T xs ys r → clipReportOf a .place ≤ mostTones
+unfolding clipReportBy
+clip-small T xs ys r a h = rw h (clip-place T (length xs) (length ys) r)
 
 -- a refused answer carries no total
 refused-total : (a : Nearest) → (nearestOf a .verdict .number ≡ 0 → ⊥) → totalIn a ≡ 0

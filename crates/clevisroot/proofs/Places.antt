@@ -16,6 +16,7 @@ use Rattle.g9932.specs.Trellis.{Reading, frame, breaks, after, zeroState, readP
 use Rattle.g9932.specs.Symbol.{classesOf, pairsIn, sizeOf, gatherBits, readingIn}
 use Rattle.g9932.specs.Answers.{breakIn, orderVerdict, encodeInputs, encodeVerdict, placesVerdict, pointsVerdict, readInputs, readVerdict}
 use Rattle.g9932.specs.Nearest.{workBytes, nearestInputs, rangeVerdict, nearestVerdict}
+use Rattle.g9932.specs.Clip.{clipInputs, clipVerdict}
 use Rattle.g9932.specs.declared.Found.{Found}
 use Rattle.g9932.specs.declared.Found.the-variants.{At, Nothing}
 use Rattle.g9932.specs.declared.Mode.{Mode}
@@ -207,3 +208,8 @@ small-nearest T xs ys r start a w =
     (λ _. place-first mostTones 23 _ (length (T .tones)) _ n (omega arith)))
     (size-then inputs (rangeVerdict T q) (sizeOf T)
     (size-at 22 _ _ (sizeOf T) (λ _. refl)))
+
+-- of the clip check, which tells no L
+pub clip-place : (T : Tables) (a b r : ℕ) → clipVerdict T a b r .place ≤ mostTones
+unfolding clipVerdict clipInputs
+clip-place T a b r = place-and mostTones (tableVerdict T) _ (table-place T) (λ _. place-if mostTones 10 _ _ (place-if mostTones 12 _ _ (omega arith)))

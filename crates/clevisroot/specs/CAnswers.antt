@@ -12,11 +12,13 @@ use Rattle.g9932.specs.Refusals.{Verdict}
 use Rattle.g9932.specs.Answers.{Report, OneTone, Draw, reorderOf, encodeAt, readAt}
 use Rattle.g9932.specs.Aligned.{encodeOf, readOf}
 use Rattle.g9932.specs.Nearest.{NearestFrame, nearestVerdict, nearestReport}
+use Rattle.g9932.specs.Clip.{ClipReport, clipNumber}
 use Rattle.tally.specs.PairReport.{Told}
 use Rattle.g9932.specs.declared.Mode.{Mode}
 use Rattle.g9932.specs.declared.Mode.the-variants.{Uncoded, Coded}
 use Rattle.clevisroot.specs.declared.SymbolAnswer.{SymbolAnswer}
 use Rattle.clevisroot.specs.declared.NearestAnswer.{NearestAnswer}
+use Rattle.clevisroot.specs.declared.ClipAnswer.{ClipAnswer}
 use Rattle.clevisroot.specs.declared.PointAnswer.{PointAnswer}
 use Rattle.clevisroot.specs.declared.LabelAnswer.{LabelAnswer}
 use Rattle.clevisroot.specs.declared.DrawAnswer.{DrawAnswer}
@@ -82,6 +84,11 @@ pub record NearestAnswered (T : Tables) (xs ys : List ℤ) (r start : ℕ) (f wo
   pub frameKept : (nearestVerdict T xs ys r start (length f) (length work) .number ≡ 0 → ⊥) → fAfter ≡ f
   pub workKept : (nearestVerdict T xs ys r start (length f) (length work) .number ≡ 0 → ⊥) → workAfter ≡ work
   pub workLength : length workAfter ≡ length work
+
+-- ---- the clip check: a refused one has clip 0
+
+abbrev pub clipAnswered : ClipReport → ClipAnswer
+clipAnswered a = record { number = a .number; place = a .place; clip = clipNumber (a .clip); reg = a .register }
 
 -- ---- one-tone calls, and one draw: a refused one has point (0, 0), label 0, bit 0
 

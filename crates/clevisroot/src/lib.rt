@@ -5,16 +5,20 @@ ghost use Rattle.g9932.specs.Sizes.{tables, mostTones, point};
 ghost use Rattle.g9932.specs.Refusals.{numberOf, placeOf, refused, tableVerdict};
 ghost use Rattle.g9932.specs.Answers.{verdictOf, reportOf, mapLabel, readPoint, drawAnswer};
 ghost use Rattle.g9932.specs.Nearest.{nearestOf, totalIn};
-ghost use Rattle.clevisroot.specs.CAnswers.{modeOf, answerOf, reported, withTotal, nearestAnswer, pointAnswered, labelAnswered, drawAnswered, tallyAnswered, Small, ReorderAnswered, EncodeAnswered, ReadAnswered, EncodeAtAnswered, ReadAtAnswered, NearestAnswered};
+ghost use Rattle.g9932.specs.Clip.{clipCheck, clipReportOf};
+ghost use Rattle.g9932.specs.declared.Mode.the-variants.{Coded};
+ghost use Rattle.clevisroot.specs.CAnswers.{modeOf, answerOf, reported, withTotal, nearestAnswer, clipAnswered, pointAnswered, labelAnswered, drawAnswered, tallyAnswered, Small, ReorderAnswered, EncodeAnswered, ReadAnswered, EncodeAtAnswered, ReadAtAnswered, NearestAnswered};
 ghost use Rattle.tally.specs.PairReport.{readAs, refusedWith, tallied, toldOf, newTally};
 use g9932::Answer;
 use g9932::Checked;
+use g9932::ClipChecked;
 use g9932::Drawn;
 use g9932::Labelled;
 use g9932::Mapped;
 use g9932::Mode;
 use g9932::Nearest;
 use g9932::Refusal;
+use g9932::clip_number;
 use g9932::number_of;
 use g9932::place_of;
 use tally::Tallied;
@@ -37,6 +41,15 @@ pub struct NearestAnswer {
     pub size: u32,
     pub reg: u32,
     pub total: u64,
+}
+
+// What the clip check answers: 0 or the refusal, its place, which way round the clip is, and the register as it came.
+#[repr(C)]
+pub struct ClipAnswer {
+    pub number: u32,
+    pub place: u32,
+    pub clip: u32,
+    pub reg: u32,
 }
 
 // What mapping one label answers.
@@ -148,6 +161,27 @@ fn nearest_answered(answer: Nearest) -> NearestAnswer
             total,
         } => with_total(answered(Answer::Done { size, register }), total),
         Nearest::Refused { refusal, register } => with_total(refuse(refusal, register), 0),
+    }
+}
+
+// The answer of the clip check; a refusal has clip 0.
+fn clip_answered(answer: ClipChecked) -> ClipAnswer
+    requires { ⌜ clipReportOf answer .place ≤ mostTones ⌝ }
+    ensures { λ r. ⌜ r ≡ clipAnswered (clipReportOf answer) ⌝ }
+{
+    match answer {
+        ClipChecked::Told { clip, register } => ClipAnswer {
+            number: 0,
+            place: 0,
+            clip: clip_number(clip),
+            reg: register,
+        },
+        ClipChecked::Refused { refusal, register } => ClipAnswer {
+            number: number_of(refusal),
+            place: place_of(refusal) as u32,
+            clip: 0,
+            reg: register,
+        },
     }
 }
 
@@ -280,6 +314,20 @@ pub extern "C" fn clevisroot_read_nearest(
 {
     let mode = mode_of(coded);
     nearest_answered(nearest::read(mode, bits, gains, tones, x, y, reg, frame, start, work))
+}
+
+#[no_mangle]
+pub extern "C" fn clevisroot_clip_check(
+    bits: &[u8],
+    gains: &[u16],
+    tones: &[u16],
+    x: &[i16],
+    y: &[i16],
+    reg: u32,
+) -> ClipAnswer
+    ensures { λ r. ⌜ r ≡ clipAnswered (clipCheck (tables Coded (now (bits .entry)) (now (gains .entry)) (now (tones .entry))) (now (x .entry)) (now (y .entry)) reg) ⌝ }
+{
+    clip_answered(clip::check(bits, gains, tones, x, y, reg))
 }
 
 #[no_mangle]
