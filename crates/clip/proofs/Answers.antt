@@ -1,8 +1,8 @@
 -- The answers of the clip check, by its verdict.
 use Prim.Native.Nat.{ℕ}
-use mathlib.Core.Bool.{Bool, true, false, not, _||_, true≢false}
-use mathlib.Core.Path.{_≡_, refl}
-use borrow.Author.Tests.{eqb-true}
+use mathlib.Core.Bool.{false, _||_}
+use mathlib.Core.Path.{_≡_}
+use borrow.Author.Tests.{eqb-true, not-false}
 use lib.Dec.{eqb}
 use Rattle.g9932.specs.Answers.{verdictOf}
 use Rattle.g9932.specs.Clip.{ClipReport, clipReportBy, clipReportOf}
@@ -11,6 +11,7 @@ use Rattle.g9932.specs.declared.Checked.the-variants.{Refused}
 use Rattle.g9932.specs.declared.Clip.{Clip}
 use Rattle.g9932.specs.declared.ClipChecked.the-variants.{Told, Refused as NotTold}
 use Rattle.g9932.specs.declared.Refusal.{Refusal}
+use Rattle.g9932.proofs.Identities.{or-false}
 use Rattle.g9932.proofs.Verdicts.{number-some}
 
 pub clip-refused : (x : Refusal) {v : Verdict} (c : Clip) (r : ℕ) → verdictOf (Refused x) ≡ v → clipReportOf (NotTold x r) ≡ clipReportBy v c r
@@ -23,9 +24,6 @@ clip-told c r e = rw (← e)
 
 -- past 10, both lists of points have NSC entries
 pub room-lengths : (x y nsc : ℕ) → roomTest x nsc || roomTest y nsc ≡ false → (x ≡ nsc) × (y ≡ nsc)
-room-lengths x y nsc h = go (eqb x nsc) refl (eqb y nsc) refl h
-  where
-    go : (p : Bool) → eqb x nsc ≡ p → (q : Bool) → eqb y nsc ≡ q → not p || not q ≡ false → (x ≡ nsc) × (y ≡ nsc)
-    go true e true f n = (eqb-true x nsc e, eqb-true y nsc f)
-    go true e false f n = absurd (true≢false n)
-    go false e q f n = absurd (true≢false n)
+room-lengths x y nsc h =
+    let p = or-false (roomTest x nsc) (roomTest y nsc) h in
+    (eqb-true x nsc (not-false (eqb x nsc) (p .0)), eqb-true y nsc (not-false (eqb y nsc) (p .1)))

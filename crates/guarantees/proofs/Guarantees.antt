@@ -1,12 +1,14 @@
 -- The promises over the definitions of document 01: demand 3, in full; of demand 2, how many bits go on the tones, and which go where;
--- what else is shown of the definitions; and of request R-13, nearest reading, by itself and against exact reading. That the code gives
--- what they say is the `ensures` of each operation. Each proof cites the part that shows it. The words are those of specs/Words.antt and
--- of crate g9932. Request R-12, the pair report, has a page of its own: crates/tally/proofs/Theorems.antt.
+-- what else is shown of the definitions; of request R-13, nearest reading, by itself and against exact reading; and of request R-10, the clip
+-- check, against two readings. That the code gives what they say is the `ensures` of each operation. Each proof cites the part that shows it.
+-- The words are those of specs/Words.antt and of crate g9932. Request R-12, the pair report, has a page of its own:
+-- crates/tally/proofs/Theorems.antt.
 use Prim.Native.Nat.{ℕ, _+_, _-_, _*_, _/_, _%_, _^_, _≤_, _<_}
 use mathlib.Core.Bool.{Bool, true, false, cond, not}
 use mathlib.Core.List.{List, [], _∷_, map}
-use mathlib.Core.Logic.{_↔_, _≢_}
-use mathlib.Core.Path.{_≡_, sym, _∙_}
+use mathlib.Core.Logic.{_↔_, _≢_, _⊎_}
+use mathlib.Core.Option.{some}
+use mathlib.Core.Path.{_≡_, sym, ap, _∙_}
 use lib.Dec.{eqb}
 use lib.IntN.{ℤ}
 use lib.ListN.{length, take, drop, getD}
@@ -21,8 +23,10 @@ use Rattle.g9932.specs.Symbol.{reorderedTonesOf, reorderedBitsOf, classesOf, pa
 use Rattle.g9932.specs.Answers.{reorderOf, encodeAt, Read, readAt, toneDone, mapLabel, readPoint, drawAnswer}
 use Rattle.g9932.specs.Aligned.{encodeOf, readOf}
 use Rattle.g9932.specs.Nearest.{frameTotal, NearestFrame, rangeTest, workBytes, nearestVerdict, nearestOf, totalIn, ReadsNearest}
+use Rattle.g9932.specs.Clip.{clipAgainst, fillerPoint, clipOf, clipVerdict, clipCheck, clipNumber}
 use Rattle.g9932.specs.Figures.{MarkedFigures}
 use Rattle.g9932.specs.declared.Class.the-variants.{Monitored, Silent}
+use Rattle.g9932.specs.declared.Clip.the-variants.{Straight, Turned, Neither, CannotTell}
 use Rattle.g9932.specs.declared.Found.the-variants.{At, Nothing}
 use Rattle.g9932.specs.declared.Mode.the-variants.{Uncoded, Coded}
 use Rattle.g9932.specs.declared.Nearest.{Nearest}
@@ -32,7 +36,9 @@ use Rattle.g9932.proofs.Figures as Figures
 use Rattle.g9932.proofs.Packed as Packed
 use Rattle.g9932.proofs.Reordering as Reordering
 use Rattle.g9932.proofs.Verdicts as Verdicts
-use Rattle.guarantees.specs.Words.{Bytes, AcceptedTables, AcceptedFrame, ValidRegister, RightLength, Ready, nonZero, pairAt, wordsIn, stateAfter, labelsOf, lowest, lowestAt, oneBitTones, firstOfTwo, sharedEntry, table10-2, bitOne, zeroBitTones, fillerBit, turned, SameUnloaded, SameLoaded}
+use Rattle.guarantees.specs.Words.{Bytes, AcceptedTables, AcceptedFrame, ValidRegister, RightLength, Ready, nonZero, pairAt, wordsIn, stateAfter, labelsOf, lowest, lowestAt, oneBitTones, firstOfTwo, sharedEntry, table10-2, bitOne, zeroBitTones, fillerBit, turned, SameUnloaded, SameLoaded, WrittenSymbol, TurnedSymbol, fullWay}
+use Rattle.guarantees.proofs.ClipAnswers as ClipAnswers
+use Rattle.guarantees.proofs.ClipFullWay as ClipFullWay
 use Rattle.guarantees.proofs.Coded as Coded
 use Rattle.guarantees.proofs.EntryBits as EntryBits
 use Rattle.guarantees.proofs.HalfTurn as HalfTurn
@@ -491,3 +497,79 @@ module _ (T : Tables) (r start : ℕ) (xs ys : List ℤ) (f₀ : List ℕ) (read
       → ReadsNearest T (turned (encodeAt T start g r xs ys .xs)) (turned (encodeAt T start g r xs ys .ys)) r start f₀ work a f work′
       → (nearestOf a ≡ encodeAt T start g r xs ys .report) × ((totalIn a ≡ 0) ↔ (nonZero T % 2 ≡ 0))
   nearest-turned = NearestAnswers.nearest-turned T r start xs ys f₀ ready work room g ok a f work′
+
+-- ---- the clip check (request R-10)
+
+-- If some tone of accepted coded tables is monitored, then with a valid register, for points X and Y that are a written symbol of these
+-- tables and this register, or one turned by half a turn, and for readings at a start up to 7, the same in both, of right lengths:
+module _ (T : Tables) (ok : AcceptedTables T) (m : T .mode ≡ Coded) (r : ℕ) (valid : ValidRegister r) (k : ℕ) (monitored : firstMonitored T ≡ At k)
+    (start : ℕ) (small : start ≤ 7) (f₀ : List ℕ) (fits : length f₀ ≡ bytesFor start (sizeOf T)) where
+  module _ (X Y : List ℤ) (symbol : WrittenSymbol T r X Y ⊎ TurnedSymbol T r X Y) where
+    -- The answer equals the full way's: read the points as they are, then with all signs changed, and see which is accepted.
+    pub clip-full-way : clipCheck T X Y r ≡ record { number = 0; place = 0; clip = some (fullWay T X Y r start f₀); register = r }
+    clip-full-way = ClipFullWay.check-full-way T ok m r valid k monitored start small f₀ fits X Y symbol
+
+    -- It is straight exactly when the first reading is accepted,
+    pub clip-straight-exactly : (clipOf T (points X Y) r ≡ Straight) ↔ (readAt T X Y r start f₀ .report .verdict .number ≡ 0)
+    clip-straight-exactly = ClipFullWay.straight-exactly T ok m r valid k monitored start small f₀ fits X Y symbol
+
+    -- turned exactly when the second is,
+    pub clip-turned-exactly : (clipOf T (points X Y) r ≡ Turned) ↔ (readAt T (turned X) (turned Y) r start f₀ .report .verdict .number ≡ 0)
+    clip-turned-exactly = ClipFullWay.turned-exactly T ok m r valid k monitored start small f₀ fits X Y symbol
+
+    -- and never are both.
+    pub clip-never-both :
+        (readAt T X Y r start f₀ .report .verdict .number ≡ 0) × (readAt T (turned X) (turned Y) r start f₀ .report .verdict .number ≡ 0) → ⊥
+    clip-never-both = ClipFullWay.never-both T ok m r valid k monitored start small f₀ fits X Y symbol
+
+  -- Of any points of the right length: if either reading is accepted, the check tells what the full way tells.
+  pub clip-agrees : (X Y : List ℤ) → RightLength T X Y → fullWay T X Y r start f₀ ≢ Neither → clipOf T (points X Y) r ≡ fullWay T X Y r start f₀
+  clip-agrees = ClipFullWay.agrees T ok m r valid k monitored start small f₀ fits
+
+-- Whatever the tables, the points and the register, it can't tell exactly when no tone is monitored.
+pub clip-cannot-tell : (T : Tables) (q : List Point) (r : ℕ) → (clipOf T q r ≡ CannotTell) ↔ (firstMonitored T ≡ Nothing)
+clip-cannot-tell = ClipAnswers.cannot-tell
+
+-- With the first monitored tone at place k in t':
+module _ (T : Tables) (r k : ℕ) (monitored : firstMonitored T ≡ At k) where
+  -- It is straight exactly when that tone's point is the one its filler bits give, turned exactly when it is the opposite one;
+  pub clip-straight : (q : List Point) → (clipOf T q r ≡ Straight) ↔ (getD q k origin ≡ fillerPoint T r k)
+  clip-straight q = ClipAnswers.straight T q r k monitored
+
+  pub clip-turned : (q : List Point) → (clipOf T q r ≡ Turned) ↔ (getD q k origin ≡ negated (fillerPoint T r k))
+  clip-turned q = ClipAnswers.turned T q r k monitored
+
+  -- and no other point matters.
+  pub clip-one-tone : (p q : List Point) → getD p k origin ≡ getD q k origin → clipOf T p r ≡ clipOf T q r
+  clip-one-tone p q same = ClipAnswers.clip-is T p r k monitored ∙ ap (clipAgainst (fillerPoint T r k)) same ∙ sym (ClipAnswers.clip-is T q r k monitored)
+
+-- Whatever the inputs, the register comes back as it was given,
+pub clip-register : (T : Tables) (xs ys : List ℤ) (r : ℕ) → clipCheck T xs ys r .register ≡ r
+clip-register = ClipAnswers.register-back
+
+-- a refusal tells no clip, its number 0 is never "straight", and what is not refused tells one.
+pub clip-refused : (T : Tables) (xs ys : List ℤ) (r : ℕ) → (clipNumber (clipCheck T xs ys r .clip) ≡ 0) ↔ (clipCheck T xs ys r .number ≢ 0)
+clip-refused = ClipAnswers.zero-refused
+
+pub clip-told : (T : Tables) (xs ys : List ℤ) (r : ℕ) → clipCheck T xs ys r .number ≡ 0 → clipCheck T xs ys r .clip ≡ some (clipOf T (points xs ys) r)
+clip-told = ClipAnswers.told
+
+-- Tables that are refused have the number and place of checking them.
+pub tables-clip : (T : Tables) (xs ys : List ℤ) (r : ℕ) → tableVerdict T .number ≢ 0
+    → (clipCheck T xs ys r .number ≡ tableVerdict T .number) × (clipCheck T xs ys r .place ≡ tableVerdict T .place)
+tables-clip = ClipAnswers.tables-refused
+
+-- In accepted tables, with any register:
+module _ (T : Tables) (ok : AcceptedTables T) (xs ys : List ℤ) (r : ℕ) where
+  -- A wrong length is ROOM;
+  pub room-clip : (RightLength T xs ys → ⊥) → clipVerdict T (length xs) (length ys) r ≡ refused 10 0
+  room-clip = ClipAnswers.room T ok xs ys r
+
+  -- where it does not apply, a register that is not valid is SEED,
+  pub seed-clip : RightLength T xs ys → (ValidRegister r → ⊥) → clipVerdict T (length xs) (length ys) r ≡ refused 12 0
+  seed-clip = ClipAnswers.seed T ok xs ys r
+
+  -- and there is no other refusal.
+  pub done-clip : RightLength T xs ys → ValidRegister r
+      → clipCheck T xs ys r ≡ record { number = 0; place = 0; clip = some (clipOf T (points xs ys) r); register = r }
+  done-clip = ClipAnswers.done T ok xs ys r

@@ -42,13 +42,13 @@ use Rattle.guarantees.proofs.Operations.{Passes, done, reading, reading
 use Rattle.guarantees.proofs.RoundTrip.{length-written, packed-frame, packed-bits, X-of, Y-of, encoded-xs, encoded-ys, encoded-right}
 use Rattle.guarantees.proofs.TurnedSymbol.{AllLoaded, loaded-classes, PointTurn, leaves, off-13, at-14, turned-reading}
 
-points-turned : (q : List Point) → points (turned (map (λ p. p .px) q)) (turned (map (λ p. p .py) q)) ≡ map negated q
+pub points-turned : (q : List Point) → points (turned (map (λ p. p .px) q)) (turned (map (λ p. p .py) q)) ≡ map negated q
 unfolding points
 points-turned [] = refl
 points-turned (p ∷ q) = ap (λ (l : List Point). negated p ∷ l) (points-turned q)
 
 -- half a turn of points: no point leaves its constellation
-abbrev halfPoint : PointTurn
+abbrev pub halfPoint : PointTurn
 halfPoint =
     record {
       labels = half;

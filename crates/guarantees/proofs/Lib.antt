@@ -1,4 +1,6 @@
 -- `Guarantees` is the front page; the others are its parts.
+pub mod ClipAnswers
+pub mod ClipFullWay
 pub mod Coded
 pub mod EntryBits
 pub mod Guarantees

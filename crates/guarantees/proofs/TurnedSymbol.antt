@@ -93,7 +93,7 @@ module _ (turn : PointTurn) where
     tone-off Silent d h l = rw (turn .still)
 
     -- a turned filler point is never the one that its bits give
-    filler-differs : samePoint (point (pointOf 2 (drawn 2 r))) (pointOf 2 (drawn 2 r)) ≡ false
+    pub filler-differs : samePoint (point (pointOf 2 (drawn 2 r))) (pointOf 2 (drawn 2 r)) ≡ false
     filler-differs = go (samePoint (point (pointOf 2 (drawn 2 r))) (pointOf 2 (drawn 2 r))) refl
       where
         go : (s : Bool) → samePoint (point (pointOf 2 (drawn 2 r))) (pointOf 2 (drawn 2 r)) ≡ s → s ≡ false

@@ -1,6 +1,7 @@
--- The words that the guarantees are stated with: document 01, "The words of demand 3", those of the sent bits, and those of received points.
+-- The words that the guarantees are stated with: document 01, "The words of demand 3", those of the sent bits, those of received points, and
+-- those of the clip check.
 use Prim.Native.Nat.{ℕ, zero, suc, _+_, _*_, _-_, _/_, _<_}
-use mathlib.Core.Bool.{Bool, false, not}
+use mathlib.Core.Bool.{Bool, true, false, not}
 use mathlib.Core.List.{List, [], _∷_, _++_, map}
 use mathlib.Core.Path.{_≡_}
 use lib.Dec.{ltb, eqb}
@@ -12,8 +13,11 @@ use Rattle.g9932.specs.Refusals.{tableVerdict, frameTest, seedTest}
 use Rattle.g9932.specs.Order.{Pair, pair, count, ones}
 use Rattle.g9932.specs.Trellis.{Word, zeroState, lastTwo, taken, lowBitsOf, nextOf, wordAt}
 use Rattle.g9932.specs.Filler.{resetRegister, drawn}
-use Rattle.g9932.specs.Symbol.{reorderedBitsOf, classesOf, load, pairsIn, sizeOf}
+use Rattle.g9932.specs.Symbol.{reorderedBitsOf, classesOf, load, pairsIn, sizeOf, writtenPoints}
+use Rattle.g9932.specs.Answers.{readAt}
 use Rattle.g9932.specs.declared.Class.the-variants.{Silent}
+use Rattle.g9932.specs.declared.Clip.{Clip}
+use Rattle.g9932.specs.declared.Clip.the-variants.{Straight, Turned, Neither, CannotTell}
 use Rattle.g9932.specs.declared.TrellisState.{TrellisState}
 
 -- Tables are accepted in a mode when none of 1 to 8 applies, a frame of bytes, from its start, when 11 doesn't. A register is valid
@@ -134,3 +138,35 @@ SameUnloaded T p q = (k : ℕ) → k < length (T .tones) → load (getD (classes
 -- and at the tones that carry data: at each loaded place in t'
 abbrev pub SameLoaded : Tables → List Point → List Point → Type 0
 SameLoaded T p q = (k : ℕ) → k < length (T .tones) → 0 < load (getD (classesOf T) k Silent) → getD p k origin ≡ getD q k origin
+
+-- ---- the clip check (request R-10)
+
+-- points that are a written symbol of these tables and this register: those of some accepted frame, from its start
+pub record WrittenSymbol (T : Tables) (r : ℕ) (X Y : List ℤ) : Type 0 where
+  pub start : ℕ
+  pub frame : List ℕ
+  pub frameAccepted : AcceptedFrame T start frame
+  pub xsAre : X ≡ map (λ p. p .px) (writtenPoints T r start frame)
+  pub ysAre : Y ≡ map (λ p. p .py) (writtenPoints T r start frame)
+
+-- or one turned by half a turn
+pub record TurnedSymbol (T : Tables) (r : ℕ) (X Y : List ℤ) : Type 0 where
+  pub xs : List ℤ
+  pub ys : List ℤ
+  pub written : WrittenSymbol T r xs ys
+  pub xsAre : X ≡ turned xs
+  pub ysAre : Y ≡ turned ys
+
+-- The full way: read the points as they are, then with all signs changed, each time from the given register, and see which is accepted.
+-- Where both are, they do not tell.
+abbrev pub isRead : Tables → List ℤ → List ℤ → ℕ → ℕ → List ℕ → Bool
+isRead T X Y r start f₀ = eqb (readAt T X Y r start f₀ .report .verdict .number) 0
+
+abbrev pub byReadings : Bool → Bool → Clip
+byReadings true true = CannotTell
+byReadings true false = Straight
+byReadings false true = Turned
+byReadings false false = Neither
+
+abbrev pub fullWay : Tables → List ℤ → List ℤ → ℕ → ℕ → List ℕ → Clip
+fullWay T X Y r start f₀ = byReadings (isRead T X Y r start f₀) (isRead T (turned X) (turned Y) r start f₀)

@@ -1,0 +1,136 @@
+-- What the clip check answers by what it is given, and what it tells by the first monitored tone.
+use Prim.Native.Nat.{ℕ}
+use mathlib.Core.Bool.{Bool, true, false, not, _||_, cond, not-eq-not}
+use mathlib.Core.List.{List}
+use mathlib.Core.Logic.{_↔_, _≢_}
+use mathlib.Core.Option.{Option, none, some}
+use mathlib.Core.Path.{_≡_, refl, sym, ap, _∙_}
+use native.Mathlib.Omega.{arith}
+use borrow.Author.Tests.{eq-eqb, ne-eqb, eqb-true, eqb-false}
+use lib.Dec.{eqb}
+use lib.IntN.{ℤ}
+use lib.ListN.{length, take, getD}
+use Rattle.g9932.specs.Clip.{clipBy, clipAgainst, fillerPoint, clipAt, clipOf, clipInputs, clipVerdict, ClipReport, clipReportBy, clipCheck, clipNumber}
+use Rattle.g9932.specs.Filler.{drawn, registerAfter}
+use Rattle.g9932.specs.Points.{pointOf, negated, samePoint}
+use Rattle.g9932.specs.Refusals.{Verdict, accepted, refused, verdictBy, andThen, seedTest, tableVerdict}
+use Rattle.g9932.specs.Sizes.{Tables, Point, origin, points}
+use Rattle.g9932.specs.Symbol.{classesOf, firstMonitored}
+use Rattle.g9932.specs.declared.Clip.{Clip}
+use Rattle.g9932.specs.declared.Clip.the-variants.{Straight, Turned, Neither, CannotTell}
+use Rattle.g9932.specs.declared.Found.{Found}
+use Rattle.g9932.specs.declared.Found.the-variants.{At, Nothing}
+use Rattle.g9932.specs.declared.Refusal.the-variants.{Room, Seed}
+use Rattle.g9932.proofs.Constellations.{samePoint-self, samePoint→eq}
+use Rattle.g9932.proofs.Search.{found-not}
+use Rattle.g9932.proofs.Verdicts.{test-here, test-past, and-past}
+use Rattle.guarantees.specs.Words.{AcceptedTables, ValidRegister, RightLength}
+use Rattle.guarantees.proofs.HalfTurn.{halfPoint}
+use Rattle.guarantees.proofs.Operations.{exact-lists, lists-fit}
+use Rattle.guarantees.proofs.TurnedSymbol.{filler-differs}
+
+-- ---- whatever the inputs
+
+-- no clip has number 0
+abbrev numberIn : Clip → ℕ
+numberIn c = clipNumber (some c)
+
+number-not : (c : Clip) → numberIn c ≢ 0
+number-not Straight e = omega arith
+number-not Turned e = omega arith
+number-not Neither e = omega arith
+number-not CannotTell e = omega arith
+
+module _ (T : Tables) (xs ys : List ℤ) (r : ℕ) where
+  abbrev answer : ClipReport
+  answer = clipCheck T xs ys r
+
+  pub register-back : answer .register ≡ r
+  unfolding clipReportBy
+  register-back = refl
+
+  pub told : answer .number ≡ 0 → answer .clip ≡ some (clipOf T (points xs ys) r)
+  unfolding clipReportBy
+  told e = rw (eq-eqb (answer .number) 0 e)
+
+  pub not-told : answer .number ≢ 0 → answer .clip ≡ none
+  unfolding clipReportBy
+  not-told h = rw (ne-eqb (answer .number) 0 h)
+
+  pub zero-refused : (clipNumber (answer .clip) ≡ 0) ↔ (answer .number ≢ 0)
+  zero-refused = (λ z e. number-not (clipOf T (points xs ys) r) (sym (ap clipNumber (told e)) ∙ z), λ h. ap clipNumber (not-told h))
+
+  pub tables-refused : tableVerdict T .number ≢ 0 → (answer .number ≡ tableVerdict T .number) × (answer .place ≡ tableVerdict T .place)
+  unfolding clipReportBy clipVerdict andThen
+  tables-refused h = rw (ne-eqb (tableVerdict T .number) 0 h) (refl, refl)
+
+-- ---- in accepted tables
+
+module _ (T : Tables) (ok : AcceptedTables T) (xs ys : List ℤ) (r : ℕ) where
+  abbrev verdict : Verdict
+  verdict = clipVerdict T (length xs) (length ys) r
+
+  pub room : (RightLength T xs ys → ⊥) → verdict ≡ refused 10 0
+  unfolding clipVerdict clipInputs
+  room wrong = sym (and-past (tableVerdict T) ok (test-here 10 _ (not-eq-not {b = true} .0 (λ e. wrong (exact-lists T ok xs ys 0 r e)))))
+
+  module _ (right : RightLength T xs ys) where
+    pub seed : (ValidRegister r → ⊥) → verdict ≡ refused 12 0
+    unfolding clipVerdict clipInputs
+    seed bad = sym (and-past (tableVerdict T) ok (test-past 10 (lists-fit T ok xs ys 0 r right) (test-here 12 _ (not-eq-not {b = true} .0 bad))))
+
+    pub done : ValidRegister r → clipCheck T xs ys r ≡ record { number = 0; place = 0; clip = some (clipOf T (points xs ys) r); register = r }
+    unfolding clipReportBy clipVerdict clipInputs
+    done valid =
+        let v : accepted 0 ≡ verdict = and-past (tableVerdict T) ok (test-past 10 (lists-fit T ok xs ys 0 r right) (test-past 12 valid refl)) in
+        ap (λ (v : Verdict). clipReportBy v (clipOf T (points xs ys) r) r) (sym v)
+
+-- ---- which way round
+
+by-straight : (a b : Bool) → clipBy a b ≡ Straight → a ≡ true
+by-straight true b e = refl
+by-straight false true e = absurd (let z : _≡_ {A = ℕ} 1 2 = ap numberIn (sym e) in omega arith)
+by-straight false false e = absurd (let z : _≡_ {A = ℕ} 1 3 = ap numberIn (sym e) in omega arith)
+
+by-turned : (a b : Bool) → clipBy a b ≡ Turned → b ≡ true
+by-turned true b e = absurd (let z : _≡_ {A = ℕ} 1 2 = ap numberIn e in omega arith)
+by-turned false true e = refl
+by-turned false false e = absurd (let z : _≡_ {A = ℕ} 3 2 = ap numberIn e in omega arith)
+
+by-tells : (a b : Bool) → clipBy a b ≢ CannotTell
+by-tells true b e = let z : _≡_ {A = ℕ} 1 4 = ap numberIn e in omega arith
+by-tells false true e = let z : _≡_ {A = ℕ} 2 4 = ap numberIn e in omega arith
+by-tells false false e = let z : _≡_ {A = ℕ} 3 4 = ap numberIn e in omega arith
+
+module _ (T : Tables) (q : List Point) (r : ℕ) where
+  pub cannot-tell : (clipOf T q r ≡ CannotTell) ↔ (firstMonitored T ≡ Nothing)
+  unfolding clipOf
+  cannot-tell = (λ e. go (firstMonitored T) refl e, λ e. ap (clipAt T q r) e)
+    where
+      go : (f : Found) → firstMonitored T ≡ f → clipAt T q r f ≡ CannotTell → firstMonitored T ≡ Nothing
+      go Nothing m e = m
+      go (At k) m e = absurd (by-tells (samePoint (getD q k origin) (fillerPoint T r k)) (samePoint (getD q k origin) (negated (fillerPoint T r k))) e)
+
+  module _ (k : ℕ) (m : firstMonitored T ≡ At k) where
+    abbrev filler : Point
+    filler = fillerPoint T r k
+
+    pub clip-is : clipOf T q r ≡ clipAgainst filler (getD q k origin)
+    unfolding clipOf
+    clip-is = ap (clipAt T q r) m
+
+    -- the opposite point is another one
+    differs : samePoint (negated filler) filler ≡ false
+    differs = filler-differs halfPoint (registerAfter r (take k (classesOf T)))
+
+    pub straight : (clipOf T q r ≡ Straight) ↔ (getD q k origin ≡ filler)
+    straight = (
+      λ e. samePoint→eq (getD q k origin) filler (by-straight (samePoint (getD q k origin) filler) (samePoint (getD q k origin) (negated filler)) (sym clip-is ∙ e)),
+      λ e. clip-is ∙ rw (e, samePoint-self filler),
+    )
+
+    pub turned : (clipOf T q r ≡ Turned) ↔ (getD q k origin ≡ negated filler)
+    turned = (
+      λ e. samePoint→eq (getD q k origin) (negated filler) (by-turned (samePoint (getD q k origin) filler) (samePoint (getD q k origin) (negated filler)) (sym clip-is ∙ e)),
+      λ e. clip-is ∙ rw (e, differs, samePoint-self (negated filler)),
+    )
