@@ -52,12 +52,13 @@ fn try_clip(tables: &Tables, x: &[i16], y: &[i16], reg: u32) -> Result<u32, Refu
 /// Its place in t', and how many silent tones are before it. 1-bit tones are all behind it there. Only a
 /// silent tone of accepted tables has no gain.
 fn first_monitored(tables: &Tables) -> Option<(usize, usize)> {
+    // of one length, so that one test of an index serves both
+    let g = tables.bits.len();
+    let (bits, gains) = (&tables.bits[..g], &tables.gains[..g]);
     let (mut place, mut silent) = (0, 0);
     for &tone in tables.tones {
-        let (b, gain) = (
-            tables.bits[usize::from(tone)],
-            tables.gains[usize::from(tone)],
-        );
+        let tone = usize::from(tone);
+        let (b, gain) = (bits[tone], gains[tone]);
         if (b == 0) & (gain > 0) {
             return Some((place, silent));
         }
