@@ -26,7 +26,8 @@ SOURCES := crates.txt $(shell find crates -mindepth 2 -name must-fail -prune -o 
 HEADERS := include/clevisroot.h include/clevisroot_names.h
 VERSION := $(shell sed -n 's/.*CLEVISROOT_VERSION_TEXT "\(.*\)"/\1/p' include/clevisroot.h)
 BUILD := target/c
-TESTS := calls refusals null guarded threads tally
+TESTS := calls refusals null guarded threads tally clip_check
+EXAMPLES := pair_report clip
 
 .PHONY: all install uninstall programs check
 all: $(ARCHIVE)
@@ -59,12 +60,12 @@ uninstall:
 
 # ---- testing; the archive itself is not instrumented, see tests/c/guarded.c
 
-programs: $(TESTS:%=$(BUILD)/%) $(BUILD)/stack $(BUILD)/symbol-c $(BUILD)/symbol-cpp $(BUILD)/pair_report
+programs: $(TESTS:%=$(BUILD)/%) $(BUILD)/stack $(BUILD)/symbol-c $(BUILD)/symbol-cpp $(EXAMPLES:%=$(BUILD)/%)
 
 check: programs
 	@for test in $(TESTS) stack; do $(BUILD)/$$test || exit 1; done
 	@for example in symbol-c symbol-cpp; do $(BUILD)/$$example | diff - tests/c/symbol.stdout || exit 1; done
-	@$(BUILD)/pair_report | diff - tests/c/pair_report.stdout
+	@for example in $(EXAMPLES); do $(BUILD)/$$example | diff - tests/c/$$example.stdout || exit 1; done
 
 $(BUILD)/%: tests/c/%.c tests/c/test.h $(HEADERS) $(ARCHIVE)
 	@mkdir -p $(@D)
@@ -79,7 +80,7 @@ $(BUILD)/symbol-c: examples/symbol.c $(HEADERS) $(ARCHIVE)
 	@mkdir -p $(@D)
 	$(CC) -std=c11 $(WARNINGS) $(CFLAGS) $(SANITIZE) -Iinclude $< $(ARCHIVE) -o $@
 
-$(BUILD)/pair_report: examples/pair_report.c $(HEADERS) $(ARCHIVE)
+$(EXAMPLES:%=$(BUILD)/%): $(BUILD)/%: examples/%.c $(HEADERS) $(ARCHIVE)
 	@mkdir -p $(@D)
 	$(CC) -std=c11 $(WARNINGS) $(CFLAGS) $(SANITIZE) -Iinclude $< $(ARCHIVE) -o $@
 

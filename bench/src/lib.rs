@@ -1,5 +1,6 @@
 //! The peer that the static library is measured against, the workloads, the timing, and error rates.
 
+pub mod clips;
 pub mod counting;
 pub mod load;
 pub mod noise;

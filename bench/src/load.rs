@@ -13,8 +13,18 @@ pub struct Load {
     pub bits: (u8, u8),
     /// Whether one tone in two is silent, whatever the bit counts.
     pub half_silent: bool,
+    pub monitored: Monitored,
     /// Table sets in turn, another for each symbol.
     pub sets: usize,
+}
+
+/// Which tones without bits are monitored; the others are silent.
+#[derive(Clone, Copy, PartialEq, Eq)]
+pub enum Monitored {
+    Half,
+    /// The last tone of t, whatever its bit count.
+    LastOnly,
+    Nothing,
 }
 
 pub const LOADS: [Load; 6] = [
@@ -47,6 +57,7 @@ const fn load(name: &'static str, coded: u8, bits: (u8, u8)) -> Load {
         coded,
         bits,
         half_silent: false,
+        monitored: Monitored::Half,
         sets: 1,
     }
 }
@@ -60,7 +71,7 @@ pub struct OwnTables {
 
 impl OwnTables {
     /// So many tones in shuffled order. Of those without bits half are monitored, but for the tones
-    /// that the load makes silent.
+    /// that the load makes silent and what it says of monitored ones.
     pub fn random(random: &mut Random, load: Load, nsc: usize) -> OwnTables {
         let (first, last) = (usize::from(load.bits.0), usize::from(load.bits.1));
         let mut bits: Vec<u8> = (0..nsc).map(|_| random.within(first, last) as u8).collect();
@@ -74,11 +85,32 @@ impl OwnTables {
         }
         let mut tones: Vec<u16> = (0..nsc as u16).collect();
         random.shuffle(&mut tones);
-        OwnTables {
+        let mut tables = OwnTables {
             coded: load.coded,
             bits,
             gains,
             tones,
+        };
+        tables.keep_monitored(load.monitored);
+        tables
+    }
+
+    /// Makes the other tones without bits silent.
+    fn keep_monitored(&mut self, monitored: Monitored) {
+        if monitored == Monitored::Half {
+            return;
+        }
+        for (gain, _) in self
+            .gains
+            .iter_mut()
+            .zip(&self.bits)
+            .filter(|(_, &b)| b == 0)
+        {
+            *gain = 0;
+        }
+        if let (Monitored::LastOnly, Some(&last)) = (monitored, self.tones.last()) {
+            let last = usize::from(last);
+            (self.bits[last], self.gains[last]) = (0, 512);
         }
     }
 

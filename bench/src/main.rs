@@ -2,7 +2,7 @@
 //! `bench noise [--quick] FILE`: how often frames are read wrong against noise, as text and as a picture.
 
 use bench::noise::{self, Curve, WAYS};
-use bench::report::{print_counting, print_scaling, print_starts, print_symbols};
+use bench::report::{print_clips, print_counting, print_scaling, print_starts, print_symbols};
 use bench::timing::Effort;
 use std::process::ExitCode;
 use std::time::Duration;
@@ -52,6 +52,8 @@ fn print_times(effort: Effort) {
     print_scaling(effort);
     println!();
     print_counting(effort);
+    println!();
+    print_clips(effort);
 }
 
 fn draw_noise(effort: noise::Effort, file: &str) -> ExitCode {

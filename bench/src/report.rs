@@ -1,5 +1,6 @@
-//! The four tables that a run prints.
+//! The five tables that a run prints.
 
+use crate::clips::{Check, ClipCheck, CLIP_LOADS};
 use crate::counting::{CountRead, Counting, Wrong};
 use crate::load::{Load, LOADS, MIXED, UNCODED};
 use crate::peer;
@@ -169,6 +170,73 @@ fn measure_counting(effort: Effort, bytes: usize, wrong: Wrong) -> Measured<2> {
     assert!(alike, "the library and the peer differ: {bytes} bytes");
     let cycle = counting.cycle();
     measure(effort, cycle, counts, |count| counting.count(count))
+}
+
+/// The clip check by where the first monitored tone is, and how much of reading the same symbol and of
+/// checking its tables the library takes for it.
+pub fn print_clips(effort: Effort) {
+    println!("time of the clip check of 4096 tones, and its share of reading and of checking them");
+    println!(
+        "{:<34}{:>9}{:>12}{:>14}{:>15}{:>10}{:>11}",
+        "", "library", "peer", "library/peer", "middle half", "of read", "of check"
+    );
+    let (mut of_read, mut of_check): (f64, f64) = (0.0, 0.0);
+    for load in CLIP_LOADS {
+        let measured = measure_clips(effort, load, 4096);
+        print_clip(load, &measured);
+        of_read = of_read.max(measured.ratio(LIBRARY, READ).median);
+        of_check = of_check.max(measured.ratio(LIBRARY, CHECK).median);
+    }
+    println!(
+        "the clip check by the library takes {:.1} % of reading at most, and {:.1} % of checking",
+        100.0 * of_read,
+        100.0 * of_check
+    );
+}
+
+fn print_clip(load: Load, measured: &Measured<4>) {
+    let ratio = measured.ratio(LIBRARY, PEER);
+    println!(
+        "{:<34}{:>6.1} us{:>9.1} us{:>14.2}{:>15}{:>8.1} %{:>9.1} %",
+        load.name,
+        1e6 * measured.median(LIBRARY),
+        1e6 * measured.median(PEER),
+        ratio.median,
+        middle_half(&ratio),
+        100.0 * measured.ratio(LIBRARY, READ).median,
+        100.0 * measured.ratio(LIBRARY, CHECK).median,
+    );
+}
+
+/// A side of the clip check's measurement.
+#[derive(Clone, Copy)]
+enum Asked {
+    Clip(ClipCheck),
+    Read(Read),
+    Check(Check),
+}
+
+/// The library's other calls on the same symbols, after [`LIBRARY`] and [`PEER`].
+const READ: usize = 2;
+const CHECK: usize = 3;
+
+/// Both clip checks, and the library's reading and checking, once the first are seen to agree.
+fn measure_clips(effort: Effort, load: Load, nsc: usize) -> Measured<4> {
+    let clip_checks: [ClipCheck; 2] = [clevisroot_sys::clip_check, peer::clip_check];
+    let mut workload = Workload::new(load, nsc);
+    let alike = workload.agree_clips(clip_checks);
+    assert!(alike, "the library and the peer differ: {}", load.name);
+    let sides = [
+        Asked::Clip(clip_checks[LIBRARY]),
+        Asked::Clip(clip_checks[PEER]),
+        Asked::Read(clevisroot_sys::read),
+        Asked::Check(clevisroot_sys::check),
+    ];
+    measure(effort, workload.cycle(), sides, |side| match side {
+        Asked::Clip(clip_check) => workload.clip_check(clip_check).clip,
+        Asked::Read(read) => workload.read(read).size,
+        Asked::Check(check) => workload.check(check).size,
+    })
 }
 
 /// The calls that run once a symbol, each by both sides.

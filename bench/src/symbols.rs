@@ -41,6 +41,15 @@ impl Points {
         }
     }
 
+    /// The same by half a turn.
+    pub fn turned(&self) -> Points {
+        let negated = |list: &Vec<i16>| list.iter().map(|coordinate| -coordinate).collect();
+        Points {
+            x: negated(&self.x),
+            y: negated(&self.y),
+        }
+    }
+
     /// The same with noise at every place: all that a coordinate can be off are as likely.
     fn with_noise(&self, random: &mut Random) -> Points {
         let mut received = self.clone();

@@ -13,7 +13,7 @@ pub type ReadAt = fn(Tables, &[i16], &[i16], u32, &mut [u8], u8) -> Answer;
 pub type ReadNearest = fn(Tables, &[i16], &[i16], u32, &mut [u8], u8, &mut [u8]) -> Nearest;
 
 /// What encoding and reading write to, with room for the longest frame and the largest working buffer.
-struct Output {
+pub(crate) struct Output {
     frame: Vec<u8>,
     points: Points,
     work: Vec<u8>,
@@ -49,7 +49,7 @@ impl Workload {
     }
 
     /// The next symbol with its tables, and what to write to.
-    fn step(&mut self) -> (Tables<'_>, &Symbol, &mut Output) {
+    pub(crate) fn step(&mut self) -> (Tables<'_>, &Symbol, &mut Output) {
         self.next = (self.next + 1) % self.cycle();
         let (tables, symbol) = symbol_at(&self.sets, self.next);
         (tables.lent(), symbol, &mut self.out)

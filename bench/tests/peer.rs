@@ -1,10 +1,11 @@
 //! The peer against the reference, on the cases of the differential test.
 
 use bench::peer;
-use clevisroot_sys::{Answer, Drawn, Label, Nearest, Point, Tables, Tallied, Tally};
+use clevisroot_sys::{Answer, Clip, Drawn, Label, Nearest, Point, Tables, Tallied, Tally};
 use difftest::compare::Comparison;
 use difftest::coverage::Coverage;
 use difftest::exhaustive::{few_frames, largest_symbols, one_tone};
+use difftest::first_monitored::{behind_any, every_coordinate};
 use difftest::rows::{every_byte, every_length};
 use difftest::run::random_cases;
 use difftest::tally::long_run;
@@ -72,6 +73,18 @@ impl Core for Peer {
         peer::read_nearest(tables, x, y, reg, frame, start, work)
     }
 
+    fn clip_check(
+        &self,
+        bits: &[u8],
+        gains: &[u16],
+        tones: &[u16],
+        x: &[i16],
+        y: &[i16],
+        reg: u32,
+    ) -> Clip {
+        peer::clip_check(bits, gains, tones, x, y, reg)
+    }
+
     fn map_label(&self, bits: u8, label: u32) -> Point {
         peer::map_label(bits, label)
     }
@@ -107,6 +120,8 @@ fn peer_answers_as_the_reference() {
     few_frames(&mut comparison).unwrap();
     largest_symbols(&mut comparison).unwrap();
     random_cases(&mut comparison, 20_000, 7).unwrap();
+    every_coordinate(&mut comparison).unwrap();
+    behind_any(&mut comparison).unwrap();
     every_length(&mut comparison).unwrap();
     every_byte(&mut comparison).unwrap();
     long_run(&mut comparison, 7).unwrap();

@@ -1,5 +1,6 @@
 //! Which numbers came from which operation, and whether all that must come did.
 
+use crate::clips::Clips;
 use crate::decisions::Decisions;
 use crate::starts::{Causes, Starts};
 use crate::tallied::Tallied;
@@ -15,6 +16,7 @@ pub enum Operation {
     Read,
     ReadAt,
     ReadNearest,
+    ClipCheck,
     MapLabel,
     ReadPoint,
     Draw,
@@ -25,7 +27,7 @@ pub enum Operation {
 
 use Operation::*;
 
-const OPERATIONS: [Operation; 13] = [
+const OPERATIONS: [Operation; 14] = [
     Check,
     Reorder,
     Encode,
@@ -33,6 +35,7 @@ const OPERATIONS: [Operation; 13] = [
     Read,
     ReadAt,
     ReadNearest,
+    ClipCheck,
     MapLabel,
     ReadPoint,
     Draw,
@@ -55,6 +58,7 @@ impl Operation {
             Read => "read",
             ReadAt => "read_at",
             ReadNearest => "read_nearest",
+            ClipCheck => "clip_check",
             MapLabel => "map_label",
             ReadPoint => "read_point",
             Draw => "draw",
@@ -73,6 +77,7 @@ impl Operation {
             Read => (DONE..=FEW).chain([ROOM]).chain(SEED..=TRELLIS).collect(),
             ReadAt => (DONE..=FEW).chain(ROOM..=TRELLIS).collect(),
             ReadNearest => (DONE..=FEW).chain(ROOM..=SEED).chain([RANGE]).collect(),
+            ClipCheck => (DONE..=FEW).chain([ROOM, SEED]).collect(),
             MapLabel => vec![DONE, LABEL],
             ReadPoint => vec![DONE, OFFGRID, LABEL],
             Draw => vec![DONE, SEED],
@@ -94,6 +99,7 @@ pub struct Coverage {
     /// Of frames that encoding refused.
     pub refused: Causes,
     pub decisions: Decisions,
+    pub clips: Clips,
     pub tallied: Tallied,
 }
 
@@ -122,7 +128,7 @@ impl Coverage {
 
     /// Every number an operation can give turned up, and no other, and so did every outcome for a
     /// monitored tone behind a silent one, every start, every cause to refuse a frame, and every
-    /// outcome of nearest reading and of tallies.
+    /// outcome of nearest reading, of the clip check and of tallies.
     pub fn verdict(&self) -> Result<(), String> {
         for operation in OPERATIONS {
             for (number, &count) in (DONE..).zip(&self.counts[operation as usize]) {
@@ -150,6 +156,7 @@ impl Coverage {
         self.nearest.verdict("read as the nearest")?;
         self.refused.verdict()?;
         self.decisions.verdict()?;
+        self.clips.verdict()?;
         self.tallied.verdict()
     }
 }
@@ -184,6 +191,7 @@ impl fmt::Display for Coverage {
         )?;
         write!(f, "\nframes refused for their {}", self.refused)?;
         write!(f, "\nnearest reading: {}", self.decisions)?;
+        write!(f, "\nthe clip check: {}", self.clips)?;
         write!(f, "\ntallies: {}", self.tallied)
     }
 }

@@ -1,13 +1,17 @@
 //! Differential tests: an implementation of the calls against the reference.
 //!
 //! [`run::random_cases`] and [`exhaustive`] compare number, place, size, register and the whole of
-//! every lent buffer, on success and on refusal; of nearest reading what the rules fix ([`nearest`]).
+//! every lent buffer, on success and on refusal; of nearest reading what the rules fix ([`nearest`]). The
+//! clip check is held to the implementation's own readings, too ([`clip`]).
 
+pub mod clip;
+pub mod clips;
 pub mod compare;
 pub mod coverage;
 pub mod decisions;
 pub mod entries;
 pub mod exhaustive;
+pub mod first_monitored;
 pub mod inputs;
 pub mod lent;
 pub mod nearest;
@@ -21,4 +25,5 @@ pub mod starts;
 pub mod tables;
 pub mod tallied;
 pub mod tally;
+pub mod turned;
 pub mod under_test;

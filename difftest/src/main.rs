@@ -1,10 +1,11 @@
 //! `difftest [CASES] [SEED]`: the static library against the reference. Exit 1 on a mismatch, or
 //! if a number that an operation can give never came, or a start, a fault of a frame, or an outcome of
-//! nearest reading or of a tally.
+//! nearest reading, of the clip check or of a tally.
 
 use difftest::compare::Comparison;
 use difftest::coverage::Coverage;
 use difftest::exhaustive::{few_frames, largest_symbols, one_tone};
+use difftest::first_monitored::{behind_any, every_coordinate};
 use difftest::rows::{every_byte, every_length};
 use difftest::run::random_cases;
 use difftest::tally::{largest_figures, long_run};
@@ -48,6 +49,8 @@ fn run(cases: u64, seed: u64) -> Result<(), String> {
     let exhaustive = one_tone(&mut comparison, 15)
         .and_then(|()| few_frames(&mut comparison))
         .and_then(|()| largest_symbols(&mut comparison))
+        .and_then(|()| every_coordinate(&mut comparison))
+        .and_then(|()| behind_any(&mut comparison))
         .and_then(|()| every_length(&mut comparison))
         .and_then(|()| every_byte(&mut comparison))
         .and_then(|()| largest_figures(&mut comparison));

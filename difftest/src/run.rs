@@ -1,5 +1,6 @@
 //! The random cases: each draws tables and makes every call at least once.
 
+use crate::clip::coded;
 use crate::compare::{Comparison, Mismatch};
 use crate::entries::{random_entry, random_tally};
 use crate::inputs::{random_bits, random_frame, random_label, random_point};
@@ -9,6 +10,7 @@ use crate::random::Random;
 use crate::received::random_received;
 use crate::tables::{random_tables, GivenTables};
 use crate::tallied::Origin;
+use crate::turned::random_asked;
 use reference::forms::frame_bytes;
 use reference::words::lists_of;
 
@@ -37,7 +39,8 @@ fn run_case(comparison: &mut Comparison, random: &mut Random) -> Result<(), Mism
     }
     nearest_case(comparison, random, &given)?;
     one_tone_case(comparison, random)?;
-    tally_case(comparison, random)
+    tally_case(comparison, random)?;
+    clip_case(comparison, random, &given)
 }
 
 fn encode_case(
@@ -114,4 +117,14 @@ fn tally_case(comparison: &mut Comparison, random: &mut Random) -> Result<(), Mi
     let (_, between) = comparison.tally_entry((&before, Origin::Outside), &entries[0])?;
     comparison.tally_entry((&between, Origin::Outside), &entries[1])?;
     Ok(())
+}
+
+fn clip_case(
+    comparison: &mut Comparison,
+    random: &mut Random,
+    given: &GivenTables,
+) -> Result<(), Mismatch> {
+    let given = coded(given);
+    let asked = random_asked(random, &given.tables);
+    comparison.clip_check(&given, &asked)
 }

@@ -1,6 +1,6 @@
 //! What is held against the reference.
 
-use clevisroot_sys::{Answer, Drawn, Label, Nearest, Point, Tables, Tallied, Tally};
+use clevisroot_sys::{Answer, Clip, Drawn, Label, Nearest, Point, Tables, Tallied, Tally};
 
 /// The calls of include/clevisroot.h.
 pub trait Core {
@@ -43,6 +43,15 @@ pub trait Core {
         start: u8,
         work: &mut [u8],
     ) -> Nearest;
+    fn clip_check(
+        &self,
+        bits: &[u8],
+        gains: &[u16],
+        tones: &[u16],
+        x: &[i16],
+        y: &[i16],
+        reg: u32,
+    ) -> Clip;
     fn map_label(&self, bits: u8, label: u32) -> Point;
     fn read_point(&self, bits: u8, x: i16, y: i16) -> Label;
     fn draw(&self, reg: u32) -> Drawn;
@@ -112,6 +121,18 @@ impl Core for Library {
         work: &mut [u8],
     ) -> Nearest {
         clevisroot_sys::read_nearest(tables, x, y, reg, frame, start, work)
+    }
+
+    fn clip_check(
+        &self,
+        bits: &[u8],
+        gains: &[u16],
+        tones: &[u16],
+        x: &[i16],
+        y: &[i16],
+        reg: u32,
+    ) -> Clip {
+        clevisroot_sys::clip_check(bits, gains, tones, x, y, reg)
     }
 
     fn map_label(&self, bits: u8, label: u32) -> Point {

@@ -3,6 +3,7 @@
 //!
 //! The calls are in [`operations`]. Each answers for all inputs.
 
+pub mod clip;
 pub mod coding;
 pub mod figures;
 pub mod filler;
@@ -17,5 +18,5 @@ pub mod tally;
 pub mod words;
 
 pub use forms::{Mode, Tables};
-pub use operations::{check, draw, encode, encode_at, map_label, read, read_at, read_nearest};
-pub use operations::{read_point, reorder, tally_entry, tally_new, Answer};
+pub use operations::{check, clip_check, draw, encode, encode_at, map_label, read, read_at};
+pub use operations::{read_nearest, read_point, reorder, tally_entry, tally_new, Answer};

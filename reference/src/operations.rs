@@ -1,8 +1,9 @@
 //! The calls: which refusals each uses, in the order in which it tests them, and what each answers.
 
+use crate::clip::{clip_of, Clip};
 use crate::filler::{register_valid, Filler};
 use crate::forms::{bits_of_frame, frame_accepted, frame_bytes, frame_of_bits};
-use crate::forms::{start_accepted, Tables};
+use crate::forms::{start_accepted, Mode, Tables};
 use crate::nearest::{nearest_bits, test_range, work_bytes};
 use crate::points::{constellation, label_of, Point};
 use crate::refusals::{refuse_if, test_tables, Refusal};
@@ -15,7 +16,7 @@ use crate::tally::{figures_of, Entry, Tally};
 pub struct Answer<C> {
     pub number: u32,
     pub place: u32,
-    /// L, 0 on refusal, in the one-tone calls and those of a tally.
+    /// L, 0 on refusal, in the clip check, the one-tone calls and those of a tally.
     pub size: u32,
     /// The register after the draws, as given on refusal, 0 where none was given.
     pub register: u32,
@@ -163,6 +164,23 @@ pub fn read_nearest(
         let (bits, total) = nearest_bits(tables, &received);
         let (_, after) = write_points(tables, &bits, register);
         Ok((l, after, (frame_of_bits(&bits, start), total)))
+    };
+    answer(register, outcome())
+}
+
+/// What the first monitored tone tells of the clip: 1 to 8, 10 and 12. The tables are coded whatever
+/// their mode says, and the register comes back as it was given.
+pub fn clip_check(tables: &Tables, x: &[i16], y: &[i16], register: u32) -> Answer<Clip> {
+    let tables = &Tables {
+        mode: Mode::Coded,
+        ..tables.clone()
+    };
+    let outcome = || {
+        test_tables(tables)?;
+        let nsc = tables.nsc();
+        refuse_if(x.len() != nsc || y.len() != nsc, Refusal::Room)?;
+        refuse_if(!register_valid(register), Refusal::Seed)?;
+        Ok((0, register, clip_of(tables, x, y, register)))
     };
     answer(register, outcome())
 }

@@ -1,6 +1,6 @@
 /*
- * Every function where it is done, but for those of a tally (tally.c): the bench figures, frames from
- * every start, and what the header writes out in C.
+ * Every function where it is done, but for those of a tally (tally.c) and the clip check
+ * (clip_check.c): the bench figures, frames from every start, and what the headers write out in C.
  */
 #include "test.h"
 
@@ -302,6 +302,11 @@ static void header(void)
     CHECK(strcmp(clevisroot_refusal_name(CLEVISROOT_RANGE), "RANGE") == 0);
     CHECK(strcmp(clevisroot_refusal_name(24), "UNKNOWN") == 0);
     CHECK(strcmp(clevisroot_refusal_name(UINT32_MAX), "UNKNOWN") == 0);
+    CHECK(strcmp(clevisroot_clip_name(CLEVISROOT_CLIP_STRAIGHT), "STRAIGHT") == 0);
+    CHECK(strcmp(clevisroot_clip_name(CLEVISROOT_CLIP_CANT_TELL), "CANT_TELL") == 0);
+    CHECK(strcmp(clevisroot_clip_name(0), "UNKNOWN") == 0);
+    CHECK(strcmp(clevisroot_clip_name(5), "UNKNOWN") == 0);
+    CHECK(strcmp(clevisroot_clip_name(UINT32_MAX), "UNKNOWN") == 0);
 }
 
 int main(void)

@@ -1,7 +1,7 @@
 /*
- * Symbols there and back, and counted, with every lent buffer against a page that nobody may touch:
- * first with the page before its start, then behind its end. A load or store outside a buffer ends the
- * program, also in the archive, which the sanitizers do not see into.
+ * Symbols there and back, asked for the clip, and counted, with every lent buffer against a page that
+ * nobody may touch: first with the page before its start, then behind its end. A load or store outside a
+ * buffer ends the program, also in the archive, which the sanitizers do not see into.
  */
 #define _DEFAULT_SOURCE
 #include "test.h"
@@ -143,6 +143,25 @@ static void nearest_at(uint32_t *random, const table_set *set, uint32_t size, ui
     CHECK(near.total <= total);
 }
 
+/* A symbol asked for the clip, as it is and turned. */
+static void clip_of(uint32_t *random, const table_set *set, uint32_t size)
+{
+    size_t n = set->tones_len, bytes = clevisroot_frame_bytes(size), monitored = 0;
+    uint8_t *frame = (uint8_t *)lend(p_frame, bytes);
+    int16_t *x = (int16_t *)lend(p_x, 2 * n), *y = (int16_t *)lend(p_y, 2 * n);
+    uint32_t reg = 1 + next_random(random) % CLEVISROOT_RESET;
+    random_frame(random, frame, size, 0);
+    clevisroot_encode(TABLES(set), frame, bytes, reg, x, n, y, n);
+    for (size_t k = 0; k < n; k++)
+        monitored += set->bits[k] == 0 && set->gains[k] > 0;
+    hold_clip(set, x, n, y, n, reg, CLEVISROOT_DONE, 0,
+              monitored ? CLEVISROOT_CLIP_STRAIGHT : CLEVISROOT_CLIP_CANT_TELL);
+    turn(x, n);
+    turn(y, n);
+    hold_clip(set, x, n, y, n, reg, CLEVISROOT_DONE, 0,
+              monitored ? CLEVISROOT_CLIP_TURNED : CLEVISROOT_CLIP_CANT_TELL);
+}
+
 /* One symbol there and back; false if the tables are refused, as too few. */
 static int symbol(uint32_t *random, uint8_t coded, size_t n)
 {
@@ -154,6 +173,8 @@ static int symbol(uint32_t *random, uint8_t coded, size_t n)
     frame_of(random, &set, checked.size);
     frame_at(random, &set, checked.size, (uint8_t)(next_random(random) % 8));
     nearest_at(random, &set, checked.size, (uint8_t)(next_random(random) % 8));
+    if (coded)
+        clip_of(random, &set, checked.size);
     clevisroot_answer ordered =
         clevisroot_reorder(TABLES(&set), (uint16_t *)lend(p_tones_out, 2 * n), n,
                            (uint8_t *)lend(p_bits_out, n), n);

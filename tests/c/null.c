@@ -108,6 +108,18 @@ static void read_nearest(const table_set *set, unsigned nulls)
     CHECK(a.number == expected(nulls, set->coded ? CLEVISROOT_ROOM : CLEVISROOT_DONE));
 }
 
+/* The points are (0, 0), so the monitored one is neither. */
+static void clip_check(const table_set *set, unsigned nulls)
+{
+    static const int16_t zeros[A_TONES];
+    unsigned first = nulls & FIRST, second = nulls & SECOND;
+    const int16_t *x = first ? NULL : zeros, *y = second ? NULL : zeros;
+    uint32_t number = expected(nulls, CLEVISROOT_DONE);
+    hold_clip(set, x, room(first), y, room(second), 1, number, 0,
+              number ? 0 : CLEVISROOT_CLIP_NEITHER);
+    hold_clip(set, x, room(first), y, room(second), 0, expected(nulls, CLEVISROOT_SEED), 0, 0);
+}
+
 static void every_way(uint8_t coded)
 {
     for (unsigned nulls = 0; nulls < WAYS; nulls++) {
@@ -116,6 +128,7 @@ static void every_way(uint8_t coded)
         encode(&set, nulls);
         read_points(&set, nulls);
         read_nearest(&set, nulls);
+        clip_check(&set, nulls);
     }
 }
 

@@ -14,6 +14,7 @@ static const uint32_t can_give[FUNCTIONS] = {
     UP_TO_8 | 1u << 10 | 1u << 12 | 1u << 13 | 1u << 14 | 1u << 15,
     UP_TO_8 | 1u << 10 | 1u << 11 | 1u << 12 | 1u << 13 | 1u << 14 | 1u << 15,
     UP_TO_8 | 1u << 10 | 1u << 11 | 1u << 12 | 1u << 23,
+    UP_TO_8 | 1u << 10 | 1u << 12,
     1u | 1u << 16,
     1u | 1u << 13 | 1u << 16,
     1u | 1u << 12,
@@ -66,7 +67,7 @@ static const int16_t zeros[A_TONES + 1];
 static const int16_t far[A_TONES + 1] = {1024, 1024, 1024, 1024, 1024, 1024, 1024};
 static const uint8_t frame_0[MOST_LENT];
 
-/* All seven calls with tables refuse these alike, whatever else is wrong. */
+/* All eight calls with tables refuse these alike, whatever else is wrong. */
 static void tables(const table_set *set, uint32_t number, uint32_t place)
 {
     hold(CHECKING, clevisroot_check(TABLES(set)), number, place, 0);
@@ -76,6 +77,7 @@ static void tables(const table_set *set, uint32_t number, uint32_t place)
     read_points(set, zeros, 1, zeros, 1, 0, 2, number, place);
     hold_read_at(set, zeros, 1, zeros, 1, 0, 2, 8, number, place);
     hold_read_nearest(set, far, 1, far, 1, 0, 2, 8, 1, number, place);
+    hold_clip(set, zeros, 1, zeros, 1, 0, number, place, 0);
 }
 
 static void sizes(void)
@@ -160,6 +162,20 @@ static void few(void)
     hold(CHECKING, clevisroot_check(TABLES(&set)), CLEVISROOT_DONE, 0, 0);
 }
 
+/* ROOM before SEED, with every length of x and of y. */
+static void clip_rooms(void)
+{
+    table_set a = table_a();
+    for (size_t k = 0; k < (A_TONES + 2) * (A_TONES + 2); k++) {
+        size_t x_len = k / (A_TONES + 2), y_len = k % (A_TONES + 2);
+        int exact = x_len == A_TONES && y_len == A_TONES;
+        hold_clip(&a, zeros, x_len, zeros, y_len, 0, exact ? CLEVISROOT_SEED : CLEVISROOT_ROOM, 0,
+                  0);
+        hold_clip(&a, zeros, x_len, zeros, y_len, 1, exact ? CLEVISROOT_DONE : CLEVISROOT_ROOM, 0,
+                  exact ? CLEVISROOT_CLIP_NEITHER : 0);
+    }
+}
+
 static void rooms(void)
 {
     table_set a = table_a();
@@ -174,6 +190,7 @@ static void rooms(void)
     read_points(&a, zeros, 6, zeros, 7, 0, 1, CLEVISROOT_ROOM, 0);
     read_points(&a, zeros, 6, zeros, 6, 0, 0, CLEVISROOT_ROOM, 0);
     read_points(&a, zeros, 6, zeros, 6, 0, 2, CLEVISROOT_ROOM, 0);
+    clip_rooms();
 }
 
 static void frames_and_registers(void)
@@ -187,6 +204,7 @@ static void frames_and_registers(void)
     for (size_t k = 0; k < 3; k++) {
         encode(&a, frame_0, 1, wrong[k], A_TONES, A_TONES, CLEVISROOT_SEED, 0);
         read_points(&a, zeros, 6, zeros, 6, wrong[k], 1, CLEVISROOT_SEED, 0);
+        hold_clip(&a, zeros, 6, zeros, 6, wrong[k], CLEVISROOT_SEED, 0, 0);
         clevisroot_drawn drawn = clevisroot_draw(wrong[k]);
         given[DRAWING] |= 1u << drawn.number;
         CHECK(drawn.number == CLEVISROOT_SEED && drawn.bit == 0 && drawn.reg == wrong[k]);

@@ -62,6 +62,11 @@ static void nearest(void)
                  .number;
 }
 
+static void clip(void)
+{
+    number = clevisroot_clip_check(LISTS(&set), x, TONES, y, TONES, 1).number;
+}
+
 static void one_tone(void)
 {
     number = clevisroot_map_label(15, 1).number | clevisroot_read_point(15, 1, 1).number |
@@ -134,6 +139,8 @@ static void measure_all(uint8_t coded)
     measure("read", read_points, CLEVISROOT_STACK);
     measure("read_at", read_at, CLEVISROOT_STACK);
     measure("nearest", nearest, CLEVISROOT_NEAREST_STACK);
+    if (coded)
+        measure("clip", clip, CLEVISROOT_STACK);
     measure("one tone", one_tone, CLEVISROOT_STACK);
     measure("tally", tally, CLEVISROOT_STACK);
 }

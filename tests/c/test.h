@@ -37,10 +37,12 @@ typedef struct {
     size_t tones_len;
 } table_set;
 
-/* The seven arguments that every call with tables begins with. */
-#define TABLES(set)                                                                           \
-    (set)->coded, (set)->bits, (set)->bits_len, (set)->gains, (set)->gains_len, (set)->tones, \
-        (set)->tones_len
+/* The six arguments that the clip check begins with, whose tables are coded. */
+#define LISTS(set) \
+    (set)->bits, (set)->bits_len, (set)->gains, (set)->gains_len, (set)->tones, (set)->tones_len
+
+/* The seven arguments that every other call with tables begins with. */
+#define TABLES(set) (set)->coded, LISTS(set)
 
 #define A_CARRIERS 8
 #define A_TONES 6
@@ -85,6 +87,7 @@ enum {
     READING,
     READING_AT,
     READING_NEAREST,
+    CLIP_CHECKING,
     MAPPING,
     LABELLING,
     DRAWING,
@@ -171,6 +174,24 @@ static inline void hold_read_nearest(const table_set *set, const int16_t *x, siz
     if (number != CLEVISROOT_DONE)
         CHECK(nearest.total == 0 && untouched(frame, sizeof frame) &&
               untouched(work, sizeof work));
+}
+
+/* The clip check: this clip, none where it refuses, and always the register that was given. */
+static inline void hold_clip(const table_set *set, const int16_t *x, size_t x_len,
+                             const int16_t *y, size_t y_len, uint32_t reg, uint32_t number,
+                             uint32_t place, uint32_t clip)
+{
+    clevisroot_clip c = clevisroot_clip_check(LISTS(set), x, x_len, y, y_len, reg);
+    clevisroot_answer a = {c.number, c.place, 0, c.reg};
+    hold(CLIP_CHECKING, a, number, place, reg);
+    CHECK(c.clip == clip && c.reg == reg);
+}
+
+/* Half a turn: all signs changed, of coordinates above -32768. */
+static inline void turn(int16_t *list, size_t n)
+{
+    for (size_t k = 0; k < n; k++)
+        list[k] = (int16_t)-list[k];
 }
 
 /* Five numbers have nothing between them. */

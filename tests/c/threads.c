@@ -89,6 +89,23 @@ static uint32_t one_symbol(stream *s, const table_set *set, uint32_t size, uint3
     return written.reg;
 }
 
+/* The clip of the symbol, straight and turned; without 1-bit tones t' is t, coded or not. */
+static void one_clip(stream *s, const table_set *set, uint32_t reg)
+{
+    memcpy(s->x_at, s->x, sizeof s->x);
+    memcpy(s->y_at, s->y, sizeof s->y);
+    turn(s->x_at, TONES);
+    turn(s->y_at, TONES);
+    clevisroot_clip straight =
+        clevisroot_clip_check(LISTS(set), s->x, TONES, s->y, TONES, reg);
+    clevisroot_clip turned =
+        clevisroot_clip_check(LISTS(set), s->x_at, TONES, s->y_at, TONES, reg);
+    if (straight.clip != CLEVISROOT_CLIP_STRAIGHT || turned.clip != CLEVISROOT_CLIP_TURNED ||
+        straight.reg != reg || turned.reg != reg)
+        s->wrong++;
+    digest(s, straight.clip + 4 * turned.clip);
+}
+
 /* The symbol counted as read, and as wrong with the bytes of its nearest frame, and as refused. */
 static void one_report(stream *s, uint32_t size)
 {
@@ -119,6 +136,7 @@ static void *run(void *argument)
         uint32_t after = one_symbol(s, &set, checked.size, reg);
         one_start(s, &set, checked.size, reg, (uint8_t)(k % 8));
         one_nearest(s, &set, checked.size, reg, (uint8_t)(k % 8));
+        one_clip(s, &set, reg);
         one_report(s, checked.size);
         reg = after;
     }

@@ -2,6 +2,7 @@
 //! the constellations, everything in linear time on the stack. No unsafe code.
 
 pub(crate) mod bits;
+mod clip;
 mod constellation;
 mod cosets;
 mod filler;
@@ -20,6 +21,7 @@ use filler::{register_valid, Filler};
 use nearest::Received;
 use plan::Plan;
 
+pub use clip::clip_check;
 pub use tally::{tally_new, tally_read, tally_refused};
 
 /// The largest G.
