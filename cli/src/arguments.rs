@@ -173,11 +173,15 @@ fn set(call: &mut Call, option: &'static Opt, given: &Given) -> Result<(), Strin
     Ok(())
 }
 
+/// Where a register can be found.
+const FINDERS: &str = "`turn --register find` and `read --register find` find it from the points";
+
 fn register(kind: Kind, word: &str) -> Result<Asked, String> {
     match (kind, register_number(word)) {
         (_, Some(number)) => Ok(Asked::Given(number, word.to_string())),
         (Kind::RegisterOrFind, None) if word == "find" => Ok(Asked::Find),
         (Kind::RegisterOrFind, None) => Err("takes a whole number from 1 or `find`".to_string()),
+        (_, None) if word == "find" => Err(format!("takes a whole number from 1\n{FINDERS}")),
         _ => Err("takes a whole number from 1".to_string()),
     }
 }

@@ -3,7 +3,7 @@
 use crate::files::{Class, TableSet};
 use crate::index::{Place, Subcarrier};
 use crate::span::Span;
-use clevisroot_sys::{self as library, Answer};
+use clevisroot_sys::{self as library, Answer, Clip};
 
 /// The re-ordered tables.
 pub struct Order {
@@ -78,6 +78,12 @@ pub fn nearest(set: &TableSet, (x, y): (&[i16], &[i16]), register: u32, start: u
         total,
         frame,
     }
+}
+
+/// What the first monitored tone tells of the clip. The library takes the tables as coded.
+pub fn clip(set: &TableSet, (x, y): (&[i16], &[i16]), register: u32) -> Clip {
+    let tables = set.lent();
+    library::clip_check(tables.bits, tables.gains, tables.tones, x, y, register)
 }
 
 /// N is odd in coded mode: then the trellis code refuses every symbol that is turned by half a turn,

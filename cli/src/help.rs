@@ -29,16 +29,16 @@ files (# begins a comment; - is standard input, for one of the files)
 ";
 
 const STATUS: [(&str, &str); 10] = [
-    ("0", "done; of turn: straight"),
+    ("0", "done; of turn and clip: straight"),
     ("1 to 8, 10 to 16, 22, 23", "the refusal's number"),
-    ("32", "turn: turned"),
+    ("32", "turn, clip: turned"),
     (
         "33",
-        "turn: cannot tell; read: the register cannot be found",
+        "turn, clip: cannot tell; read: the register cannot be found",
     ),
-    ("34", "turn: neither way is read"),
+    ("34", "turn: neither way is read; clip: neither"),
     ("35", "figures: one does not agree"),
-    ("36", "turn: perhaps straight or perhaps turned"),
+    ("36", "turn, clip: perhaps straight or perhaps turned"),
     ("64", "the call is wrong"),
     (
         "65",

@@ -4,7 +4,7 @@ use crate::json::{Fields, Json};
 use crate::refusal::Refusal;
 use crate::span::Span;
 use clevisroot_sys::refusals::name;
-use clevisroot_sys::Answer;
+use clevisroot_sys::{Answer, Clip};
 
 /// The main result: with remarks on the screen, without in a file.
 pub struct Written {
@@ -122,8 +122,7 @@ pub fn table_fields(command: &'static str, answer: &Answer) -> Fields {
     fields(command, [Some(number), Some(place), Some(size), None])
 }
 
-/// The fields of a call for a symbol, with the start of its frame if the call names one. A register
-/// too large for the library's type stands for the largest there is, which nobody typed.
+/// The fields of a call for a symbol, with the start of its frame if the call names one.
 pub fn symbol_fields(command: &'static str, answer: &Answer, start: Option<u8>) -> Fields {
     let Answer {
         number,
@@ -131,10 +130,24 @@ pub fn symbol_fields(command: &'static str, answer: &Answer, start: Option<u8>) 
         size,
         reg,
     } = *answer;
-    let register = Some(reg).filter(|&reg| reg != u32::MAX);
-    let mut fields = fields(command, [Some(number), Some(place), Some(size), register]);
+    let numbers = [Some(number), Some(place), Some(size), typed_register(reg)];
+    let mut fields = fields(command, numbers);
     fields.extend(start_field(start));
     fields
+}
+
+/// The fields of a call that tells the clip: it names no frame, so that it has no size.
+pub fn clip_fields(command: &'static str, clip: &Clip) -> Fields {
+    let Clip {
+        number, place, reg, ..
+    } = *clip;
+    let numbers = [Some(number), Some(place), None, typed_register(reg)];
+    fields(command, numbers)
+}
+
+/// A register too large for the library's type stands for the largest there is, which nobody typed.
+fn typed_register(register: u32) -> Option<u32> {
+    Some(register).filter(|&register| register != u32::MAX)
 }
 
 /// Without it the bytes of a frame that starts elsewhere than at bit 0 cannot be understood.

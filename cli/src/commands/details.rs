@@ -103,6 +103,32 @@ examples
   clevisroot turn examples/five-twos.txt examples/five-twos-turned.csv --start 6
 ";
 
+pub const CLIP: &str = "\
+Asks the first monitored tone in t', and no other, whether the clips are the wrong way round, before
+the whole symbol is read: straight if its point is the one that its filler bits give, turned if it
+is the opposite one, else neither. Says so in one sentence, and what that rests on. Where no tone is
+monitored it cannot tell. Where one is, turn says the same way of every symbol that was written with
+these coded tables and this register, turned or not.
+
+The register must be the one that the symbol was written with: with a wrong one the tone looks
+straight one time in 4, and turned one time in 4. Without --register the value at reset is assumed,
+and straight and turned are only perhaps so; with --register N they hold if N is the writer's
+register. It is not found here (see turn --register find). All other points may be anything, and
+noise on this one deceives it.
+
+Exit status: 0 straight, 32 turned, 36 perhaps (straight or turned), 33 cannot tell, 34 neither;
+1 to 8, 10 and 12 if the tables, the count of points or the register are refused; 65 if the tables
+are uncoded, because what a turned symbol shows is promised of coded ones only. A file may hold many
+symbols, as for read. The register goes on by two draws for each tone with 0 bits, whatever the
+answer; after a symbol that is refused or neither, what is told by a register that was given is only
+perhaps so. The status is that of all of them together, as for turn. --stop ends at a symbol that is
+refused, not at neither.
+
+examples
+  clevisroot clip examples/clip.txt examples/clip-turned.csv --register 4711
+  clevisroot clip examples/bench-a.txt examples/bench-a-turned.csv
+";
+
 pub const REPORT: &str = "\
 Counts, over the symbols of each pair, how many were refused, how many frames were read wrong and by
 how many bits, and which symbol was refused first, symbols counted from 0; then says in a sentence

@@ -59,7 +59,7 @@ impl Judged {
     pub fn is_out_of_step(&self, known: Known) -> bool {
         let mut readings = self.readings.iter();
         match self.only_way() {
-            Some(way) => known.way.is_some_and(|before| before != way),
+            Some(way) => known.is_against(way),
             None => readings.all(|reading| reading.answer.number == MONITOR),
         }
     }

@@ -1,12 +1,15 @@
 //! The commands: what each one takes, and the function that answers it. Parsing, `--help`, the
 //! manual page and the completions are made from this table.
 
+mod clip;
+mod clip_words;
 mod decision;
 mod details;
 mod distance_totals;
 mod distance_words;
 mod encode;
 mod figures;
+mod first_tone;
 mod judge;
 mod nearest;
 mod pages;
@@ -33,7 +36,7 @@ const TABLES: Operand = Operand::Input("TABLES");
 const FRAME: Operand = Operand::Input("FRAME");
 const POINTS: Operand = Operand::Input("POINTS");
 
-pub const COMMANDS: [Command; 12] = [
+pub const COMMANDS: [Command; 13] = [
     Command {
         name: "check",
         operands: &[TABLES],
@@ -81,6 +84,14 @@ pub const COMMANDS: [Command; 12] = [
         about: "tell whether the clips are the wrong way round",
         details: details::TURN,
         run: turn::turn,
+    },
+    Command {
+        name: "clip",
+        operands: &[TABLES, POINTS],
+        options: &[&REGISTER, &STOP, &JSON],
+        about: "tell whether the clips are the wrong way round from one tone alone",
+        details: details::CLIP,
+        run: clip::clip,
     },
     Command {
         name: "report",

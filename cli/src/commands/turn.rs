@@ -27,15 +27,11 @@ struct Turn {
 }
 
 pub fn turn(call: &Call) -> Result<u8, Fault> {
-    let known = match call.register {
-        Asked::Find => None,
-        Asked::Reset => Some(Known::new(RESET, Origin::Reset)),
-        Asked::Given(register, _) => Some(Known::new(register, Origin::Given)),
-    };
+    let find = call.register == Asked::Find;
     let task = Turn {
         tables: Tables::of(call)?,
-        find: known.is_none(),
-        known,
+        find,
+        known: (!find).then(|| Known::asked(&call.register)),
         finder: Finder::new(),
         totals: VerdictTotals::default(),
     };

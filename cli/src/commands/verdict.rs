@@ -1,5 +1,6 @@
 //! Verdicts on the clips: how sure they are, and what they rest on.
 
+use crate::call::Asked;
 use crate::register::{Reach, Reaches};
 
 /// The exit status where nothing can be told.
@@ -33,8 +34,11 @@ pub enum Origin {
     FoundAcross(usize),
     /// A symbol before was refused and handed it back, so that it may be out of step.
     HandedBack,
-    /// Symbols before were read the other way round with it, so that one may be missing.
+    /// Symbols before were the other way round with it, so that one may be missing.
     Contradicted,
+    /// It was drawn on past a symbol that was refused or was neither way round with it, so that it may
+    /// be out of step.
+    DrawnOn,
 }
 
 /// A register, and what speaks for it.
@@ -47,7 +51,7 @@ pub struct Known {
     /// No other register gives their points, either way.
     pub enough: bool,
     pub way: Option<Way>,
-    /// It is the one after a symbol that was read.
+    /// It is the one after the draws of a symbol.
     pub carried: bool,
 }
 
@@ -63,25 +67,50 @@ impl Known {
         }
     }
 
+    /// The register that a call names, or the one at reset.
+    pub fn asked(register: &Asked) -> Known {
+        let origin = match register {
+            Asked::Given(..) => Origin::Given,
+            Asked::Reset | Asked::Find => Origin::Reset,
+        };
+        Known::new(register.value(), origin)
+    }
+
     pub fn is_found(self) -> bool {
         matches!(self.origin, Origin::Found(_) | Origin::FoundAcross(_))
     }
 
-    /// What it is to a symbol that is read this way with it: clips are not swapped within a stream,
+    /// Whether a symbol before was the other way round with it.
+    pub fn is_against(self, way: Way) -> bool {
+        self.way.is_some_and(|before| before != way)
+    }
+
+    /// What it is to a symbol that is this way round with it: clips are not swapped within a stream,
     /// so that a change of the way speaks against the register.
-    pub fn reading(self, way: Way, reaches: &Reaches) -> Known {
-        let (origin, agreed) = match (self.origin, self.way) {
-            (_, Some(before)) if before != way => (Origin::Contradicted, reaches.alone()),
-            (Origin::Found(_) | Origin::FoundAcross(_), _) => (self.origin, self.agreed),
-            _ => (self.origin, reaches.after(self.agreed.tones)),
+    pub fn telling(self, way: Way) -> Known {
+        let origin = match self.is_against(way) {
+            true => Origin::Contradicted,
+            false => self.origin,
         };
         Known {
             origin,
+            way: Some(way),
+            ..self
+        }
+    }
+
+    /// The same, where the whole symbol is read.
+    pub fn reading(self, way: Way, reaches: &Reaches) -> Known {
+        let agreed = match self.origin {
+            _ if self.is_against(way) => reaches.alone(),
+            Origin::Found(_) | Origin::FoundAcross(_) => self.agreed,
+            _ => reaches.after(self.agreed.tones),
+        };
+        Known {
             agreed,
             // Between several symbols one may be missing, so that they need more.
             enough: reaches.alone().settles() || agreed.settles_stream(),
-            way: Some(way),
-            ..self
+            ..self.telling(way)
         }
     }
 }

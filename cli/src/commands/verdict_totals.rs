@@ -1,4 +1,4 @@
-//! The totals of a stream of `turn`: the clips are the same for all of its symbols.
+//! The totals of a stream of `turn` or `clip`: the clips are the same for all of its symbols.
 
 use super::verdict::{Verdict, CANNOT_TELL};
 use super::verdict_words::IF_GIVEN;
@@ -21,7 +21,7 @@ pub struct VerdictTotals {
     verdicts: BTreeMap<Verdict, usize>,
     /// Some verdict holds whatever register was given: straight, turned.
     unconditional: [bool; 2],
-    /// Symbols refused before their points were looked at.
+    /// Symbols refused before a point was looked at.
     refused: usize,
     /// The exit status of the first of them.
     first: Option<u8>,

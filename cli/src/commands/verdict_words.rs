@@ -7,15 +7,22 @@ use crate::files::PointList;
 use crate::json::{Fields, Json};
 use crate::register::{or_a_few_more, Found, FoundRegister, Search, ENOUGH_TONES, TONES_OF_STREAM};
 
+/// What is told of the clips, where it is.
+pub const STRAIGHT: &str = "Straight: the clips are the right way round";
+pub const TURNED: &str = "Turned: the clips are the wrong way round, so swap them";
+
+/// What makes a turned clip show in every symbol.
+pub const SPARE: &str = "a spare tone with 0 bits and a gain would tell";
+
 /// What the jointer should be told, in one sentence.
 pub fn sentence(verdict: Verdict, tables: &Tables, ground: &Ground) -> String {
     let (clips, readings) = match verdict {
         Verdict::Straight | Verdict::PerhapsStraight => (
-            "Straight: the clips are the right way round",
+            STRAIGHT,
             "the points are read as they came and refused when turned",
         ),
         _ => (
-            "Turned: the clips are the wrong way round, so swap them",
+            TURNED,
             "the points are refused as they came and read when turned",
         ),
     };
@@ -32,8 +39,8 @@ fn sure_sentence(clips: &str, readings: &str, ground: &Ground) -> String {
     match ground {
         Ground::Tones(known) => sure_by_register(clips, readings, known),
         Ground::Trellis(loaded) => format!(
-            "{clips}, whatever the register: the trellis code tells, because N, the count of \
-             non-zero re-ordered entries, is odd ({loaded})."
+            "{clips}, whatever the register: the trellis code tells, because {}.",
+            odd(*loaded)
         ),
         Ground::OneWay(reach) => format!(
             "{clips}, whatever the register: the {} monitored tones tell, because no register gives \
@@ -44,6 +51,11 @@ fn sure_sentence(clips: &str, readings: &str, ground: &Ground) -> String {
         ),
         _ => format!("{clips}: {readings}."),
     }
+}
+
+/// "N, the count of non-zero re-ordered entries, is odd (5)"
+pub fn odd(loaded: usize) -> String {
+    format!("N, the count of non-zero re-ordered entries, is odd ({loaded})")
 }
 
 fn sure_by_register(clips: &str, readings: &str, known: &Known) -> String {
@@ -126,18 +138,23 @@ fn why_not_told(tables: &Tables, ground: &Ground) -> String {
         );
     }
     let reason = if tables.set.coded {
-        format!(
-            "this table set monitors no tone and N, its count of non-zero re-ordered entries, is \
-             even ({})",
-            tables.order.loaded()
-        )
+        even(tables)
     } else {
         "this table set is uncoded and monitors no tone".to_string()
     };
-    format!("the points are read both ways, for {reason}; a spare tone with 0 bits and a gain would tell")
+    format!("the points are read both ways, for {reason}; {SPARE}")
 }
 
-fn origin_words(known: &Known) -> &'static str {
+/// Why a coded table set cannot tell.
+pub fn even(tables: &Tables) -> String {
+    format!(
+        "this table set monitors no tone and N, its count of non-zero re-ordered entries, is even \
+         ({})",
+        tables.order.loaded()
+    )
+}
+
+pub fn origin_words(known: &Known) -> &'static str {
     match (known.origin, known.carried) {
         (Origin::Reset, false) => "is the value at reset, assumed because none was given",
         (Origin::Reset, true) => "goes back to the value at reset, assumed because none was given",
@@ -146,7 +163,10 @@ fn origin_words(known: &Known) -> &'static str {
         (Origin::Found(_) | Origin::FoundAcross(_), _) => "the monitored tones give",
         (Origin::HandedBack, _) => "a refused symbol handed back and which may be out of step",
         (Origin::Contradicted, _) => {
-            "read a symbol before the other way round and so may be out of step"
+            "had a symbol before the other way round and so may be out of step"
+        }
+        (Origin::DrawnOn, _) => {
+            "goes on past a symbol that was refused or neither way round and so may be out of step"
         }
     }
 }
@@ -200,6 +220,7 @@ fn register_word(ground: &Ground) -> &'static str {
             Origin::FoundAcross(_) => "found, if no symbol is missing",
             Origin::HandedBack => "handed back by a refused symbol",
             Origin::Contradicted => "contradicted by a symbol before",
+            Origin::DrawnOn => "drawn on past a symbol that was refused or neither",
         },
         Ground::TooFew(_) => "not found",
         Ground::NoRegister => "none fits",

@@ -16,7 +16,8 @@ use std::ffi::OsStr;
 /// What the lines so far have said.
 #[derive(Default)]
 struct Draft {
-    coded: Option<bool>,
+    /// With the line that says so.
+    coded: Option<(bool, usize)>,
     carriers: Option<u16>,
     tones: Vec<Entry>,
     outside: Vec<Entry>,
@@ -38,7 +39,7 @@ impl Draft {
     fn take(&mut self, line: usize, text: &str) -> Result<(), String> {
         let words: Vec<&str> = text.split_whitespace().collect();
         match words.as_slice() {
-            ["mode", mode] => set_once(&mut self.coded, "mode", coded(mode)?),
+            ["mode", mode] => set_once(&mut self.coded, "mode", (coded(mode)?, line)),
             ["carriers", count] => set_once(&mut self.carriers, "carriers", number(count)?),
             ["outside", tone, bits, gain] => {
                 self.outside.push(entry(line, [tone, bits, gain])?);
@@ -66,10 +67,11 @@ impl Draft {
 
     fn finish(self, source: &Source) -> Result<TableSet, Fault> {
         let missing = |what| source.fault(source.last_line(), &format!("no line `{what}`"));
-        let coded = self.coded.ok_or_else(|| missing("mode"))?;
+        let (coded, mode_line) = self.coded.ok_or_else(|| missing("mode"))?;
         let carriers = self.carriers.ok_or_else(|| missing("carriers"))?;
         let mut set = TableSet::new(coded, usize::from(carriers));
         set.name.clone_from(&source.name);
+        set.mode_line = mode_line;
         for entry in &self.tones {
             set.push_tone(entry);
         }

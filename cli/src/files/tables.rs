@@ -26,6 +26,8 @@ impl fmt::Display for Class {
 pub struct TableSet {
     pub name: String,
     pub coded: bool,
+    /// The line that says whether it is coded.
+    pub mode_line: usize,
     bits: Vec<u8>,
     gains: Vec<u16>,
     tones: Vec<u16>,
@@ -49,6 +51,7 @@ impl TableSet {
         TableSet {
             name: String::new(),
             coded,
+            mode_line: 0,
             bits: vec![0; carriers],
             gains: vec![0; carriers],
             tones: Vec::new(),

@@ -1,11 +1,11 @@
 //! The register of a stream: symbols with few monitored tones wait until those of several together
 //! give it.
 
+use super::draws::after_draws;
 use super::reach::{Reach, TONES_OF_STREAM};
 use super::search::{Found, Search};
 use crate::ask::Order;
 use crate::files::{PointList, TableSet};
-use clevisroot_sys as library;
 use std::collections::VecDeque;
 
 /// A symbol with its number.
@@ -130,8 +130,4 @@ fn search_of(set: &TableSet, order: &Order, symbols: &VecDeque<Numbered>) -> Sea
         search.add(set, order, points);
     }
     search
-}
-
-fn after_draws(register: u32, draws: usize) -> u32 {
-    (0..draws).fold(register, |register, _| library::draw(register).reg)
 }

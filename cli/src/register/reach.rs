@@ -36,6 +36,13 @@ pub struct Reach {
 }
 
 impl Reach {
+    /// Of one monitored tone alone: two draws in a row are independent of each other.
+    pub const ONE_TONE: Reach = Reach {
+        tones: 1,
+        rank: 2,
+        tells_way: false,
+    };
+
     pub fn fixes_register(self) -> bool {
         self.rank == BITS
     }

@@ -4,13 +4,14 @@ use crate::run::{equal, file, path, run, run_with, tables};
 use std::fs;
 
 const A: &str = "examples/bench-a.txt";
-const COMMANDS: [&str; 12] = [
+const COMMANDS: [&str; 13] = [
     "check",
     "order",
     "encode",
     "read",
     "nearest",
     "turn",
+    "clip",
     "report",
     "map",
     "point",

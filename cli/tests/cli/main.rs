@@ -1,5 +1,8 @@
 //! Runs the tool as a person would: files, arguments, standard input, exit status.
 
+mod clip;
+mod clip_and_turn;
+mod clip_json;
 mod commands;
 mod examples;
 mod faults;
@@ -26,6 +29,7 @@ mod silent;
 mod start;
 mod start_refusals;
 mod stream;
+mod stream_clip;
 mod stream_gaps;
 mod stream_turn;
 mod structure;

@@ -5,13 +5,14 @@ use crate::run::{run, tool};
 use std::io::Write;
 use std::process::{Command, Stdio};
 
-const COMMANDS: [&str; 12] = [
+const COMMANDS: [&str; 13] = [
     "check",
     "order",
     "encode",
     "read",
     "nearest",
     "turn",
+    "clip",
     "report",
     "map",
     "point",
@@ -99,7 +100,7 @@ fn completed(words: &[&str]) -> Option<Vec<String>> {
 
 #[test]
 fn bash_completes() {
-    let cases: [(&[&str], &[&str]); 12] = [
+    let cases: [(&[&str], &[&str]); 14] = [
         (&["clevisroot", "en"], &["encode"]),
         (&["clevisroot", "--json", "tu"], &["turn"]),
         (&["clevisroot", "encode", "--re"], &["--register"]),
@@ -108,6 +109,8 @@ fn bash_completes() {
         (&["clevisroot", "nearest", "--a"], &["--all"]),
         (&["clevisroot", "turn", "--sta"], &["--start"]),
         (&["clevisroot", "read", "--start", "6"], &["6"]),
+        (&["clevisroot", "cl"], &["clip"]),
+        (&["clevisroot", "clip", "--st"], &["--stop"]),
         (&["clevisroot", "completions", "z"], &["zsh"]),
         (&["clevisroot", "rep"], &["report"]),
         (&["clevisroot", "report", "--ht"], &["--html"]),

@@ -1,6 +1,6 @@
 //! No input makes the tool panic: damaged files, and outputs that are closed or full.
 
-use crate::run::{equal, file, path, root, run_with, tables, tool, Ran};
+use crate::run::{equal, example, file, path, run_with, tables, tool, Ran};
 use std::fs;
 use std::io::Read;
 use std::process::Stdio;
@@ -39,16 +39,12 @@ impl Numbers {
     }
 }
 
-fn example(name: &str) -> Vec<u8> {
-    fs::read(root().join("examples").join(name)).unwrap()
-}
-
 #[test]
 fn damaged_files() {
     let mut numbers = Numbers(0x9e37_79b9_7f4a_7c15);
     let (set, points, frame) = (
-        example("bench-a.txt"),
-        example("bench-a.csv"),
+        example("bench-a.txt").into_bytes(),
+        example("bench-a.csv").into_bytes(),
         b"15".to_vec(),
     );
     let mut statuses = [0; 256];
@@ -66,6 +62,7 @@ fn damaged_files() {
             ),
             run_with(&points, &["turn", &damaged, "-", "--json"]),
             run_with(&points, &["nearest", &damaged, "-", "--svg", svg]),
+            run_with(&points, &["clip", &damaged, "-", "--register", "1"]),
         ] {
             assert!(is_documented(ran.status), "{}{}", ran.out, ran.err);
             statuses[ran.status as usize] += 1;
@@ -86,6 +83,7 @@ fn noise() {
             vec!["encode", "examples/bench-a.txt", "-"],
             vec!["read", "examples/bench-a.txt", "-"],
             vec!["nearest", "examples/bench-a.txt", "-"],
+            vec!["clip", "examples/bench-a.txt", "-"],
         ] {
             let ran = run_with(&bytes, &words);
             assert!(matches!(ran.status, 10 | 11 | 65), "{}{}", ran.out, ran.err);

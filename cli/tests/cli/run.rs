@@ -38,6 +38,11 @@ pub fn root() -> &'static Path {
     Path::new(env!("CARGO_MANIFEST_DIR")).parent().unwrap()
 }
 
+/// A file of `examples/`.
+pub fn example(name: &str) -> String {
+    fs::read_to_string(root().join("examples").join(name)).unwrap()
+}
+
 pub fn tool() -> Command {
     let mut command = Command::new(env!("CARGO_BIN_EXE_clevisroot"));
     command.current_dir(root()).stdin(Stdio::null());

@@ -1,0 +1,154 @@
+//! `clip` and `turn` on written symbols, straight and turned, with the writer's register: they never
+//! contradict each other, and where a tone is monitored they say the same way.
+
+use crate::run::{file, numbers, run_with, turned, Ran};
+use clevisroot_sys::{check, encode, Tables};
+
+/// A small coded table set: bits and gains by sub-carrier, and t.
+struct Set {
+    bits: Vec<u8>,
+    gains: Vec<u16>,
+    tones: Vec<u16>,
+}
+
+impl Set {
+    /// With so many monitored tones, other counts as they fall, in an order as it falls.
+    fn random(random: &mut impl FnMut(u64) -> u64, monitored: usize) -> Set {
+        let mut classes = vec![(0, 512); monitored];
+        classes.extend(vec![(0, 0); random(4) as usize]);
+        classes.extend(vec![(1, 512); 2 * random(3) as usize]);
+        let data = 4 + random(4);
+        classes.extend((0..data).map(|_| (2 + random(5) as u8, 400)));
+        let mut tones: Vec<u16> = (0..classes.len() as u16 + 3).collect();
+        shuffle(random, &mut tones);
+        shuffle(random, &mut classes);
+        let mut set = Set {
+            bits: vec![0; tones.len()],
+            gains: vec![0; tones.len()],
+            tones: tones[..classes.len()].to_vec(),
+        };
+        for (&tone, &(bits, gain)) in set.tones.iter().zip(&classes) {
+            set.bits[usize::from(tone)] = bits;
+            set.gains[usize::from(tone)] = gain;
+        }
+        set
+    }
+
+    fn lent(&self) -> Tables<'_> {
+        Tables {
+            coded: 1,
+            bits: &self.bits,
+            gains: &self.gains,
+            tones: &self.tones,
+        }
+    }
+
+    /// Writes its file and tells the name.
+    fn write(&self, name: &str) -> String {
+        let mut text = format!("mode coded\ncarriers {}\n", self.bits.len());
+        for tone in self.tones.iter().map(|&tone| usize::from(tone)) {
+            text += &format!("{tone} {} {}\n", self.bits[tone], self.gains[tone]);
+        }
+        file(name, text)
+    }
+
+    /// Whether the count of non-zero re-ordered entries is odd.
+    fn is_odd(&self) -> bool {
+        let count = |of: fn(&&u8) -> bool| self.bits.iter().filter(of).count();
+        let entries = count(|bits| **bits > 1) + count(|bits| **bits == 1) / 2;
+        entries % 2 == 1
+    }
+
+    /// The points of a frame as it falls.
+    fn symbol(&self, random: &mut impl FnMut(u64) -> u64, register: u32) -> String {
+        let size = check(self.lent()).size as usize;
+        let mut frame: Vec<u8> = (0..size.div_ceil(8)).map(|_| random(256) as u8).collect();
+        if let Some(last) = frame.last_mut().filter(|_| !size.is_multiple_of(8)) {
+            *last &= (1 << (size % 8)) - 1;
+        }
+        let (mut x, mut y) = (vec![0; self.tones.len()], vec![0; self.tones.len()]);
+        let answer = encode(self.lent(), &frame, register, &mut x, &mut y);
+        assert_eq!(answer.number, 0);
+        x.iter().zip(y).map(|(x, y)| format!("{x},{y}\n")).collect()
+    }
+}
+
+fn shuffle<T>(random: &mut impl FnMut(u64) -> u64, list: &mut [T]) {
+    for end in (1..list.len()).rev() {
+        list.swap(end, random(end as u64 + 1) as usize);
+    }
+}
+
+/// The point of the tone that was looked at, and the one that its filler bits give.
+fn looked_at(ran: &Ran) -> [(i32, i32); 2] {
+    let points = ran.line(1).split('(').skip(1).map(|rest| {
+        let point = rest.split(')').next().unwrap();
+        let (x, y) = point.split_once(", ").unwrap();
+        (x.parse().unwrap(), y.parse().unwrap())
+    });
+    let points: Vec<(i32, i32)> = points.collect();
+    [points[0], points[1]]
+}
+
+#[test]
+fn they_never_contradict_each_other() {
+    let mut random = numbers(10);
+    let mut counts = [0; 4];
+    for number in 0..160 {
+        let monitored = number % 4;
+        let set = Set::random(&mut random, monitored);
+        let name = set.write("clip-and-turn.txt");
+        let register = 1 + random(8_388_607) as u32;
+        let points = set.symbol(&mut random, register);
+        let register = register.to_string();
+        for (points, way) in [(turned(&points), 32), (points, 0)] {
+            let [clip, turn] = ["clip", "turn"].map(|command| {
+                let words = [command, &name, "-", "--register", &register];
+                run_with(points.as_bytes(), &words)
+            });
+            let expected = match (monitored, set.is_odd()) {
+                (0, false) => [33, 33],
+                (0, true) => [33, way],
+                _ => [way, way],
+            };
+            assert_eq!(
+                [clip.status, turn.status],
+                expected,
+                "{}{}",
+                clip.out,
+                turn.out
+            );
+            if monitored > 0 {
+                let [(x, y), (filler_x, filler_y)] = looked_at(&clip);
+                let sign = if way == 0 { 1 } else { -1 };
+                assert_eq!((x, y), (sign * filler_x, sign * filler_y));
+            }
+            counts[2 * usize::from(monitored > 0) + usize::from(set.is_odd())] += 1;
+        }
+    }
+    assert!(counts.iter().all(|&count| count > 20), "{counts:?}");
+}
+
+/// The register that draws the opposite of the writer's bits deceives it every time, and the assumed one
+/// often, but never without a condition or a "perhaps".
+#[test]
+fn what_a_wrong_register_tells_has_its_condition() {
+    let mut random = numbers(11);
+    let mut deceived = 0;
+    for _ in 0..60 {
+        let set = Set::random(&mut random, 1);
+        let name = set.write("clip-wrong-register.txt");
+        let register = 1 + random(8_388_606) as u32;
+        let points = set.symbol(&mut random, register);
+        let opposite = (8_388_607 - register).to_string();
+        let given = ["clip", &name, "-", "--register", &opposite];
+        let given = run_with(points.as_bytes(), &given);
+        assert_eq!(given.status, 32, "{}", given.out);
+        let condition = format!(", if register {opposite}, which was given, is the writer's");
+        assert!(given.line(0).contains(&condition), "{}", given.out);
+        let assumed = run_with(points.as_bytes(), &["clip", &name, "-"]);
+        assert!(matches!(assumed.status, 34 | 36), "{}", assumed.out);
+        deceived += usize::from(assumed.line(0).starts_with("Perhaps turned: "));
+    }
+    assert!(deceived > 8, "{deceived}");
+}

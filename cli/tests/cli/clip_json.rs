@@ -1,0 +1,112 @@
+//! `--json` of `clip`.
+
+use crate::json::{head, object, text, Value};
+use crate::run::{example, run_with};
+use std::collections::BTreeMap;
+
+const SET: &str = "examples/clip.txt";
+const REGISTER: [&str; 2] = ["--register", "4711"];
+
+fn json(set: &str, points: &str, words: &[&str]) -> BTreeMap<String, Value> {
+    let words = [&["clip", set, "-", "--json"], words].concat();
+    object(&run_with(points.as_bytes(), &words))
+}
+
+fn inner(object: &BTreeMap<String, Value>, key: &str) -> BTreeMap<String, Value> {
+    match &object[key] {
+        Value::Object(inner) => inner.clone(),
+        other => panic!("no object: {other:?}"),
+    }
+}
+
+#[test]
+fn each_answer() {
+    for (name, sure) in [("straight", true), ("turned", true), ("neither", false)] {
+        let json = json(SET, &example(&format!("clip-{name}.csv")), &REGISTER);
+        let [number, place, register] = [0, 0, 4711].map(Value::Number);
+        assert_eq!(
+            head(&json),
+            [number, text("DONE"), place, Value::Null, register]
+        );
+        assert_eq!(json["command"], text("clip"));
+        assert_eq!(json["verdict"], text(name));
+        assert_eq!(json["sure"], Value::Flag(sure));
+        assert!(
+            matches!(&json["sentence"], Value::Text(words) if words.to_lowercase().starts_with(name))
+        );
+    }
+}
+
+#[test]
+fn what_it_rests_on() {
+    let condition = text("the register that was given is the writer's");
+    for (name, holds_if, alike) in [
+        ("straight", condition.clone(), Value::Number(4)),
+        ("turned", condition, Value::Number(4)),
+        ("neither", Value::Null, Value::Null),
+    ] {
+        let json = json(SET, &example(&format!("clip-{name}.csv")), &REGISTER);
+        let ground = inner(&json, "rests_on");
+        assert_eq!(ground["holds_if"], holds_if);
+        assert_eq!(ground["register"], Value::Number(4711));
+        assert_eq!(ground["register_is"], text("given"));
+        assert_eq!(ground["monitored_tones"], Value::Number(1));
+        assert_eq!(ground["wrong_register_alike_one_in"], alike);
+    }
+    let perhaps = json("examples/bench-a.txt", &example("bench-a-turned.csv"), &[]);
+    assert_eq!(perhaps["verdict"], text("perhaps turned"));
+    let ground = inner(&perhaps, "rests_on");
+    assert_eq!(ground["register_is"], text("reset value, assumed"));
+    assert_eq!(ground["holds_if"], Value::Null);
+}
+
+#[test]
+fn the_tone() {
+    for (name, [x, y]) in [
+        ("straight", [1, -1]),
+        ("turned", [-1, 1]),
+        ("neither", [1, 1]),
+    ] {
+        let json = json(SET, &example(&format!("clip-{name}.csv")), &REGISTER);
+        let tone = inner(&json, "tone");
+        let keys = [
+            "place",
+            "sub_carrier",
+            "line",
+            "x",
+            "y",
+            "filler_x",
+            "filler_y",
+        ];
+        assert_eq!(
+            keys.map(|key| tone[key].clone()),
+            [3, 9, 7, x, y, 1, -1].map(Value::Number)
+        );
+        assert_eq!(tone["file"], text("standard input"));
+    }
+    let none = json("examples/cannot-tell.txt", &example("cannot-tell.csv"), &[]);
+    assert_eq!(none["verdict"], text("cannot tell"));
+    assert_eq!(
+        (&none["tone"], &none["sure"]),
+        (&Value::Null, &Value::Flag(false))
+    );
+    assert_eq!(inner(&none, "rests_on")["register_is"], text("not needed"));
+}
+
+#[test]
+fn refusals() {
+    let room = json(SET, "1,1", &REGISTER);
+    assert_eq!(room["name"], text("ROOM"));
+    assert_eq!(
+        (&room["register"], &room["size"]),
+        (&Value::Number(4711), &Value::Null)
+    );
+    assert!(room.contains_key("sentence") && room.contains_key("place_is"));
+    assert!(!room.contains_key("verdict") && !room.contains_key("tone"));
+    let words = ["--register", "99999999999"];
+    let seed = json(SET, &example("clip-straight.csv"), &words);
+    assert_eq!(
+        (&seed["name"], &seed["register"]),
+        (&text("SEED"), &Value::Null)
+    );
+}
