@@ -1,28 +1,31 @@
 -- The look along t finds the first monitored tone of t', with its place there and the register before its draws.
 use Prim.Native.Nat.{ℕ, zero, suc, _+_, _≤_, _<_}
-use mathlib.Core.Bool.{Bool, true, false}
+use mathlib.Core.Bool.{Bool, true, false, _&&_}
 use mathlib.Core.List.{List, [], _∷_, _++_}
 use mathlib.Core.Path.{_≡_, refl, sym, ap, _∙_}
 use native.Mathlib.Numerals.{add-one}
 use native.Mathlib.Omega.{arith}
-use lib.Dec.{leb}
+use borrow.Author.Tests.{lt-ltb, ne-eqb}
+use lib.Dec.{ltb, leb, eqb}
 use lib.ListN.{length, take, drop, getD, replicate, length-append}
 use lib.Seq.{take-append-seam, getD-append-seam, append-snoc}
 use Rattle.g9932.specs.Bits.{first}
 use Rattle.g9932.specs.Filler.{afterDraws, draws, registerAfter}
 use Rattle.g9932.specs.Order.{consIf, filter}
-use Rattle.g9932.specs.Sizes.{Tables, tables, entry}
+use Rattle.g9932.specs.Sizes.{Tables, tables, entry, toneOf, classBy}
 use Rattle.g9932.specs.Symbol.{classAt, classesBy, classesOf, isMonitored, firstMonitored}
 use Rattle.g9932.specs.declared.Class.{Class}
 use Rattle.g9932.specs.declared.Class.the-variants.{Data, Monitored, Silent}
 use Rattle.g9932.specs.declared.Found.the-variants as F
 use Rattle.g9932.specs.declared.Mode.the-variants.{Coded}
-use Rattle.g9932.proofs.Search.{first-at, first-all}
+use Rattle.g9932.proofs.Search.{first-at, first-no, first-all}
 use Rattle.g9932.proofs.Sent.{length-classes}
 use Rattle.plan.proofs.Whole.{classes-plan}
 use Rattle.plan.specs.Plan.{isPlaced}
+use Rattle.tables.specs.Checks.{Below, anyBelow}
 use Rattle.tables.specs.Modes.{sharing}
-use Rattle.clip.specs.Tones.{along, dataPast, toneLook, look}
+use Rattle.tables.proofs.Scans.{any-nothing}
+use Rattle.clip.specs.Tones.{isMonitoredIn, along, dataPast, toneLook, look}
 use Rattle.clip.specs.declared.Along.{Along}
 use Rattle.clip.specs.declared.FirstMonitored.{FirstMonitored}
 use Rattle.clip.specs.declared.FirstMonitored.the-variants.{At, Nowhere}
@@ -76,10 +79,10 @@ module _ (r : ℕ) (behind : List Class) (none : NoneIn behind) where
   here own rest h =
       let l = length-append own (Monitored ∷ rest) in (
         sym
-        (first-at _ (length own) _
-        (first-all _ (length own) (none-before own (Monitored ∷ rest) h))
-        (ap isMonitored (getD-append-seam own Monitored rest Silent))
-        (omega arith)),
+            (first-at _ (length own) _
+            (first-all _ (length own) (none-before own (Monitored ∷ rest) h))
+            (ap isMonitored (getD-append-seam own Monitored rest Silent))
+            (omega arith)),
         sym (ap (registerAfter r) (take-append-seam own (Monitored ∷ rest))),
         omega arith,
       )
@@ -118,6 +121,27 @@ unfolding registerAfter
 finds-all b g t r =
     let behind = replicate (sharing Coded b t) (Data 1) in
     found-in (tables Coded b g t) r (look (classesBy b g t) (along 0 r)) (rw (classes-plan Coded b g t) (finds r behind (none-ones (sharing Coded b t)) (classesBy b g t) [] (λ k. refl)))
+
+-- ---- where no sub-carrier has a gain and no bits, nothing is found
+
+monitored-class : (b g : ℕ) → isMonitored (toneOf b g .class) ≡ eqb b 0 && ltb 0 g
+monitored-class zero g = go (ltb 0 g)
+  where
+    go : (q : Bool) → isMonitored (classBy q Monitored Silent) ≡ q
+    go true = refl
+    go false = refl
+monitored-class (suc n) g = rw (lt-ltb 0 (suc n) (omega arith), ne-eqb (suc n) 0 (λ e. omega arith))
+
+look-none : (b g t : List ℕ) (at : Along) → ((k : ℕ) → k < length t → isMonitored (classAt b g (entry t k)) ≡ false) → look (classesBy b g t) at ≡ Nowhere
+unfolding look
+look-none b g [] at h = refl
+look-none b g (k ∷ t) at h = rw (h 0 (omega arith)) (look-none b g t (toneLook (classAt b g k) at) (λ j l. h (suc j) (omega arith)))
+
+pub none-monitored : (b g t : List ℕ) → Below (length b) t → anyBelow (isMonitoredIn b g) (length b) ≡ false → firstMonitored (tables Coded b g t) ≡ F.Nothing
+none-monitored b g t below none =
+    let no = first-no (isMonitoredIn b g) (length b) (any-nothing (isMonitoredIn b g) (length b) none) in
+    let e = look-none b g t (along 0 0) (λ k l. monitored-class (entry b (entry t k)) (entry g (entry t k)) ∙ no (entry t k) (below k l)) in
+    rw e at (finds-all b g t 0)
 
 -- ---- one step along t
 

@@ -1,14 +1,14 @@
 -- The look along t for the first monitored tone, with its place in t' and the register before its draws.
 use Prim.Native.Nat.{ℕ, _+_, _≤_}
-use mathlib.Core.Bool.{Bool, true, false}
+use mathlib.Core.Bool.{Bool, true, false, _&&_}
 use mathlib.Core.List.{List, [], _∷_}
 use mathlib.Core.Path.{_≡_}
-use lib.Dec.{leb}
+use lib.Dec.{ltb, leb, eqb}
 use lib.IntN.{ℤ}
 use lib.ListN.{length}
 use Rattle.g9932.specs.Filler.{afterDraws}
 use Rattle.g9932.specs.Refusals.{tableVerdict}
-use Rattle.g9932.specs.Sizes.{tables, mostTones}
+use Rattle.g9932.specs.Sizes.{tables, entry, mostTones}
 use Rattle.g9932.specs.Symbol.{isMonitored}
 use Rattle.g9932.specs.declared.Class.{Class}
 use Rattle.g9932.specs.declared.Class.the-variants.{Data, Monitored, Silent}
@@ -17,6 +17,10 @@ use Rattle.tables.specs.Checks.{Below}
 use Rattle.clip.specs.declared.Along.{Along}
 use Rattle.clip.specs.declared.FirstMonitored.{FirstMonitored}
 use Rattle.clip.specs.declared.FirstMonitored.the-variants.{At, Nowhere}
+
+-- a sub-carrier with a gain and no bits
+abbrev pub isMonitoredIn : List ℕ → List ℕ → ℕ → Bool
+isMonitoredIn b g k = eqb (entry b k) 0 && ltb 0 (entry g k)
 
 abbrev pub along : ℕ → ℕ → Along
 along p r = record { place = record { 0 = p }; register = r }

@@ -1,13 +1,15 @@
 // Is the clip the wrong way round? The first monitored tone in t' tells, and no other point is looked at.
 ghost use mathlib.Core.Path.{_≡_};
 ghost use Prim.Native.Nat.{_<_};
+ghost use lib.ListN.{length};
 ghost use Rattle.g9932.specs.Clip.{clipAgainst, clipOf, clipCheck, clipReportOf};
 ghost use Rattle.g9932.specs.Filler.{drawn};
 ghost use Rattle.g9932.specs.Points.{pointOf};
 ghost use Rattle.g9932.specs.Sizes.{tables, point, points, mostTones};
 ghost use Rattle.g9932.specs.Symbol.{classesBy, isMonitored};
 ghost use Rattle.g9932.specs.declared.Mode.the-variants.{Coded};
-ghost use Rattle.clip.specs.Tones.{along, toneLook, look, LookNeeds, TellNeeds};
+ghost use Rattle.tables.specs.Checks.{anyBelow};
+ghost use Rattle.clip.specs.Tones.{isMonitoredIn, along, toneLook, look, LookNeeds, TellNeeds};
 use g9932::Class;
 use g9932::Clip;
 use g9932::ClipChecked;
@@ -37,6 +39,21 @@ fn is_monitored(class: Class) -> bool
         Class::Monitored => true,
         Class::Silent => false,
     }
+}
+
+// Whether any sub-carrier has a gain and no bits: of accepted tables, whether any tone is monitored. No early exit and no `if`, so that
+// the compiler takes many entries at a time. Called by proved code only.
+fn any_monitored(bits: &[u8], gains: &[u16]) -> bool
+    requires { ⌜ length (now gains) ≡ length (now bits) ⌝ }
+    ensures { λ r. ⌜ r ≡ anyBelow (isMonitoredIn (now (bits .entry)) (now (gains .entry))) (length (now (bits .entry))) ⌝ }
+{
+    let mut any = false;
+    let mut i = 0;
+    while i < bits.len() {
+        any = any | ((bits[i] == 0) & (0 < gains[i]));
+        i += 1;
+    }
+    any
 }
 
 // Past a tone: a tone without data draws its filler bits, and a 1-bit tone stands behind all others.
@@ -103,18 +120,14 @@ fn clip_at(x: i16, y: i16, register: u32) -> Clip
     Clip::Neither
 }
 
-// What the first monitored tone tells. Its caller shows that nothing is refused.
-fn tell(
-    bits: &[u8],
-    gains: &[u16],
-    tones: &[u16],
-    xs: &[i16],
-    ys: &[i16],
-    register: u32,
-) -> Clip
+// What the first monitored tone tells; where there is none, t is not looked along. Its caller shows that nothing is refused.
+fn tell(bits: &[u8], gains: &[u16], tones: &[u16], xs: &[i16], ys: &[i16], register: u32) -> Clip
     requires { ⌜ TellNeeds (now bits) (now gains) (now tones) (now xs) (now ys) ⌝ }
     ensures { λ r. ⌜ r ≡ clipOf (tables Coded (now (bits .entry)) (now (gains .entry)) (now (tones .entry))) (points (now (xs .entry)) (now (ys .entry))) register ⌝ }
 {
+    if !any_monitored(bits, gains) {
+        return Clip::CannotTell;
+    }
     let monitored = first_monitored(bits, gains, tones, register);
     match monitored {
         FirstMonitored::Nowhere => Clip::CannotTell,

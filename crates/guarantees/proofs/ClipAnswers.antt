@@ -23,7 +23,7 @@ use Rattle.g9932.specs.declared.Found.the-variants.{At, Nothing}
 use Rattle.g9932.specs.declared.Refusal.the-variants.{Room, Seed}
 use Rattle.g9932.proofs.Constellations.{samePoint-self, samePoint→eq}
 use Rattle.g9932.proofs.Search.{found-not}
-use Rattle.g9932.proofs.Verdicts.{test-here, test-past, and-past}
+use Rattle.g9932.proofs.Verdicts.{test-here, test-past, and-past, clip-told}
 use Rattle.guarantees.specs.Words.{AcceptedTables, ValidRegister, RightLength}
 use Rattle.guarantees.proofs.HalfTurn.{halfPoint}
 use Rattle.guarantees.proofs.Operations.{exact-lists, lists-fit}
@@ -59,6 +59,10 @@ module _ (T : Tables) (xs ys : List ℤ) (r : ℕ) where
 
   pub zero-refused : (clipNumber (answer .clip) ≡ 0) ↔ (answer .number ≢ 0)
   zero-refused = (λ z e. number-not (clipOf T (points xs ys) r) (sym (ap clipNumber (told e)) ∙ z), λ h. ap clipNumber (not-told h))
+
+  pub nine : answer .number ≢ 9
+  unfolding clipReportBy
+  nine = clip-told T (length xs) (length ys) r .notNine
 
   pub tables-refused : tableVerdict T .number ≢ 0 → (answer .number ≡ tableVerdict T .number) × (answer .place ≡ tableVerdict T .place)
   unfolding clipReportBy clipVerdict andThen

@@ -554,6 +554,10 @@ clip-refused = ClipAnswers.zero-refused
 pub clip-told : (T : Tables) (xs ys : List ℤ) (r : ℕ) → clipCheck T xs ys r .number ≡ 0 → clipCheck T xs ys r .clip ≡ some (clipOf T (points xs ys) r)
 clip-told = ClipAnswers.told
 
+-- No answer has number 9.
+pub nine-clip : (T : Tables) (xs ys : List ℤ) (r : ℕ) → clipCheck T xs ys r .number ≢ 9
+nine-clip = ClipAnswers.nine
+
 -- Tables that are refused have the number and place of checking them.
 pub tables-clip : (T : Tables) (xs ys : List ℤ) (r : ℕ) → tableVerdict T .number ≢ 0
     → (clipCheck T xs ys r .number ≡ tableVerdict T .number) × (clipCheck T xs ys r .place ≡ tableVerdict T .place)

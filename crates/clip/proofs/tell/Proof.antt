@@ -1,7 +1,8 @@
--- `clip::tell` meets its contract: the tone that is found is the first monitored one, and its point is compared.
+-- `clip::tell` meets its contract: no tone is monitored, or the one that is found is the first, and its point is compared.
 use Prim.Native.Nat.{_<_}
 use mathlib.Core.Path.{_≡_, sym, _∙_}
 use native.Mathlib.Omega.{arith}
+use borrow.Author.Tests.{not-true}
 use lib.IntN.{pos}
 use lib.ListN.{length, getD}
 use mir.Syntax.{w16}
@@ -9,43 +10,51 @@ use mir.ValLaws.{toZ-ofZ}
 use Rattle.g9932.specs.Clip.{clipOf}
 use Rattle.g9932.specs.Sizes.{Tables, tables, mostTones}
 use Rattle.g9932.specs.declared.Mode.the-variants.{Coded}
-use Rattle.g9932.proofs.Accepted.{accepted-tables}
+use Rattle.g9932.proofs.Accepted.{Accepted, accepted-tables}
 use Rattle.g9932.proofs.PointLists.{point-at}
-use Rattle.clip.specs.declared.FirstMonitored.the-variants.{At, Nowhere}
-use Rattle.clip.proofs.Look.{FoundIn, finds-all}
+use Rattle.clip.proofs.Look.{FoundIn, finds-all, none-monitored}
 use borrow.Author.Needs.{needs}
 use Rattle.clip.proofs.tell.Statement.{statement}
 use Rattle.clip.proofs.tell.Tie as tie
 
+-- the tables are accepted
+facts : (s : tie.Start) → Accepted (tables Coded (s .args .bits .now) (s .args .gains .now) (s .args .tones .now))
+facts s = accepted-tables (tables Coded (s .args .bits .now) (s .args .gains .now) (s .args .tones .now)) (s .pre .tables)
+
+any-monitored-requires : tie.Need-any-monitored-requires
+any-monitored-requires c κs = facts (c .before .before .before) .gainsLength
+
+returns : tie.Need-returns
+unfolding clipOf
+returns c =
+    let s = c .before .before .before .before .before in
+    rw (none-monitored (s .args .bits .now) (s .args .gains .now) (s .args .tones .now) (facts s .tonesBelow) (sym (c .before .any-monitored .ensures) ∙ not-true _ (c .if1 .taken)))
+
 first-monitored-requires : tie.Need-first-monitored-requires
 first-monitored-requires c κs =
-    let s = c .before .before .before in
-    let a = accepted-tables (tables Coded (s .args .bits .now) (s .args .gains .now) (s .args .tones .now)) (s .pre .tables) in
+    let a = facts (c .before .before .before .before .before) in
     record { below = a .tonesBelow; gains = a .gainsLength; most = omega (arith, a .tonesMost, a .tableMost) }
 
 -- what is found is the first monitored tone
 module _ (c : tie.After-first-monitored) where
   abbrev T : Tables
-  T = let a = c .before .before .before .before .args in tables Coded (a .bits .now) (a .gains .now) (a .tones .now)
+  T = let a = c .before .before .before .before .before .before .args in tables Coded (a .bits .now) (a .gains .now) (a .tones .now)
 
-  found : FoundIn T (c .before .before .before .before .args .register) (c .first-monitored .result)
-  found = let a = c .before .before .before .before .args in rw (c .first-monitored .ensures) (finds-all (a .bits .now) (a .gains .now) (a .tones .now) (a .register))
+  found : FoundIn T (c .before .before .before .before .before .before .args .register) (c .first-monitored .result)
+  found = let a = c .before .before .before .before .before .before .args in rw (c .first-monitored .ensures) (finds-all (a .bits .now) (a .gains .now) (a .tones .now) (a .register))
 
 -- and it has a place in t'
-inside : (c : tie.After-known-told) → c .before .monitored .given .0 .0 .place .0 < length (c .before .before .before .before .before .before .before .args .tones .now)
+inside : (c : tie.After-known-told) → c .before .monitored .given .0 .0 .place .0 < length (c .before .before .before .before .before .before .before .before .before .args .tones .now)
 inside c = let f = rw (c .before .monitored .given .1) at (found (c .before .before .before)) in f .2
 
 small : (c : tie.After-known-told) → c .before .monitored .given .0 .0 .place .0 < mostTones
-small c =
-    let s = c .before .before .before .before .before .before .before in
-    let a = accepted-tables (tables Coded (s .args .bits .now) (s .args .gains .now) (s .args .tones .now)) (s .pre .tables) in
-    omega (arith, inside c, a .tonesMost, a .tableMost)
+small c = let a = facts (c .before .before .before .before .before .before .before .before .before) in omega (arith, inside c, a .tonesMost, a .tableMost)
 
 shared-slice-copy-out-clip-at : tie.Need-shared-slice-copy-out-clip-at
-shared-slice-copy-out-clip-at c = rw (c .before .before .before .before .before .before .before .pre .xsLength) (inside c)
+shared-slice-copy-out-clip-at c = rw (c .before .before .before .before .before .before .before .before .before .pre .xsLength) (inside c)
 
 shared-slice-copy-out-clip-at-2 : tie.Need-shared-slice-copy-out-clip-at-2
-shared-slice-copy-out-clip-at-2 c = rw (c .before .before .before .before .before .before .before .before .pre .ysLength) (inside (c .before))
+shared-slice-copy-out-clip-at-2 c = rw (c .before .before .before .before .before .before .before .before .before .before .pre .ysLength) (inside (c .before))
 
 mul-clip-at : tie.Need-mul-clip-at
 mul-clip-at c = record { fits = omega (arith, small c) }
@@ -53,14 +62,14 @@ mul-clip-at c = record { fits = omega (arith, small c) }
 mul-clip-at-2 : tie.Need-mul-clip-at-2
 mul-clip-at-2 c = record { fits = omega (arith, small (c .before)) }
 
-returns : tie.Need-returns
-unfolding clipOf
-returns c = rw (rw (c .enum-told .given .1) at (found (c .before .before)))
-
 returns-2 : tie.Need-returns-2
 unfolding clipOf
-returns-2 c =
-    let s = c .before .before .before .before .before .before .before .before .before .before in
+returns-2 c = rw (rw (c .enum-told .given .1) at (found (c .before .before)))
+
+returns-3 : tie.Need-returns-3
+unfolding clipOf
+returns-3 c =
+    let s = c .before .before .before .before .before .before .before .before .before .before .before .before in
     let k = c .before .before .before in
     let f = rw (k .before .monitored .given .1) at (found (k .before .before .before)) in
     let at = k .before .monitored .given .0 .0 in
@@ -75,6 +84,8 @@ pub tell-spec : {M : Type 1} → statement M
 tell-spec =
     tie.close
     (tie.spec
+    any-monitored-requires
+    returns
     first-monitored-requires
     (λ c. search needs)
     (λ c. search needs)
@@ -83,5 +94,5 @@ tell-spec =
     mul-clip-at-2
     shared-slice-copy-out-clip-at-2
     (λ c κs. search needs)
-    returns
-    returns-2)
+    returns-2
+    returns-3)

@@ -1,0 +1,44 @@
+-- `clip::any_monitored` meets its contract. The invariant: `any` tells of the sub-carriers before i. The measure is what is left.
+use mathlib.Core.Path.{_≡_, refl}
+use Prim.Native.Nat.{_-_, _≤_}
+use native.Mathlib.Omega.{arith}
+use lib.ListN.{length}
+use Rattle.tables.specs.Checks.{anyBelow}
+use Rattle.tables.proofs.Scans.{any-none, any-more, any-end}
+use Rattle.clip.specs.Tones.{isMonitoredIn}
+use borrow.Author.Needs.{needs}
+use Rattle.clip.proofs.any_monitored.Statement.{statement}
+use Rattle.clip.proofs.any_monitored.Tie as tie
+
+abbrev Inv-loop : tie.InvT-loop
+Inv-loop bits gains any₀ i₀ any i = (i ≤ length bits) × (any ≡ anyBelow (isMonitoredIn bits gains) i)
+
+abbrev μ-loop : tie.MeasureT-loop
+μ-loop bits gains any₀ i₀ any i = length bits - i
+
+loop-holds : tie.Need-loop-holds Inv-loop μ-loop
+loop-holds c = (omega arith, any-none _)
+
+loop-again : tie.Need-loop-again Inv-loop μ-loop
+loop-again c = (omega arith, any-more _ (c .before .before .before .loop .i) (c .before .before .before .loop .inv .1) refl)
+
+shared-slice-read-any-2 : tie.Need-shared-slice-read-any-2 Inv-loop μ-loop
+shared-slice-read-any-2 c = omega (arith, c .before .before .before .before .pre)
+
+returns : tie.Need-returns Inv-loop μ-loop
+returns c = any-end _ _ _ (c .before .loop .inv .1) (omega arith) (omega arith)
+
+pub any-monitored-spec : {M : Type 1} → statement M
+any-monitored-spec =
+    tie.close
+    (tie.spec
+    Inv-loop
+    μ-loop
+    loop-holds
+    (λ c. search needs)
+    (λ c. search needs)
+    shared-slice-read-any-2
+    (λ c. search needs)
+    (λ c. search needs)
+    loop-again
+    returns)
