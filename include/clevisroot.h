@@ -94,9 +94,9 @@
  * Every answer has a number: 0 if the call is done, else the number below. If several refusals
  * apply, the smallest number is given (but clevisroot_read_point tests 16 before 13, and the calls of
  * a tally 22 before 11). So in reading without noise all places pass 13 before any is tested for 14,
- * and all 14 before any pair is tested for 15. A refused call writes nothing to any buffer, has size
- * and total 0, and hands the register back as it was given. A call that is done writes the whole of
- * each output.
+ * and all 14 before any pair is tested for 15. A refused call writes nothing to any buffer, has size,
+ * total and clip 0, and hands the register back as it was given. A call that is done writes the whole
+ * of each output.
  *
  *   no.  given exactly when                                              place
  *   1    G is not 1 to 4096, gains_len is not G, NSC is 0 or above G     0
@@ -149,8 +149,9 @@
  * and 0 where the call is refused. Of coded tables with a monitored tone, and of points that are a
  * symbol written with these tables and this register, or one turned by half a turn, it answers what
  * two readings would: straight exactly when the points are read as they are, turned exactly when they
- * are read with all signs changed. It costs little more than checking the tables. The filler bits
- * come from the register: with another one than the writer's the answer means nothing.
+ * are read with all signs changed. It rests on that one tone and on the register: with another one
+ * than the writer's the tone looks straight one time in four, and turned one time in four. After the
+ * checks of the tables it looks along them once and along t at most once, as far as that tone.
  */
 #ifndef CLEVISROOT_H
 #define CLEVISROOT_H

@@ -1,6 +1,6 @@
 /*
- * The names of the answers' numbers and of the clips, for logs. Plain C, beside the proved library; include it only
- * where the texts are wanted, so that a small target need not hold them.
+ * The names of the answers' numbers and of the clips, for logs. Plain C, beside the proved library;
+ * include it only where the texts are wanted, so that a small target need not hold them.
  */
 #ifndef CLEVISROOT_NAMES_H
 #define CLEVISROOT_NAMES_H
