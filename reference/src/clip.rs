@@ -66,22 +66,18 @@ pub fn clip_of(tables: &Tables, x: &[i16], y: &[i16], register: u32) -> Clip {
     }
 }
 
-/// The full way, for accepted tables and a valid register: the points are read as they are, and with
-/// all signs changed, each time from the given register; none if not just one reading is accepted.
-pub fn by_two_readings(
-    tables: &Tables,
-    points: &[Point],
-    register: u32,
-    start: u8,
-) -> Option<Clip> {
+/// The full way, for accepted tables and a valid register: the points are read as they are, then with
+/// all signs changed, each time from the given register, to see which is accepted.
+pub fn by_two_readings(tables: &Tables, points: &[Point], register: u32, start: u8) -> Clip {
     let room = frame_bytes(start, frame_size(tables));
     let accepted = |points: &[Point]| {
         let (x, y) = lists_of(points);
         read_at(tables, &x, &y, register, room, start).number == 0
     };
     match (accepted(points), accepted(&half_turn(points))) {
-        (true, false) => Some(Clip::Straight),
-        (false, true) => Some(Clip::Turned),
-        _ => None,
+        (true, false) => Clip::Straight,
+        (false, true) => Clip::Turned,
+        (false, false) => Clip::Neither,
+        (true, true) => Clip::CantTell,
     }
 }

@@ -1,39 +1,32 @@
--- The look along t for the first monitored tone, with its place in t' and the register before its draws.
+-- The look along t for the first monitored tone, with its place in t' and the silent tones before it there.
 use Prim.Native.Nat.{ℕ, _+_, _≤_}
-use mathlib.Core.Bool.{Bool, true, false, _&&_}
+use mathlib.Core.Bool.{Bool, true, false}
 use mathlib.Core.List.{List, [], _∷_}
 use mathlib.Core.Path.{_≡_}
-use lib.Dec.{ltb, leb, eqb}
 use lib.IntN.{ℤ}
 use lib.ListN.{length}
-use Rattle.g9932.specs.Filler.{afterDraws}
+use Rattle.g9932.specs.Bits.{weight}
 use Rattle.g9932.specs.Refusals.{tableVerdict}
-use Rattle.g9932.specs.Sizes.{tables, entry, mostTones}
-use Rattle.g9932.specs.Symbol.{isMonitored}
+use Rattle.g9932.specs.Sizes.{tables, mostTones}
+use Rattle.g9932.specs.Symbol.{classAt, isMonitored}
 use Rattle.g9932.specs.declared.Class.{Class}
-use Rattle.g9932.specs.declared.Class.the-variants.{Data, Monitored, Silent}
 use Rattle.g9932.specs.declared.Mode.the-variants.{Coded}
+use Rattle.plan.specs.Plan.{isPlaced, isDrawing}
 use Rattle.tables.specs.Checks.{Below}
 use Rattle.clip.specs.declared.Along.{Along}
 use Rattle.clip.specs.declared.FirstMonitored.{FirstMonitored}
 use Rattle.clip.specs.declared.FirstMonitored.the-variants.{At, Nowhere}
 
--- a sub-carrier with a gain and no bits
+-- of a sub-carrier, whether a tone there is monitored
 abbrev pub isMonitoredIn : List ℕ → List ℕ → ℕ → Bool
-isMonitoredIn b g k = eqb (entry b k) 0 && ltb 0 (entry g k)
+isMonitoredIn b g k = isMonitored (classAt b g k)
 
+-- past a tone: the place in t' of the next, and the silent tones before it; a 1-bit tone has its place behind the others
 abbrev pub along : ℕ → ℕ → Along
-along p r = record { place = record { 0 = p }; register = r }
+along p s = record { place = record { 0 = p }; silent = s }
 
--- past a tone: its place in t' and its draws; a 1-bit tone stands behind all others and draws nothing
-abbrev pub dataPast : Bool → Along → Along
-dataPast true at = along (at .place .0 + 1) (at .register)
-dataPast false at = at
-
-abbrev pub toneLook : Class → Along → Along
-toneLook (Data b) at = dataPast (leb 2 b) at
-toneLook Monitored at = along (at .place .0 + 1) (afterDraws 2 (at .register))
-toneLook Silent at = along (at .place .0 + 1) (afterDraws 2 (at .register))
+abbrev pub pastTone : Class → Along → Along
+pastTone c at = along (at .place .0 + weight (isPlaced 2 c)) (at .silent + weight (isDrawing c))
 
 -- the look along the classes of t
 abbrev pub lookBy : Bool → Along → FirstMonitored → FirstMonitored
@@ -42,9 +35,9 @@ lookBy false at rest = rest
 
 unfoldable pub look : List Class → Along → FirstMonitored
 look [] at = Nowhere
-look (c ∷ cs) at = lookBy (isMonitored c) at (look cs (toneLook c at))
+look (c ∷ cs) at = lookBy (isMonitored c) at (look cs (pastTone c at))
 
--- t has indices below G, which both tables have
+-- t has at most 4,096 indices, all below G, which both tables have
 pub record LookNeeds (b g t : List ℕ) : Type 0 where
   pub below : Below (length b) t
   pub gains : length g ≡ length b

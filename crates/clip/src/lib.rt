@@ -1,16 +1,14 @@
 // Is the clip the wrong way round? The first monitored tone in t' tells, and no other point is looked at.
 ghost use mathlib.Core.Path.{_≡_};
-ghost use Prim.Native.Nat.{_<_};
 ghost use lib.ListN.{length};
 ghost use Rattle.g9932.specs.Clip.{clipAgainst, clipOf, clipCheck, clipReportOf};
 ghost use Rattle.g9932.specs.Filler.{drawn};
 ghost use Rattle.g9932.specs.Points.{pointOf};
-ghost use Rattle.g9932.specs.Sizes.{tables, point, points, mostTones};
+ghost use Rattle.g9932.specs.Sizes.{tables, point, points, toneOf};
 ghost use Rattle.g9932.specs.Symbol.{classesBy, isMonitored};
 ghost use Rattle.g9932.specs.declared.Mode.the-variants.{Coded};
 ghost use Rattle.tables.specs.Checks.{anyBelow};
-ghost use Rattle.clip.specs.Tones.{isMonitoredIn, along, toneLook, look, LookNeeds, TellNeeds};
-use g9932::Class;
+ghost use Rattle.clip.specs.Tones.{isMonitoredIn, along, look, LookNeeds, TellNeeds};
 use g9932::Clip;
 use g9932::ClipChecked;
 use g9932::Mode;
@@ -18,30 +16,26 @@ use g9932::Place;
 use g9932::Refusal;
 use tables::sizes::Sized;
 
-// How far the look along t has come: the place in t' of the next tone that is not a 1-bit tone, and the register before its draws.
+// A tone on the way along t: its place in t', and how many silent tones stand before it there. No 1-bit tone does.
 pub struct Along {
     pub place: Place,
-    pub register: u32,
+    pub silent: usize,
 }
 
-// What the look finds: the first monitored tone, or that there is none.
+// What the look along t finds: the first monitored tone, or that there is none.
 pub enum FirstMonitored {
     At(Along),
     Nowhere,
 }
 
-// Whether a tone is monitored.
-fn is_monitored(class: Class) -> bool
-    ensures { λ r. ⌜ r ≡ isMonitored class ⌝ }
+// Whether a tone with these bits and this gain is monitored.
+fn is_monitored(bits: u8, gain: u16) -> bool
+    ensures { λ r. ⌜ r ≡ isMonitored (toneOf bits gain .class) ⌝ }
 {
-    match class {
-        Class::Data(_) => false,
-        Class::Monitored => true,
-        Class::Silent => false,
-    }
+    (bits == 0) & (0 < gain)
 }
 
-// Whether any sub-carrier has a gain and no bits: of accepted tables, whether any tone is monitored. No early exit and no `if`, so that
+// Whether any sub-carrier is as a monitored tone is: of accepted tables, whether any tone is monitored. No early exit and no `if`, so that
 // the compiler takes many entries at a time. Called by proved code only.
 fn any_monitored(bits: &[u8], gains: &[u16]) -> bool
     requires { ⌜ length (now gains) ≡ length (now bits) ⌝ }
@@ -50,57 +44,32 @@ fn any_monitored(bits: &[u8], gains: &[u16]) -> bool
     let mut any = false;
     let mut i = 0;
     while i < bits.len() {
-        any = any | ((bits[i] == 0) & (0 < gains[i]));
+        any = any | is_monitored(bits[i], gains[i]);
         i += 1;
     }
     any
 }
 
-// Past a tone: a tone without data draws its filler bits, and a 1-bit tone stands behind all others.
-fn past(class: Class, at: Along) -> Along
-    requires { ⌜ at .place .0 < mostTones ⌝ }
-    ensures { λ r. ⌜ r ≡ toneLook class at ⌝ }
-{
-    let next = Place(at.place.0 + 1);
-    match class {
-        Class::Data(bits) => {
-            if bits < 2 {
-                return at;
-            }
-            Along {
-                place: next,
-                register: at.register,
-            }
-        }
-        Class::Monitored => Along {
-            place: next,
-            register: prbs::filler_label(at.register).register,
-        },
-        Class::Silent => Along {
-            place: next,
-            register: prbs::filler_label(at.register).register,
-        },
-    }
-}
-
-// The first monitored tone in t'. It is the first one in t, for no 1-bit tone is monitored. Called by proved code only.
-fn first_monitored(bits: &[u8], gains: &[u16], tones: &[u16], register: u32) -> FirstMonitored
+// The first monitored tone in t'. It is the first one in t, for no 1-bit tone is monitored. The counts have no `if`. Called by proved code
+// only.
+fn first_monitored(bits: &[u8], gains: &[u16], tones: &[u16]) -> FirstMonitored
     requires { ⌜ LookNeeds (now bits) (now gains) (now tones) ⌝ }
-    ensures { λ r. ⌜ r ≡ look (classesBy (now (bits .entry)) (now (gains .entry)) (now (tones .entry))) (along 0 register) ⌝ }
+    ensures { λ r. ⌜ r ≡ look (classesBy (now (bits .entry)) (now (gains .entry)) (now (tones .entry))) (along 0 0) ⌝ }
 {
-    let mut at = Along {
-        place: Place(0),
-        register,
-    };
+    let mut place = 0;
+    let mut silent = 0;
     let mut i = 0;
     while i < tones.len() {
         let k = tables::tone_at(tones, Place(i));
-        let tone = tables::tone_of(tables::bits_of(bits, k), tables::gain_of(gains, k));
-        let class = tone.class;
-        if is_monitored(class) {
-            return FirstMonitored::At(at);
+        let b = tables::bits_of(bits, k);
+        if is_monitored(b, tables::gain_of(gains, k)) {
+            return FirstMonitored::At(Along {
+                place: Place(place),
+                silent,
+            });
         }
-        at = past(class, at);
+        place += tables::one_if(b != 1) as usize;
+        silent += tables::one_if(b == 0) as usize;
         i += 1;
     }
     FirstMonitored::Nowhere
@@ -120,7 +89,8 @@ fn clip_at(x: i16, y: i16, register: u32) -> Clip
     Clip::Neither
 }
 
-// What the first monitored tone tells; where there is none, t is not looked along. Its caller shows that nothing is refused.
+// What the first monitored tone tells; where there is none, t is not looked along. Its caller shows that the tables are accepted and that
+// both lists have NSC entries.
 fn tell(bits: &[u8], gains: &[u16], tones: &[u16], xs: &[i16], ys: &[i16], register: u32) -> Clip
     requires { ⌜ TellNeeds (now bits) (now gains) (now tones) (now xs) (now ys) ⌝ }
     ensures { λ r. ⌜ r ≡ clipOf (tables Coded (now (bits .entry)) (now (gains .entry)) (now (tones .entry))) (points (now (xs .entry)) (now (ys .entry))) register ⌝ }
@@ -128,12 +98,12 @@ fn tell(bits: &[u8], gains: &[u16], tones: &[u16], xs: &[i16], ys: &[i16], regis
     if !any_monitored(bits, gains) {
         return Clip::CannotTell;
     }
-    let monitored = first_monitored(bits, gains, tones, register);
+    let monitored = first_monitored(bits, gains, tones);
     match monitored {
         FirstMonitored::Nowhere => Clip::CannotTell,
         FirstMonitored::At(at) => {
             let p = at.place.0;
-            clip_at(xs[p], ys[p], at.register)
+            clip_at(xs[p], ys[p], prbs::after_tones(register, at.silent))
         }
     }
 }

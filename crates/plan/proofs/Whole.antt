@@ -37,7 +37,7 @@ placed-uncoded b g [] = refl
 placed-uncoded b g (k ∷ t) = rw (all-placed (entry b k) (entry g k)) (ap (λ (l : List Class). classAt b g k ∷ l) (placed-uncoded b g t))
 
 -- coded, the tones of 1 bit do
-placed-other : (b g : ℕ) → isPlaced 2 (toneOf b g .class) ≡ not (isOne b)
+pub placed-other : (b g : ℕ) → isPlaced 2 (toneOf b g .class) ≡ not (isOne b)
 placed-other zero g = go (ltb 0 g)
   where
     go : (q : Bool) → isPlaced 2 (classBy q Monitored Silent) ≡ true

@@ -1,6 +1,7 @@
 // The filler bit generator: the pseudo-random sequence that 0-bit tones draw, and monitored ones carry.
 ghost use mathlib.Core.Path.{_≡_};
-ghost use Rattle.g9932.specs.Filler.{drawOf};
+ghost use Prim.Native.Nat.{_*_};
+ghost use Rattle.g9932.specs.Filler.{drawOf, afterDraws};
 ghost use Rattle.g9932.specs.Answers.{drawAnswer, drawnOf};
 ghost use Rattle.g9932.specs.Refusals.{seedTest};
 ghost use Rattle.prbs.specs.TwoBits.{TwoDrawn};
@@ -34,6 +35,40 @@ pub fn filler_label(register: u32) -> FillerLabel
         label: register % 4,
         register: register / 4 + 2097152 * feed,
     }
+}
+
+// The register after the draws of nine 0-bit tones: 18 bits are fed back at once. The next would be fed from one of these.
+fn after_nine(register: u32) -> u32
+    ensures { λ r. ⌜ r ≡ afterDraws 18 register ⌝ }
+{
+    let feed = (register ^ (register / 32)) % 262144;
+    register / 262144 + 32 * feed
+}
+
+// The same, so many times.
+fn after_nines(register: u32, nines: usize) -> u32
+    ensures { λ r. ⌜ r ≡ afterDraws (18 * nines) register ⌝ }
+{
+    let mut next = register;
+    let mut left = nines;
+    while 0 < left {
+        next = after_nine(next);
+        left -= 1;
+    }
+    next
+}
+
+// The register after the draws of so many 0-bit tones.
+pub fn after_tones(register: u32, tones: usize) -> u32
+    ensures { λ r. ⌜ r ≡ afterDraws (2 * tones) register ⌝ }
+{
+    let mut next = after_nines(register, tones / 9);
+    let mut left = tones % 9;
+    while 0 < left {
+        next = filler_label(next).register;
+        left -= 1;
+    }
+    next
 }
 
 // Whether SEED (12) applies.

@@ -82,7 +82,7 @@ pub fn tone_of(bits: u8, gain: u16) -> Tone
 }
 
 // A test as a number to count with.
-fn one_if(test: bool) -> u16
+pub fn one_if(test: bool) -> u16
     ensures { λ r. ⌜ (r ≡ weight test) × (r ≤ 1) ⌝ }
 {
     test as u16

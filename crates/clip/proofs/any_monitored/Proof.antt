@@ -1,5 +1,5 @@
 -- `clip::any_monitored` meets its contract. The invariant: `any` tells of the sub-carriers before i. The measure is what is left.
-use mathlib.Core.Path.{_≡_, refl}
+use mathlib.Core.Path.{_≡_, sym}
 use Prim.Native.Nat.{_-_, _≤_}
 use native.Mathlib.Omega.{arith}
 use lib.ListN.{length}
@@ -19,11 +19,11 @@ abbrev μ-loop : tie.MeasureT-loop
 loop-holds : tie.Need-loop-holds Inv-loop μ-loop
 loop-holds c = (omega arith, any-none _)
 
-loop-again : tie.Need-loop-again Inv-loop μ-loop
-loop-again c = (omega arith, any-more _ (c .before .before .before .loop .i) (c .before .before .before .loop .inv .1) refl)
+shared-slice-read-is-monitored-2 : tie.Need-shared-slice-read-is-monitored-2 Inv-loop μ-loop
+shared-slice-read-is-monitored-2 c = omega (arith, c .before .before .before .before .before .before .pre)
 
-shared-slice-read-any-2 : tie.Need-shared-slice-read-any-2 Inv-loop μ-loop
-shared-slice-read-any-2 c = omega (arith, c .before .before .before .before .pre)
+loop-again : tie.Need-loop-again Inv-loop μ-loop
+loop-again c = let l = c .before .before .before .before .loop in (omega arith, any-more _ (l .i) (l .inv .1) (sym (c .is-monitored .ensures)))
 
 returns : tie.Need-returns Inv-loop μ-loop
 returns c = any-end _ _ _ (c .before .loop .inv .1) (omega arith) (omega arith)
@@ -37,7 +37,8 @@ any-monitored-spec =
     loop-holds
     (λ c. search needs)
     (λ c. search needs)
-    shared-slice-read-any-2
+    shared-slice-read-is-monitored-2
+    (λ c κs. search needs)
     (λ c. search needs)
     (λ c. search needs)
     loop-again

@@ -40,8 +40,8 @@ module _ (c : tie.After-first-monitored) where
   abbrev T : Tables
   T = let a = c .before .before .before .before .before .before .args in tables Coded (a .bits .now) (a .gains .now) (a .tones .now)
 
-  found : FoundIn T (c .before .before .before .before .before .before .args .register) (c .first-monitored .result)
-  found = let a = c .before .before .before .before .before .before .args in rw (c .first-monitored .ensures) (finds-all (a .bits .now) (a .gains .now) (a .tones .now) (a .register))
+  found : FoundIn T (c .first-monitored .result)
+  found = let a = c .before .before .before .before .before .before .args in rw (c .first-monitored .ensures) (finds-all (a .bits .now) (a .gains .now) (a .tones .now))
 
 -- and it has a place in t'
 inside : (c : tie.After-known-told) → c .before .monitored .given .0 .0 .place .0 < length (c .before .before .before .before .before .before .before .before .before .args .tones .now)
@@ -69,16 +69,17 @@ returns-2 c = rw (rw (c .enum-told .given .1) at (found (c .before .before)))
 returns-3 : tie.Need-returns-3
 unfolding clipOf
 returns-3 c =
-    let s = c .before .before .before .before .before .before .before .before .before .before .before .before in
-    let k = c .before .before .before in
+    let s = c .before .before .before .before .before .before .before .before .before .before .before .before .before in
+    let k = c .before .before .before .before in
     let f = rw (k .before .monitored .given .1) at (found (k .before .before .before)) in
     let at = k .before .monitored .given .0 .0 in
     let X = s .args .xs .now in
     let Y = s .args .ys .now in
     let p = point-at X Y (at .place .0) (rw (s .pre .xsLength) (inside k)) (s .pre .ysLength ∙ sym (s .pre .xsLength)) in
-    let x = toZ-ofZ w16 (getD X (at .place .0) (pos 0)) (record { sfits = c .before .before .clip-at-arg .given }) in
-    let y = toZ-ofZ w16 (getD Y (at .place .0) (pos 0)) (record { sfits = c .before .clip-at-arg2 .given }) in
-    rw (f .0, p, ← (f .1)) (rw (x, y) at (c .clip-at .ensures))
+    let x = toZ-ofZ w16 (getD X (at .place .0) (pos 0)) (record { sfits = c .before .before .before .clip-at-arg .given }) in
+    let y = toZ-ofZ w16 (getD Y (at .place .0) (pos 0)) (record { sfits = c .before .before .clip-at-arg2 .given }) in
+    let r = c .before .after-tones .ensures ∙ sym (f .1 (s .args .register)) in
+    rw (f .0, p, ← r) (rw (x, y) at (c .clip-at .ensures))
 
 pub tell-spec : {M : Type 1} → statement M
 tell-spec =
@@ -93,6 +94,7 @@ tell-spec =
     shared-slice-copy-out-clip-at
     mul-clip-at-2
     shared-slice-copy-out-clip-at-2
+    (λ c κs. search needs)
     (λ c κs. search needs)
     returns-2
     returns-3)
