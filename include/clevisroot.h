@@ -146,12 +146,13 @@
  *   3  neither     it is another one: noise, another register, or no symbol of these tables
  *   4  can't tell  no tone is monitored
  *
- * and 0 where the call is refused. Of coded tables with a monitored tone, and of points that are a
- * symbol written with these tables and this register, or one turned by half a turn, it answers what
- * two readings would: straight exactly when the points are read as they are, turned exactly when they
- * are read with all signs changed. It rests on that one tone and on the register: with another one
- * than the writer's the tone looks straight one time in four, and turned one time in four. After the
- * checks of the tables it looks along them once and along t at most once, as far as that tone.
+ * and 0 where the call is refused. If some tone is monitored, and the points are a symbol written with
+ * these tables and this register, or one turned by half a turn, it answers what two readings would:
+ * straight exactly when the points are read as they are, turned exactly when they are read with all
+ * signs changed. It rests on that one tone and on the register: with another one than the writer's the
+ * tone looks straight about one time in four, and turned about one time in four. Straight does not say
+ * that the symbol will be read, for all other points may be anything. After the checks of the tables
+ * it looks along them once and along t at most once, as far as that tone.
  */
 #ifndef CLEVISROOT_H
 #define CLEVISROOT_H

@@ -55,11 +55,17 @@ fn first_monitored(tables: &Tables) -> Option<(usize, usize)> {
     // of one length, so that one test of an index serves both
     let g = tables.bits.len();
     let (bits, gains) = (&tables.bits[..g], &tables.gains[..g]);
+    let monitored = |b: u8, gain: u16| (b == 0) & (gain > 0);
+    // over all sub-carriers, many at a time: where there is none, t need not be looked along
+    let pairs = bits.iter().zip(gains);
+    if !pairs.fold(false, |any, (&b, &gain)| any | monitored(b, gain)) {
+        return None;
+    }
     let (mut place, mut silent) = (0, 0);
     for &tone in tables.tones {
         let tone = usize::from(tone);
         let (b, gain) = (bits[tone], gains[tone]);
-        if (b == 0) & (gain > 0) {
+        if monitored(b, gain) {
             return Some((place, silent));
         }
         place += usize::from(b != 1);

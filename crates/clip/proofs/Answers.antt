@@ -14,13 +14,13 @@ use Rattle.g9932.specs.declared.Refusal.{Refusal}
 use Rattle.g9932.proofs.Identities.{or-false}
 use Rattle.g9932.proofs.Verdicts.{number-some}
 
-pub clip-refused : (x : Refusal) {v : Verdict} (c : Clip) (r : ℕ) → verdictOf (Refused x) ≡ v → clipReportOf (NotTold x r) ≡ clipReportBy v c r
+pub check-refused : (x : Refusal) {v : Verdict} (c : Clip) (r : ℕ) → verdictOf (Refused x) ≡ v → clipReportOf (NotTold x r) ≡ clipReportBy v c r
 unfolding clipReportBy
-clip-refused x c r e = rw (← e, number-some x)
+check-refused x c r e = rw (← e, number-some x)
 
-pub clip-told : {v : Verdict} (c : Clip) (r : ℕ) → accepted 0 ≡ v → clipReportOf (Told c r) ≡ clipReportBy v c r
+pub check-told : {v : Verdict} (c : Clip) (r : ℕ) → accepted 0 ≡ v → clipReportOf (Told c r) ≡ clipReportBy v c r
 unfolding clipReportBy
-clip-told c r e = rw (← e)
+check-told c r e = rw (← e)
 
 -- past 10, both lists of points have NSC entries
 pub room-lengths : (x y nsc : ℕ) → roomTest x nsc || roomTest y nsc ≡ false → (x ≡ nsc) × (y ≡ nsc)

@@ -13,14 +13,13 @@ use lib.ListN.{length, take, getD}
 use Rattle.g9932.specs.Clip.{clipBy, clipAgainst, fillerPoint, clipAt, clipOf, clipInputs, clipVerdict, ClipReport, clipReportBy, clipCheck, clipNumber}
 use Rattle.g9932.specs.Filler.{drawn, registerAfter}
 use Rattle.g9932.specs.Points.{pointOf, negated, samePoint}
-use Rattle.g9932.specs.Refusals.{Verdict, accepted, refused, verdictBy, andThen, seedTest, tableVerdict}
+use Rattle.g9932.specs.Refusals.{Verdict, andThen, roomTest, tableVerdict}
 use Rattle.g9932.specs.Sizes.{Tables, Point, origin, points}
 use Rattle.g9932.specs.Symbol.{classesOf, firstMonitored}
 use Rattle.g9932.specs.declared.Clip.{Clip}
 use Rattle.g9932.specs.declared.Clip.the-variants.{Straight, Turned, Neither, CannotTell}
 use Rattle.g9932.specs.declared.Found.{Found}
 use Rattle.g9932.specs.declared.Found.the-variants.{At, Nothing}
-use Rattle.g9932.specs.declared.Refusal.the-variants.{Room, Seed}
 use Rattle.g9932.proofs.Constellations.{samePoint-self, samePoint→eq}
 use Rattle.g9932.proofs.Search.{found-not}
 use Rattle.g9932.proofs.Verdicts.{test-here, test-past, and-past, clip-told}
@@ -64,9 +63,10 @@ module _ (T : Tables) (xs ys : List ℤ) (r : ℕ) where
   unfolding clipReportBy
   nine = clip-told T (length xs) (length ys) r .notNine
 
-  pub tables-refused : tableVerdict T .number ≢ 0 → (answer .number ≡ tableVerdict T .number) × (answer .place ≡ tableVerdict T .place)
+  pub tables-refused : tableVerdict T .number ≢ 0
+      → answer ≡ record { number = tableVerdict T .number; place = tableVerdict T .place; clip = none; register = r }
   unfolding clipReportBy clipVerdict andThen
-  tables-refused h = rw (ne-eqb (tableVerdict T .number) 0 h) (refl, refl)
+  tables-refused h = rw (ne-eqb (tableVerdict T .number) 0 h, ne-eqb (tableVerdict T .number) 0 h)
 
 -- ---- in accepted tables
 
@@ -74,20 +74,25 @@ module _ (T : Tables) (ok : AcceptedTables T) (xs ys : List ℤ) (r : ℕ) where
   abbrev verdict : Verdict
   verdict = clipVerdict T (length xs) (length ys) r
 
-  pub room : (RightLength T xs ys → ⊥) → verdict ≡ refused 10 0
-  unfolding clipVerdict clipInputs
-  room wrong = sym (and-past (tableVerdict T) ok (test-here 10 _ (not-eq-not {b = true} .0 (λ e. wrong (exact-lists T ok xs ys 0 r e)))))
+  -- the answer by its verdict
+  by-verdict : {v : Verdict} → v ≡ verdict → clipCheck T xs ys r ≡ clipReportBy v (clipOf T (points xs ys) r) r
+  by-verdict e = ap (λ (v : Verdict). clipReportBy v (clipOf T (points xs ys) r) r) (sym e)
+
+  pub room : (RightLength T xs ys → ⊥) → clipCheck T xs ys r ≡ record { number = 10; place = 0; clip = none; register = r }
+  unfolding clipReportBy clipVerdict clipInputs
+  room wrong = by-verdict (and-past (tableVerdict T) ok (test-here 10 _ (not-eq-not {b = true} .0 (λ e. wrong (exact-lists T ok xs ys 0 r e)))))
 
   module _ (right : RightLength T xs ys) where
-    pub seed : (ValidRegister r → ⊥) → verdict ≡ refused 12 0
-    unfolding clipVerdict clipInputs
-    seed bad = sym (and-past (tableVerdict T) ok (test-past 10 (lists-fit T ok xs ys 0 r right) (test-here 12 _ (not-eq-not {b = true} .0 bad))))
+    fits : roomTest (length xs) (length (T .tones)) || roomTest (length ys) (length (T .tones)) ≡ false
+    fits = lists-fit T ok xs ys 0 r right
+
+    pub seed : (ValidRegister r → ⊥) → clipCheck T xs ys r ≡ record { number = 12; place = 0; clip = none; register = r }
+    unfolding clipReportBy clipVerdict clipInputs
+    seed bad = by-verdict (and-past (tableVerdict T) ok (test-past 10 fits (test-here 12 _ (not-eq-not {b = true} .0 bad))))
 
     pub done : ValidRegister r → clipCheck T xs ys r ≡ record { number = 0; place = 0; clip = some (clipOf T (points xs ys) r); register = r }
     unfolding clipReportBy clipVerdict clipInputs
-    done valid =
-        let v : accepted 0 ≡ verdict = and-past (tableVerdict T) ok (test-past 10 (lists-fit T ok xs ys 0 r right) (test-past 12 valid refl)) in
-        ap (λ (v : Verdict). clipReportBy v (clipOf T (points xs ys) r) r) (sym v)
+    done valid = by-verdict (and-past (tableVerdict T) ok (test-past 10 fits (test-past 12 valid refl)))
 
 -- ---- which way round
 
@@ -106,6 +111,17 @@ by-tells true b e = let z : _≡_ {A = ℕ} 1 4 = ap numberIn e in omega arith
 by-tells false true e = let z : _≡_ {A = ℕ} 2 4 = ap numberIn e in omega arith
 by-tells false false e = let z : _≡_ {A = ℕ} 3 4 = ap numberIn e in omega arith
 
+by-neither : (a b : Bool) → (a ≡ true → ⊥) → (b ≡ true → ⊥) → clipBy a b ≡ Neither
+by-neither true b h k = absurd (h refl)
+by-neither false true h k = absurd (k refl)
+by-neither false false h k = refl
+
+straight-not : _≡_ {A = Clip} Straight Neither → ⊥
+straight-not e = let z : _≡_ {A = ℕ} 1 3 = ap numberIn e in omega arith
+
+turned-not : _≡_ {A = Clip} Turned Neither → ⊥
+turned-not e = let z : _≡_ {A = ℕ} 2 3 = ap numberIn e in omega arith
+
 module _ (T : Tables) (q : List Point) (r : ℕ) where
   pub cannot-tell : (clipOf T q r ≡ CannotTell) ↔ (firstMonitored T ≡ Nothing)
   unfolding clipOf
@@ -119,7 +135,7 @@ module _ (T : Tables) (q : List Point) (r : ℕ) where
     abbrev filler : Point
     filler = fillerPoint T r k
 
-    pub clip-is : clipOf T q r ≡ clipAgainst filler (getD q k origin)
+    clip-is : clipOf T q r ≡ clipAgainst filler (getD q k origin)
     unfolding clipOf
     clip-is = ap (clipAt T q r) m
 
@@ -138,3 +154,20 @@ module _ (T : Tables) (q : List Point) (r : ℕ) where
       λ e. samePoint→eq (getD q k origin) (negated filler) (by-turned (samePoint (getD q k origin) filler) (samePoint (getD q k origin) (negated filler)) (sym clip-is ∙ e)),
       λ e. clip-is ∙ rw (e, differs, samePoint-self (negated filler)),
     )
+
+    pub neither : (clipOf T q r ≡ Neither) ↔ ((getD q k origin ≢ filler) × (getD q k origin ≢ negated filler))
+    neither = (
+      λ e. (λ z. straight-not (sym (straight .1 z) ∙ e), λ z. turned-not (sym (turned .1 z) ∙ e)),
+      λ h. clip-is ∙ by-neither (samePoint (getD q k origin) filler) (samePoint (getD q k origin) (negated filler))
+          (λ z. h .0 (samePoint→eq (getD q k origin) filler z)) (λ z. h .1 (samePoint→eq (getD q k origin) (negated filler) z)),
+    )
+
+-- no other point matters
+pub one-tone : (T : Tables) (r : ℕ) (X Y X′ Y′ : List ℤ) → length X ≡ length X′ → length Y ≡ length Y′
+    → ((k : ℕ) → firstMonitored T ≡ At k → getD (points X Y) k origin ≡ getD (points X′ Y′) k origin) → clipCheck T X Y r ≡ clipCheck T X′ Y′ r
+unfolding clipOf
+one-tone T r X Y X′ Y′ lx ly same = rw (lx, ly) (ap (λ (c : Clip). clipReportBy (clipVerdict T (length X′) (length Y′) r) c r) (go (firstMonitored T) same))
+  where
+    go : (f : Found) → ((k : ℕ) → f ≡ At k → getD (points X Y) k origin ≡ getD (points X′ Y′) k origin) → clipAt T (points X Y) r f ≡ clipAt T (points X′ Y′) r f
+    go Nothing h = refl
+    go (At k) h = ap (clipAgainst (fillerPoint T r k)) (h k refl)

@@ -1,12 +1,12 @@
 -- The clip check answers what two readings would, of a written symbol and of one turned by half a turn.
-use Prim.Native.Nat.{ℕ, _≤_, _<_}
+use Prim.Native.Nat.{ℕ, _%_, _≤_}
 use mathlib.Core.Bool.{Bool, true, false}
 use mathlib.Core.List.{List, [], _∷_, map}
 use mathlib.Core.Logic.{_↔_, _≢_, _⊎_, inl, inr, ⊎-elim}
 use mathlib.Core.Option.{some}
 use mathlib.Core.Path.{_≡_, refl, sym, ap, ap₂, _∙_}
 use native.Mathlib.Omega.{arith}
-use borrow.Author.Tests.{eq-eqb, ne-eqb, eqb-true}
+use borrow.Author.Tests.{eqb-true}
 use lib.Dec.{eqb}
 use lib.IntN.{ℤ, negℤ, negℤ-negℤ}
 use lib.ListN.{length, take, getD, length-map, List·getD-map}
@@ -20,8 +20,8 @@ use Rattle.g9932.specs.Answers.{encodeAt, readAt}
 use Rattle.g9932.specs.declared.Class.{Class}
 use Rattle.g9932.specs.declared.Class.the-variants.{Data, Monitored, Silent}
 use Rattle.g9932.specs.declared.Clip.{Clip}
-use Rattle.g9932.specs.declared.Clip.the-variants.{Straight, Turned, Neither}
-use Rattle.g9932.specs.declared.Found.the-variants.{At}
+use Rattle.g9932.specs.declared.Clip.the-variants.{Straight, Turned, Neither, CannotTell}
+use Rattle.g9932.specs.declared.Found.the-variants.{At, Nothing}
 use Rattle.g9932.specs.declared.Mode.the-variants.{Coded}
 use Rattle.g9932.proofs.Accepted.{Accepted, accepted-tables}
 use Rattle.g9932.proofs.Packed.{length-frame}
@@ -29,9 +29,9 @@ use Rattle.g9932.proofs.PointLists.{points-both, points-xs, points-ys}
 use Rattle.g9932.proofs.Search.{first-found}
 use Rattle.g9932.proofs.Sent.{length-classes}
 use Rattle.g9932.proofs.Symbols.{write-monitored}
-use Rattle.guarantees.specs.Words.{AcceptedTables, AcceptedFrame, ValidRegister, RightLength, Ready, turned, WrittenSymbol, TurnedSymbol, isRead, byReadings, fullWay}
+use Rattle.guarantees.specs.Words.{AcceptedTables, AcceptedFrame, ValidRegister, RightLength, Ready, nonZero, turned, WrittenSymbol, TurnedSymbol, isRead, byReadings, fullWay}
 use Rattle.guarantees.proofs.ClipAnswers as ClipAnswers
-use Rattle.guarantees.proofs.HalfTurn.{points-turned, half-turn-monitored}
+use Rattle.guarantees.proofs.HalfTurn.{points-turned, turnedRead, half-turn-monitored, half-turn-odd, half-turn-even}
 use Rattle.guarantees.proofs.RoundTrip.{length-written, packed-frame, packed-points, encoded-xs, encoded-ys, exactly}
 
 -- turned twice, points are as they were
@@ -86,135 +86,175 @@ module _ (T : Tables) (ok : AcceptedTables T) (r : ℕ) (X Y : List ℤ) (w : Wr
       ap (λ (l : List Point). getD l k origin) written-points
       ∙ write-monitored r (classesOf T) (sentIn T (w .start) (w .frame)) k (omega (arith, found .0, length-classes T)) (monitored-class (getD (classesOf T) k Silent) (found .1))
 
--- ---- both readings of one
+-- ---- what is told of one, and of one that is turned
 
-module _ (T : Tables) (ok : AcceptedTables T) (m : T .mode ≡ Coded) (r : ℕ) (valid : ValidRegister r) (k : ℕ) (e : firstMonitored T ≡ At k)
-    (start : ℕ) (small : start ≤ 7) (f₀ : List ℕ) (fits : length f₀ ≡ bytesFor start (sizeOf T)) where
+module _ (T : Tables) (ok : AcceptedTables T) (r : ℕ) (X Y : List ℤ) where
+  turned-right : TurnedSymbol T r X Y → RightLength T X Y
+  turned-right s =
+      let l = written-right T ok r (s .xs) (s .ys) (s .written) in
+      record {
+        xsLength = ap length (s .xsAre) ∙ length-map (s .xs) negℤ ∙ l .xsLength;
+        ysLength = ap length (s .ysAre) ∙ length-map (s .ys) negℤ ∙ l .ysLength;
+      }
+
+  turned-points : (s : TurnedSymbol T r X Y) → points X Y ≡ map negated (points (s .xs) (s .ys))
+  turned-points s =
+      let l = written-right T ok r (s .xs) (s .ys) (s .written) in
+      ap₂ points (s .xsAre) (s .ysAre) ∙ turned-lists (s .xs) (s .ys) (l .xsLength ∙ sym (l .ysLength))
+
+  module _ (k : ℕ) (e : firstMonitored T ≡ At k) where
+    is-straight : WrittenSymbol T r X Y → clipOf T (points X Y) r ≡ Straight
+    is-straight w = ClipAnswers.straight T (points X Y) r k e .1 (written-filler T ok r X Y w k e)
+
+    is-turned : TurnedSymbol T r X Y → clipOf T (points X Y) r ≡ Turned
+    is-turned s =
+        ClipAnswers.turned T (points X Y) r k e .1
+        (ap (λ (l : List Point). getD l k origin) (turned-points s)
+        ∙ List·getD-map negated (points (s .xs) (s .ys)) k origin
+        ∙ ap negated (written-filler T ok r (s .xs) (s .ys) (s .written) k e))
+
+    module _ (valid : ValidRegister r) where
+      pub check-written : WrittenSymbol T r X Y → clipCheck T X Y r ≡ record { number = 0; place = 0; clip = some Straight; register = r }
+      check-written w = rw (← is-straight w) (ClipAnswers.done T ok X Y r (written-right T ok r X Y w) valid)
+
+      pub check-turned : TurnedSymbol T r X Y → clipCheck T X Y r ≡ record { number = 0; place = 0; clip = some Turned; register = r }
+      check-turned s = rw (← is-turned s) (ClipAnswers.done T ok X Y r (turned-right s) valid)
+
+-- ---- both readings
+
+module _ (T : Tables) (ok : AcceptedTables T) (m : T .mode ≡ Coded) (r : ℕ) (valid : ValidRegister r) (start : ℕ) (small : start ≤ 7) (f₀ : List ℕ)
+    (fits : length f₀ ≡ bytesFor start (sizeOf T)) where
   abbrev number : List ℤ → List ℤ → ℕ
   number X Y = readAt T X Y r start f₀ .report .verdict .number
 
+  ready : (X Y : List ℤ) → RightLength T X Y → Ready T r start X Y f₀
+  ready X Y right = record { tables = ok; register = valid; lists = right; frame = fits }
+
+  -- points that are read are a written symbol
+  read-written : (X Y : List ℤ) → RightLength T X Y → number X Y ≡ 0 → WrittenSymbol T r X Y
+  read-written X Y right z =
+      let f = exactly T r start X Y f₀ (ready X Y right) X Y right .0 z in
+      record {
+        start = start;
+        frame = f .0;
+        frameAccepted = f .1;
+        xsAre = sym (f .2) ∙ encoded-xs T r start X Y f₀ (ready X Y right) (f .0) (f .1);
+        ysAre = sym (f .3) ∙ encoded-ys T r start X Y f₀ (ready X Y right) (f .0) (f .1);
+      }
+
+  -- a written symbol is read, and turned it is what half a turn makes of it
   module _ (X Y : List ℤ) (w : WrittenSymbol T r X Y) where
     right : RightLength T X Y
     right = written-right T ok r X Y w
-
-    ready : Ready T r start X Y f₀
-    ready = record { tables = ok; register = valid; lists = right; frame = fits }
 
     here : (f : List ℕ) × AcceptedFrame T start f × (writtenPoints T r start f ≡ q T ok r X Y w)
     here = from-start T ok r X Y w start small
 
     xs-are : encodeAt T start (here .0) r X Y .xs ≡ X
-    xs-are = encoded-xs T r start X Y f₀ ready (here .0) (here .1) ∙ ap (map (λ p. p .px)) (here .2) ∙ sym (w .xsAre)
+    xs-are = encoded-xs T r start X Y f₀ (ready X Y right) (here .0) (here .1) ∙ ap (map (λ p. p .px)) (here .2) ∙ sym (w .xsAre)
 
     ys-are : encodeAt T start (here .0) r X Y .ys ≡ Y
-    ys-are = encoded-ys T r start X Y f₀ ready (here .0) (here .1) ∙ ap (map (λ p. p .py)) (here .2) ∙ sym (w .ysAre)
+    ys-are = encoded-ys T r start X Y f₀ (ready X Y right) (here .0) (here .1) ∙ ap (map (λ p. p .py)) (here .2) ∙ sym (w .ysAre)
 
     is-read : number X Y ≡ 0
-    is-read = exactly T r start X Y f₀ ready X Y right .1 (here .0, here .1, xs-are, ys-are)
+    is-read = exactly T r start X Y f₀ (ready X Y right) X Y right .1 (here .0, here .1, xs-are, ys-are)
 
-    is-refused : number (turned X) (turned Y) ≡ 14
-    is-refused =
-        ap₂ (λ (A B : List ℤ). number (turned A) (turned B)) (sym xs-are) (sym ys-are)
-        ∙ ap (λ (v : Verdict). v .number) (half-turn-monitored T r start X Y f₀ ready m (here .0) (here .1) k e)
+    turned-is : number (turned X) (turned Y) ≡ turnedRead T r start X Y f₀ (ready X Y right) (here .0) .report .verdict .number
+    turned-is = ap₂ (λ (A B : List ℤ). number (turned A) (turned B)) (sym xs-are) (sym ys-are)
 
-    is-straight : clipOf T (points X Y) r ≡ Straight
-    is-straight = ClipAnswers.straight T (points X Y) r k e .1 (written-filler T ok r X Y w k e)
+    turned-monitored : (k : ℕ) → firstMonitored T ≡ At k → number (turned X) (turned Y) ≡ 14
+    turned-monitored k e = turned-is ∙ ap (λ (v : Verdict). v .number) (half-turn-monitored T r start X Y f₀ (ready X Y right) m (here .0) (here .1) k e)
 
-  -- what is told of points, and both readings of them
-  pub record OneWay (c : Clip) (first second : ℕ) (X Y : List ℤ) : Type 0 where
-    pub rightLength : RightLength T X Y
-    pub clip : clipOf T (points X Y) r ≡ c
-    pub asTheyAre : number X Y ≡ first
-    pub signsChanged : number (turned X) (turned Y) ≡ second
+    turned-odd : firstMonitored T ≡ Nothing → nonZero T % 2 ≡ 1 → number (turned X) (turned Y) ≡ 15
+    turned-odd e n = turned-is ∙ ap (λ (v : Verdict). v .number) (half-turn-odd T r start X Y f₀ (ready X Y right) m (here .0) (here .1) e n)
 
-  written-way : (X Y : List ℤ) → WrittenSymbol T r X Y → OneWay Straight 0 14 X Y
-  written-way X Y w = record { rightLength = right X Y w; clip = is-straight X Y w; asTheyAre = is-read X Y w; signsChanged = is-refused X Y w }
+    turned-even : firstMonitored T ≡ Nothing → nonZero T % 2 ≡ 0 → number (turned X) (turned Y) ≡ 0
+    turned-even e n = turned-is ∙ half-turn-even T r start X Y f₀ (ready X Y right) m (here .0) (here .1) e n .0
 
-  turned-way : (X Y : List ℤ) → TurnedSymbol T r X Y → OneWay Turned 14 0 X Y
-  turned-way X Y s =
-      let w = s .written in
-      let l = right (s .xs) (s .ys) w in
-      let q = points (s .xs) (s .ys) in
+  -- the full way of a written symbol and of a turned one, by the reading of the first with all signs changed
+  way-written : (X Y : List ℤ) (n : ℕ) → WrittenSymbol T r X Y → number (turned X) (turned Y) ≡ n → fullWay T X Y r start f₀ ≡ byReadings true (eqb n 0)
+  way-written X Y n w e = rw (is-read X Y w, e)
+
+  way-turned : (X Y : List ℤ) (n : ℕ) (s : TurnedSymbol T r X Y) → number (turned (s .xs)) (turned (s .ys)) ≡ n → fullWay T X Y r start f₀ ≡ byReadings (eqb n 0) true
+  way-turned X Y n s e =
       let x : turned X ≡ s .xs = ap turned (s .xsAre) ∙ turned-twice (s .xs) in
       let y : turned Y ≡ s .ys = ap turned (s .ysAre) ∙ turned-twice (s .ys) in
-      let p : points X Y ≡ map negated q = ap₂ points (s .xsAre) (s .ysAre) ∙ turned-lists (s .xs) (s .ys) (l .xsLength ∙ sym (l .ysLength)) in
-      record {
-        rightLength =
-            record {
-              xsLength = ap length (s .xsAre) ∙ length-map (s .xs) negℤ ∙ l .xsLength;
-              ysLength = ap length (s .ysAre) ∙ length-map (s .ys) negℤ ∙ l .ysLength;
-            };
-        clip =
-            ClipAnswers.turned T (points X Y) r k e .1
-            (ap (λ (l : List Point). getD l k origin) p ∙ List·getD-map negated q k origin ∙ ap negated (written-filler T ok r (s .xs) (s .ys) w k e));
-        asTheyAre = ap₂ number (s .xsAre) (s .ysAre) ∙ is-refused (s .xs) (s .ys) w;
-        signsChanged = ap₂ number x y ∙ is-read (s .xs) (s .ys) w;
-      }
+      let first : number X Y ≡ n = ap₂ number (s .xsAre) (s .ysAre) ∙ e in
+      let second : number (turned X) (turned Y) ≡ 0 = ap₂ number x y ∙ is-read (s .xs) (s .ys) (s .written) in
+      rw (first, second)
 
-  -- ---- the promises
+  -- ---- no tone is monitored
 
-  module _ (X Y : List ℤ) (symbol : WrittenSymbol T r X Y ⊎ TurnedSymbol T r X Y) where
-    way : OneWay Straight 0 14 X Y ⊎ OneWay Turned 14 0 X Y
-    way = ⊎-elim (λ w. inl (written-way X Y w)) (λ s. inr (turned-way X Y s)) symbol
-
-    pub straight-exactly : (clipOf T (points X Y) r ≡ Straight) ↔ (number X Y ≡ 0)
-    straight-exactly =
+  module _ (none : firstMonitored T ≡ Nothing) (X Y : List ℤ) where
+    pub even-way : nonZero T % 2 ≡ 0 → WrittenSymbol T r X Y ⊎ TurnedSymbol T r X Y → fullWay T X Y r start f₀ ≡ CannotTell
+    even-way n =
         ⊎-elim
-        (λ (o : OneWay Straight 0 14 X Y). (λ _. o .asTheyAre, λ _. o .clip))
-        (λ (o : OneWay Turned 14 0 X Y). (λ z. absurd (straight-not-turned (sym z ∙ o .clip)), λ z. absurd (omega (arith, z, o .asTheyAre))))
-        way
+        (λ w. way-written X Y 0 w (turned-even X Y w none n))
+        (λ s. way-turned X Y 0 s (turned-even (s .xs) (s .ys) (s .written) none n))
 
-    pub turned-exactly : (clipOf T (points X Y) r ≡ Turned) ↔ (number (turned X) (turned Y) ≡ 0)
-    turned-exactly =
-        ⊎-elim
-        (λ (o : OneWay Straight 0 14 X Y). (λ z. absurd (straight-not-turned (sym (o .clip) ∙ z)), λ z. absurd (omega (arith, z, o .signsChanged))))
-        (λ (o : OneWay Turned 14 0 X Y). (λ _. o .signsChanged, λ _. o .clip))
-        way
+    pub odd-straight : nonZero T % 2 ≡ 1 → WrittenSymbol T r X Y → fullWay T X Y r start f₀ ≡ Straight
+    odd-straight n w = way-written X Y 15 w (turned-odd X Y w none n)
 
-    pub never-both : (number X Y ≡ 0) × (number (turned X) (turned Y) ≡ 0) → ⊥
-    never-both h = straight-not-turned (sym (straight-exactly .1 (h .0)) ∙ turned-exactly .1 (h .1))
+    pub odd-turned : nonZero T % 2 ≡ 1 → TurnedSymbol T r X Y → fullWay T X Y r start f₀ ≡ Turned
+    odd-turned n s = way-turned X Y 15 s (turned-odd (s .xs) (s .ys) (s .written) none n)
 
-    pub full-way : clipOf T (points X Y) r ≡ fullWay T X Y r start f₀
-    full-way =
-        ⊎-elim
-        (λ (o : OneWay Straight 0 14 X Y). o .clip ∙ sym (rw (o .asTheyAre, o .signsChanged)))
-        (λ (o : OneWay Turned 14 0 X Y). o .clip ∙ sym (rw (o .asTheyAre, o .signsChanged)))
-        way
+  -- ---- some tone is monitored
 
-    pub check-full-way : clipCheck T X Y r ≡ record { number = 0; place = 0; clip = some (fullWay T X Y r start f₀); register = r }
-    check-full-way =
-        let l = ⊎-elim (λ (o : OneWay Straight 0 14 X Y). o .rightLength) (λ (o : OneWay Turned 14 0 X Y). o .rightLength) way in
-        rw (← full-way) (ClipAnswers.done T ok X Y r l valid)
+  module _ (k : ℕ) (e : firstMonitored T ≡ At k) (X Y : List ℤ) where
+    module _ (symbol : WrittenSymbol T r X Y ⊎ TurnedSymbol T r X Y) where
+      pub full-way : clipOf T (points X Y) r ≡ fullWay T X Y r start f₀
+      full-way =
+          ⊎-elim
+          (λ w. is-straight T ok r X Y k e w ∙ sym (way-written X Y 14 w (turned-monitored X Y w k e)))
+          (λ s. is-turned T ok r X Y k e s ∙ sym (way-turned X Y 14 s (turned-monitored (s .xs) (s .ys) (s .written) k e)))
+          symbol
 
-  -- of any points that are read one way or the other
-  module _ (X Y : List ℤ) (right : RightLength T X Y) where
-    ready-for : Ready T r start X Y f₀
-    ready-for = record { tables = ok; register = valid; lists = right; frame = fits }
+      pub check-full-way : clipCheck T X Y r ≡ record { number = 0; place = 0; clip = some (fullWay T X Y r start f₀); register = r }
+      check-full-way =
+          let l = ⊎-elim (λ w. written-right T ok r X Y w) (λ s. turned-right T ok r X Y s) symbol in
+          rw (← full-way) (ClipAnswers.done T ok X Y r l valid)
 
-    read-written : (A B : List ℤ) → RightLength T A B → number A B ≡ 0 → WrittenSymbol T r A B
-    read-written A B l z =
-        let f = exactly T r start X Y f₀ ready-for A B l .0 z in
-        record {
-          start = start;
-          frame = f .0;
-          frameAccepted = f .1;
-          xsAre = sym (f .2) ∙ encoded-xs T r start X Y f₀ ready-for (f .0) (f .1);
-          ysAre = sym (f .3) ∙ encoded-ys T r start X Y f₀ ready-for (f .0) (f .1);
-        }
+    module _ (right : RightLength T X Y) where
+      right-turned : RightLength T (turned X) (turned Y)
+      right-turned = record { xsLength = length-map X negℤ ∙ right .xsLength; ysLength = length-map Y negℤ ∙ right .ysLength }
 
-    pub agrees : fullWay T X Y r start f₀ ≢ Neither → clipOf T (points X Y) r ≡ fullWay T X Y r start f₀
-    agrees h = full-way X Y (go (isRead T X Y r start f₀) refl (isRead T (turned X) (turned Y) r start f₀) refl h)
-      where
-        go : (a : Bool) → isRead T X Y r start f₀ ≡ a → (b : Bool) → isRead T (turned X) (turned Y) r start f₀ ≡ b → byReadings a b ≢ Neither
-            → WrittenSymbol T r X Y ⊎ TurnedSymbol T r X Y
-        go true d b f n = inl (read-written X Y right (eqb-true (number X Y) 0 d))
-        go false d true f n =
-            let l : RightLength T (turned X) (turned Y) = record { xsLength = length-map X negℤ ∙ right .xsLength; ysLength = length-map Y negℤ ∙ right .ysLength } in
-            inr (record {
-              xs = turned X;
-              ys = turned Y;
-              written = read-written (turned X) (turned Y) l (eqb-true (number (turned X) (turned Y)) 0 f);
-              xsAre = sym (turned-twice X);
-              ysAre = sym (turned-twice Y);
-            })
-        go false d false f n = absurd (n refl)
+      read-turned : number (turned X) (turned Y) ≡ 0 → TurnedSymbol T r X Y
+      read-turned z =
+          record {
+            xs = turned X;
+            ys = turned Y;
+            written = read-written (turned X) (turned Y) right-turned z;
+            xsAre = sym (turned-twice X);
+            ysAre = sym (turned-twice Y);
+          }
+
+      pub never-both : (number X Y ≡ 0) × (number (turned X) (turned Y) ≡ 0) → ⊥
+      never-both h = omega (arith, h .1, turned-monitored X Y (read-written X Y right (h .0)) k e)
+
+      -- which points they are, where either reading is accepted
+      read-symbol : (a b : Bool) → isRead T X Y r start f₀ ≡ a → isRead T (turned X) (turned Y) r start f₀ ≡ b → byReadings a b ≢ Neither
+          → WrittenSymbol T r X Y ⊎ TurnedSymbol T r X Y
+      read-symbol true b c d n = inl (read-written X Y right (eqb-true (number X Y) 0 c))
+      read-symbol false true c d n = inr (read-turned (eqb-true (number (turned X) (turned Y)) 0 d))
+      read-symbol false false c d n = absurd (n refl)
+
+      pub agrees : fullWay T X Y r start f₀ ≢ Neither → clipOf T (points X Y) r ≡ fullWay T X Y r start f₀
+      agrees h = full-way (read-symbol (isRead T X Y r start f₀) (isRead T (turned X) (turned Y) r start f₀) refl refl h)
+
+    -- straight and turned, each exactly when its reading is accepted
+    module _ (symbol : WrittenSymbol T r X Y ⊎ TurnedSymbol T r X Y) where
+      pub straight-exactly : (clipOf T (points X Y) r ≡ Straight) ↔ (number X Y ≡ 0)
+      straight-exactly = (
+        λ z. ⊎-elim (λ w. is-read X Y w) (λ s. absurd (straight-not-turned (sym z ∙ is-turned T ok r X Y k e s))) symbol,
+        λ z. ⊎-elim (λ w. is-straight T ok r X Y k e w) (λ s. is-straight T ok r X Y k e (read-written X Y (turned-right T ok r X Y s) z)) symbol,
+      )
+
+      pub turned-exactly : (clipOf T (points X Y) r ≡ Turned) ↔ (number (turned X) (turned Y) ≡ 0)
+      turned-exactly = (
+        λ z. ⊎-elim (λ w. absurd (straight-not-turned (sym (is-straight T ok r X Y k e w) ∙ z))) (λ s. second s) symbol,
+        λ z. ⊎-elim (λ w. is-turned T ok r X Y k e (read-turned (written-right T ok r X Y w) z)) (λ s. is-turned T ok r X Y k e s) symbol,
+      )
+        where
+          second : (s : TurnedSymbol T r X Y) → number (turned X) (turned Y) ≡ 0
+          second s =
+              ap₂ number (ap turned (s .xsAre) ∙ turned-twice (s .xs)) (ap turned (s .ysAre) ∙ turned-twice (s .ys)) ∙ is-read (s .xs) (s .ys) (s .written)

@@ -1,14 +1,14 @@
 -- The promises over the definitions of document 01: demand 3, in full; of demand 2, how many bits go on the tones, and which go where;
 -- what else is shown of the definitions; of request R-13, nearest reading, by itself and against exact reading; and of request R-10, the clip
--- check, against two readings. That the code gives what they say is the `ensures` of each operation. Each proof cites the part that shows it.
+-- check, by itself and against two readings. That the code gives what they say is the `ensures` of each operation. Each proof cites the part that shows it.
 -- The words are those of specs/Words.antt and of crate g9932. Request R-12, the pair report, has a page of its own:
 -- crates/tally/proofs/Theorems.antt.
 use Prim.Native.Nat.{ℕ, _+_, _-_, _*_, _/_, _%_, _^_, _≤_, _<_}
 use mathlib.Core.Bool.{Bool, true, false, cond, not}
 use mathlib.Core.List.{List, [], _∷_, map}
 use mathlib.Core.Logic.{_↔_, _≢_, _⊎_}
-use mathlib.Core.Option.{some}
-use mathlib.Core.Path.{_≡_, sym, ap, _∙_}
+use mathlib.Core.Option.{none, some}
+use mathlib.Core.Path.{_≡_, sym, _∙_}
 use lib.Dec.{eqb}
 use lib.IntN.{ℤ}
 use lib.ListN.{length, take, drop, getD}
@@ -23,7 +23,7 @@ use Rattle.g9932.specs.Symbol.{reorderedTonesOf, reorderedBitsOf, classesOf, pa
 use Rattle.g9932.specs.Answers.{reorderOf, encodeAt, Read, readAt, toneDone, mapLabel, readPoint, drawAnswer}
 use Rattle.g9932.specs.Aligned.{encodeOf, readOf}
 use Rattle.g9932.specs.Nearest.{frameTotal, NearestFrame, rangeTest, workBytes, nearestVerdict, nearestOf, totalIn, ReadsNearest}
-use Rattle.g9932.specs.Clip.{clipAgainst, fillerPoint, clipOf, clipVerdict, clipCheck, clipNumber}
+use Rattle.g9932.specs.Clip.{fillerPoint, clipOf, clipCheck, clipNumber}
 use Rattle.g9932.specs.Figures.{MarkedFigures}
 use Rattle.g9932.specs.declared.Class.the-variants.{Monitored, Silent}
 use Rattle.g9932.specs.declared.Clip.the-variants.{Straight, Turned, Neither, CannotTell}
@@ -182,7 +182,7 @@ refused-checking T = Verdicts.table-told T .noSize
 pub nine-unused : (x : Refusal) → numberOf x ≢ 9
 nine-unused = Verdicts.nine-unused
 
--- and no call answers it, whatever the inputs: with tables,
+-- and no call answers it, whatever the inputs (of nearest reading and of the clip check see `nine-nearest` and `nine-clip`): with tables,
 pub nine-with-tables : (T : Tables) (tones bits f f₀ : List ℕ) (xs ys : List ℤ) (r start : ℕ)
     → (tableVerdict T .number ≢ 9) × (reorderOf T tones bits .verdict .number ≢ 9)
     × (encodeAt T start f r xs ys .report .verdict .number ≢ 9) × (readAt T xs ys r start f₀ .report .verdict .number ≢ 9)
@@ -500,80 +500,110 @@ module _ (T : Tables) (r start : ℕ) (xs ys : List ℤ) (f₀ : List ℕ) (read
 
 -- ---- the clip check (request R-10)
 
--- If some tone of accepted coded tables is monitored, then with a valid register, for points X and Y that are a written symbol of these
--- tables and this register, or one turned by half a turn, and for readings at a start up to 7, the same in both, of right lengths:
-module _ (T : Tables) (ok : AcceptedTables T) (m : T .mode ≡ Coded) (r : ℕ) (valid : ValidRegister r) (k : ℕ) (monitored : firstMonitored T ≡ At k)
-    (start : ℕ) (small : start ≤ 7) (f₀ : List ℕ) (fits : length f₀ ≡ bytesFor start (sizeOf T)) where
-  module _ (X Y : List ℤ) (symbol : WrittenSymbol T r X Y ⊎ TurnedSymbol T r X Y) where
-    -- The answer equals the full way's: read the points as they are, then with all signs changed, and see which is accepted.
+-- The answer of the clip check is `clipCheck`; `clipOf` is what it tells where nothing is refused (`clip-done`).
+-- If some tone of accepted coded tables is monitored, then with a valid register, for readings at a start up to 7, the same in both, and
+-- with the right lengths:
+module _ (T : Tables) (ok : AcceptedTables T) (m : T .mode ≡ Coded) (r : ℕ) (valid : ValidRegister r) (start : ℕ) (small : start ≤ 7) (f₀ : List ℕ)
+    (fits : length f₀ ≡ bytesFor start (sizeOf T)) (k : ℕ) (monitored : firstMonitored T ≡ At k) (X Y : List ℤ) where
+  -- Of points that are a written symbol of these tables and this register, or one turned by half a turn,
+  module _ (symbol : WrittenSymbol T r X Y ⊎ TurnedSymbol T r X Y) where
+    -- the answer equals the full way's: read the points as they are, then with all signs changed, and see which is accepted.
     pub clip-full-way : clipCheck T X Y r ≡ record { number = 0; place = 0; clip = some (fullWay T X Y r start f₀); register = r }
-    clip-full-way = ClipFullWay.check-full-way T ok m r valid k monitored start small f₀ fits X Y symbol
+    clip-full-way = ClipFullWay.check-full-way T ok m r valid start small f₀ fits k monitored X Y symbol
 
     -- It is straight exactly when the first reading is accepted,
     pub clip-straight-exactly : (clipOf T (points X Y) r ≡ Straight) ↔ (readAt T X Y r start f₀ .report .verdict .number ≡ 0)
-    clip-straight-exactly = ClipFullWay.straight-exactly T ok m r valid k monitored start small f₀ fits X Y symbol
+    clip-straight-exactly = ClipFullWay.straight-exactly T ok m r valid start small f₀ fits k monitored X Y symbol
 
-    -- turned exactly when the second is,
+    -- and turned exactly when the second is.
     pub clip-turned-exactly : (clipOf T (points X Y) r ≡ Turned) ↔ (readAt T (turned X) (turned Y) r start f₀ .report .verdict .number ≡ 0)
-    clip-turned-exactly = ClipFullWay.turned-exactly T ok m r valid k monitored start small f₀ fits X Y symbol
+    clip-turned-exactly = ClipFullWay.turned-exactly T ok m r valid start small f₀ fits k monitored X Y symbol
 
-    -- and never are both.
-    pub clip-never-both :
-        (readAt T X Y r start f₀ .report .verdict .number ≡ 0) × (readAt T (turned X) (turned Y) r start f₀ .report .verdict .number ≡ 0) → ⊥
-    clip-never-both = ClipFullWay.never-both T ok m r valid k monitored start small f₀ fits X Y symbol
+  -- Of any points of the right length, never are both;
+  pub clip-never-both : RightLength T X Y
+      → (readAt T X Y r start f₀ .report .verdict .number ≡ 0) × (readAt T (turned X) (turned Y) r start f₀ .report .verdict .number ≡ 0) → ⊥
+  clip-never-both = ClipFullWay.never-both T ok m r valid start small f₀ fits k monitored X Y
 
-  -- Of any points of the right length: if either reading is accepted, the check tells what the full way tells.
-  pub clip-agrees : (X Y : List ℤ) → RightLength T X Y → fullWay T X Y r start f₀ ≢ Neither → clipOf T (points X Y) r ≡ fullWay T X Y r start f₀
-  clip-agrees = ClipFullWay.agrees T ok m r valid k monitored start small f₀ fits
+  -- and where either is, the check tells what the full way tells.
+  pub clip-agrees : RightLength T X Y → fullWay T X Y r start f₀ ≢ Neither → clipOf T (points X Y) r ≡ fullWay T X Y r start f₀
+  clip-agrees = ClipFullWay.agrees T ok m r valid start small f₀ fits k monitored X Y
 
--- Whatever the tables, the points and the register, it can't tell exactly when no tone is monitored.
+-- Where no tone is monitored, the full way tells a written symbol from a turned one exactly if N is odd.
+module _ (T : Tables) (ok : AcceptedTables T) (m : T .mode ≡ Coded) (r : ℕ) (valid : ValidRegister r) (start : ℕ) (small : start ≤ 7) (f₀ : List ℕ)
+    (fits : length f₀ ≡ bytesFor start (sizeOf T)) (none-monitored : firstMonitored T ≡ Nothing) (X Y : List ℤ) where
+  pub full-way-even : nonZero T % 2 ≡ 0 → WrittenSymbol T r X Y ⊎ TurnedSymbol T r X Y → fullWay T X Y r start f₀ ≡ CannotTell
+  full-way-even = ClipFullWay.even-way T ok m r valid start small f₀ fits none-monitored X Y
+
+  pub full-way-odd-straight : nonZero T % 2 ≡ 1 → WrittenSymbol T r X Y → fullWay T X Y r start f₀ ≡ Straight
+  full-way-odd-straight = ClipFullWay.odd-straight T ok m r valid start small f₀ fits none-monitored X Y
+
+  pub full-way-odd-turned : nonZero T % 2 ≡ 1 → TurnedSymbol T r X Y → fullWay T X Y r start f₀ ≡ Turned
+  full-way-odd-turned = ClipFullWay.odd-turned T ok m r valid start small f₀ fits none-monitored X Y
+
+-- With accepted tables, a valid register and the first monitored tone at place k in t':
+module _ (T : Tables) (ok : AcceptedTables T) (r : ℕ) (valid : ValidRegister r) (k : ℕ) (monitored : firstMonitored T ≡ At k) (X Y : List ℤ) where
+  -- A written symbol is straight, and one turned by half a turn is turned.
+  pub clip-of-written : WrittenSymbol T r X Y → clipCheck T X Y r ≡ record { number = 0; place = 0; clip = some Straight; register = r }
+  clip-of-written = ClipFullWay.check-written T ok r X Y k monitored valid
+
+  pub clip-of-turned : TurnedSymbol T r X Y → clipCheck T X Y r ≡ record { number = 0; place = 0; clip = some Turned; register = r }
+  clip-of-turned = ClipFullWay.check-turned T ok r X Y k monitored valid
+
+-- Whatever the points and the register, what is told is straight exactly when the point of the first monitored tone, at place k in t', is
+-- the one its filler bits give, turned exactly when it is the opposite one, and neither exactly when it is any other;
+module _ (T : Tables) (q : List Point) (r k : ℕ) (monitored : firstMonitored T ≡ At k) where
+  pub clip-straight : (clipOf T q r ≡ Straight) ↔ (getD q k origin ≡ fillerPoint T r k)
+  clip-straight = ClipAnswers.straight T q r k monitored
+
+  pub clip-turned : (clipOf T q r ≡ Turned) ↔ (getD q k origin ≡ negated (fillerPoint T r k))
+  clip-turned = ClipAnswers.turned T q r k monitored
+
+  pub clip-neither : (clipOf T q r ≡ Neither) ↔ ((getD q k origin ≢ fillerPoint T r k) × (getD q k origin ≢ negated (fillerPoint T r k)))
+  clip-neither = ClipAnswers.neither T q r k monitored
+
+-- it can't tell exactly when no tone is monitored;
 pub clip-cannot-tell : (T : Tables) (q : List Point) (r : ℕ) → (clipOf T q r ≡ CannotTell) ↔ (firstMonitored T ≡ Nothing)
 clip-cannot-tell = ClipAnswers.cannot-tell
 
--- With the first monitored tone at place k in t':
-module _ (T : Tables) (r k : ℕ) (monitored : firstMonitored T ≡ At k) where
-  -- It is straight exactly when that tone's point is the one its filler bits give, turned exactly when it is the opposite one;
-  pub clip-straight : (q : List Point) → (clipOf T q r ≡ Straight) ↔ (getD q k origin ≡ fillerPoint T r k)
-  clip-straight q = ClipAnswers.straight T q r k monitored
+-- and no other point matters: lists of the same lengths with the same point there have the same answer, accepted or refused.
+pub clip-one-tone : (T : Tables) (r : ℕ) (X Y X′ Y′ : List ℤ) → length X ≡ length X′ → length Y ≡ length Y′
+    → ((k : ℕ) → firstMonitored T ≡ At k → getD (points X Y) k origin ≡ getD (points X′ Y′) k origin) → clipCheck T X Y r ≡ clipCheck T X′ Y′ r
+clip-one-tone = ClipAnswers.one-tone
 
-  pub clip-turned : (q : List Point) → (clipOf T q r ≡ Turned) ↔ (getD q k origin ≡ negated (fillerPoint T r k))
-  clip-turned q = ClipAnswers.turned T q r k monitored
+-- Whatever the inputs:
+module _ (T : Tables) (xs ys : List ℤ) (r : ℕ) where
+  -- The register comes back as it was given.
+  pub clip-register : clipCheck T xs ys r .register ≡ r
+  clip-register = ClipAnswers.register-back T xs ys r
 
-  -- and no other point matters.
-  pub clip-one-tone : (p q : List Point) → getD p k origin ≡ getD q k origin → clipOf T p r ≡ clipOf T q r
-  clip-one-tone p q same = ClipAnswers.clip-is T p r k monitored ∙ ap (clipAgainst (fillerPoint T r k)) same ∙ sym (ClipAnswers.clip-is T q r k monitored)
+  -- A refused check tells no clip,
+  pub clip-refused : clipCheck T xs ys r .number ≢ 0 → clipCheck T xs ys r .clip ≡ none
+  clip-refused = ClipAnswers.not-told T xs ys r
 
--- Whatever the inputs, the register comes back as it was given,
-pub clip-register : (T : Tables) (xs ys : List ℤ) (r : ℕ) → clipCheck T xs ys r .register ≡ r
-clip-register = ClipAnswers.register-back
+  -- and has 0 for it in C, which no other has.
+  pub clip-zero : (clipNumber (clipCheck T xs ys r .clip) ≡ 0) ↔ (clipCheck T xs ys r .number ≢ 0)
+  clip-zero = ClipAnswers.zero-refused T xs ys r
 
--- a refusal tells no clip, its number 0 is never "straight", and what is not refused tells one.
-pub clip-refused : (T : Tables) (xs ys : List ℤ) (r : ℕ) → (clipNumber (clipCheck T xs ys r .clip) ≡ 0) ↔ (clipCheck T xs ys r .number ≢ 0)
-clip-refused = ClipAnswers.zero-refused
+  -- Tables that are refused have the number and place of checking them.
+  pub tables-clip : tableVerdict T .number ≢ 0
+      → clipCheck T xs ys r ≡ record { number = tableVerdict T .number; place = tableVerdict T .place; clip = none; register = r }
+  tables-clip = ClipAnswers.tables-refused T xs ys r
 
-pub clip-told : (T : Tables) (xs ys : List ℤ) (r : ℕ) → clipCheck T xs ys r .number ≡ 0 → clipCheck T xs ys r .clip ≡ some (clipOf T (points xs ys) r)
-clip-told = ClipAnswers.told
-
--- No answer has number 9.
-pub nine-clip : (T : Tables) (xs ys : List ℤ) (r : ℕ) → clipCheck T xs ys r .number ≢ 9
-nine-clip = ClipAnswers.nine
-
--- Tables that are refused have the number and place of checking them.
-pub tables-clip : (T : Tables) (xs ys : List ℤ) (r : ℕ) → tableVerdict T .number ≢ 0
-    → (clipCheck T xs ys r .number ≡ tableVerdict T .number) × (clipCheck T xs ys r .place ≡ tableVerdict T .place)
-tables-clip = ClipAnswers.tables-refused
+  -- No answer has number 9.
+  pub nine-clip : clipCheck T xs ys r .number ≢ 9
+  nine-clip = ClipAnswers.nine T xs ys r
 
 -- In accepted tables, with any register:
 module _ (T : Tables) (ok : AcceptedTables T) (xs ys : List ℤ) (r : ℕ) where
   -- A wrong length is ROOM;
-  pub room-clip : (RightLength T xs ys → ⊥) → clipVerdict T (length xs) (length ys) r ≡ refused 10 0
+  pub room-clip : (RightLength T xs ys → ⊥) → clipCheck T xs ys r ≡ record { number = 10; place = 0; clip = none; register = r }
   room-clip = ClipAnswers.room T ok xs ys r
 
-  -- where it does not apply, a register that is not valid is SEED,
-  pub seed-clip : RightLength T xs ys → (ValidRegister r → ⊥) → clipVerdict T (length xs) (length ys) r ≡ refused 12 0
+  -- where it does not apply, a register that is not valid is SEED;
+  pub seed-clip : RightLength T xs ys → (ValidRegister r → ⊥) → clipCheck T xs ys r ≡ record { number = 12; place = 0; clip = none; register = r }
   seed-clip = ClipAnswers.seed T ok xs ys r
 
   -- and there is no other refusal.
-  pub done-clip : RightLength T xs ys → ValidRegister r
+  pub clip-done : RightLength T xs ys → ValidRegister r
       → clipCheck T xs ys r ≡ record { number = 0; place = 0; clip = some (clipOf T (points xs ys) r); register = r }
-  done-clip = ClipAnswers.done T ok xs ys r
+  clip-done = ClipAnswers.done T ok xs ys r

@@ -141,7 +141,8 @@ SameLoaded T p q = (k : ℕ) → k < length (T .tones) → 0 < load (getD (class
 
 -- ---- the clip check (request R-10)
 
--- points that are a written symbol of these tables and this register: those of some accepted frame, from its start
+-- points that are a written symbol of these tables and this register: those that some accepted frame gives, from its own start (with accepted
+-- tables and a valid register they are what encoding writes)
 pub record WrittenSymbol (T : Tables) (r : ℕ) (X Y : List ℤ) : Type 0 where
   pub start : ℕ
   pub frame : List ℕ
@@ -158,7 +159,7 @@ pub record TurnedSymbol (T : Tables) (r : ℕ) (X Y : List ℤ) : Type 0 where
   pub ysAre : Y ≡ turned ys
 
 -- The full way: read the points as they are, then with all signs changed, each time from the given register, and see which is accepted.
--- Where both are, they do not tell.
+-- Where both are, it can't tell.
 abbrev pub isRead : Tables → List ℤ → List ℤ → ℕ → ℕ → List ℕ → Bool
 isRead T X Y r start f₀ = eqb (readAt T X Y r start f₀ .report .verdict .number) 0
 
