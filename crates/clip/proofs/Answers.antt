@@ -5,7 +5,7 @@ use mathlib.Core.Path.{_≡_}
 use borrow.Author.Tests.{eqb-true, not-false}
 use lib.Dec.{eqb}
 use Rattle.g9932.specs.Answers.{verdictOf}
-use Rattle.g9932.specs.Clip.{ClipReport, clipReportBy, clipReportOf}
+use Rattle.g9932.specs.Clip.{clipReportBy, clipReportOf}
 use Rattle.g9932.specs.Refusals.{Verdict, accepted, roomTest}
 use Rattle.g9932.specs.declared.Checked.the-variants.{Refused}
 use Rattle.g9932.specs.declared.Clip.{Clip}

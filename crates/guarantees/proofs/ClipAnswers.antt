@@ -1,18 +1,17 @@
 -- What the clip check answers by what it is given, and what it tells by the first monitored tone.
 use Prim.Native.Nat.{ℕ}
-use mathlib.Core.Bool.{Bool, true, false, not, _||_, cond, not-eq-not}
+use mathlib.Core.Bool.{Bool, true, false, _||_, not-eq-not}
 use mathlib.Core.List.{List}
 use mathlib.Core.Logic.{_↔_, _≢_}
-use mathlib.Core.Option.{Option, none, some}
+use mathlib.Core.Option.{none, some}
 use mathlib.Core.Path.{_≡_, refl, sym, ap, _∙_}
 use native.Mathlib.Omega.{arith}
-use borrow.Author.Tests.{eq-eqb, ne-eqb, eqb-true, eqb-false}
-use lib.Dec.{eqb}
+use borrow.Author.Tests.{eq-eqb, ne-eqb}
 use lib.IntN.{ℤ}
 use lib.ListN.{length, take, getD}
 use Rattle.g9932.specs.Clip.{clipBy, clipAgainst, fillerPoint, clipAt, clipOf, clipInputs, clipVerdict, ClipReport, clipReportBy, clipCheck, clipNumber}
-use Rattle.g9932.specs.Filler.{drawn, registerAfter}
-use Rattle.g9932.specs.Points.{pointOf, negated, samePoint}
+use Rattle.g9932.specs.Filler.{registerAfter}
+use Rattle.g9932.specs.Points.{negated, samePoint}
 use Rattle.g9932.specs.Refusals.{Verdict, andThen, roomTest, tableVerdict}
 use Rattle.g9932.specs.Sizes.{Tables, Point, origin, points}
 use Rattle.g9932.specs.Symbol.{classesOf, firstMonitored}
@@ -21,7 +20,6 @@ use Rattle.g9932.specs.declared.Clip.the-variants.{Straight, Turned, Neither, C
 use Rattle.g9932.specs.declared.Found.{Found}
 use Rattle.g9932.specs.declared.Found.the-variants.{At, Nothing}
 use Rattle.g9932.proofs.Constellations.{samePoint-self, samePoint→eq}
-use Rattle.g9932.proofs.Search.{found-not}
 use Rattle.g9932.proofs.Verdicts.{test-here, test-past, and-past, clip-told}
 use Rattle.guarantees.specs.Words.{AcceptedTables, ValidRegister, RightLength}
 use Rattle.guarantees.proofs.HalfTurn.{halfPoint}

@@ -9,7 +9,7 @@ use native.Mathlib.Omega.{arith}
 use borrow.Author.Tests.{eqb-true}
 use lib.Dec.{eqb}
 use lib.IntN.{ℤ, negℤ, negℤ-negℤ}
-use lib.ListN.{length, take, getD, length-map, List·getD-map}
+use lib.ListN.{length, getD, length-map, List·getD-map}
 use Rattle.g9932.specs.Bits.{first}
 use Rattle.g9932.specs.Clip.{fillerPoint, clipOf, clipCheck, clipNumber}
 use Rattle.g9932.specs.Points.{negated}

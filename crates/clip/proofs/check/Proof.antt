@@ -1,11 +1,9 @@
 -- `clip::check` meets its contract: the refusals in their order, or else what the first monitored tone tells.
-use mathlib.Core.Bool.{true, false, _||_}
 use mathlib.Core.Path.{_≡_, refl, sym, ap, _∙_}
-use native.Mathlib.Omega.{arith}
 use lib.ListN.{length}
 use Rattle.g9932.specs.Clip.{clipInputs, clipVerdict}
-use Rattle.g9932.specs.Refusals.{accepted, roomTest, tableVerdict}
-use Rattle.g9932.specs.Sizes.{Tables, tables}
+use Rattle.g9932.specs.Refusals.{accepted, tableVerdict}
+use Rattle.g9932.specs.Sizes.{tables}
 use Rattle.g9932.specs.declared.Mode.the-variants.{Coded}
 use Rattle.g9932.specs.declared.Refusal.the-variants.{Room, Seed}
 use Rattle.g9932.proofs.Verdicts.{test-here, test-past, and-refused, and-accepted, number-none}

@@ -1,6 +1,6 @@
 -- `clip::tell` meets its contract: no tone is monitored, or the one that is found is the first, and its point is compared.
 use Prim.Native.Nat.{_<_}
-use mathlib.Core.Path.{_≡_, sym, _∙_}
+use mathlib.Core.Path.{sym, _∙_}
 use native.Mathlib.Omega.{arith}
 use borrow.Author.Tests.{not-true}
 use lib.IntN.{pos}
