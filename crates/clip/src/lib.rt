@@ -109,7 +109,7 @@ fn tell(bits: &[u8], gains: &[u16], tones: &[u16], xs: &[i16], ys: &[i16], regis
 }
 
 // Checks the clip: refusals 1 to 8, 10 and 12. The tables are coded. The register comes back as it was given, whatever the answer. A call
-// takes some 9 KiB of stack, no heap and no global.
+// takes some 8 KiB of stack, no heap and no global.
 pub fn check(
     bits: &[u8],
     gains: &[u16],
