@@ -113,6 +113,7 @@ impl Clip {
     fn refused(&mut self, points: &PointList, answer: &library::Clip) -> Report {
         let question = Question {
             points: Some(points),
+            only: self.first.map(|first| first.place),
             ..self.tables.question(self.known.register)
         };
         let refusal = question.refusal(&Answer {

@@ -12,7 +12,7 @@ use clevisroot_sys::refusals::DONE;
 /// Where it stands.
 #[derive(Clone, Copy)]
 pub struct FirstTone {
-    place: Place,
+    pub place: Place,
     tone: Subcarrier,
     /// The draws of the silent tones before it.
     draws: usize,
