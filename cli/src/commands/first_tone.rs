@@ -72,7 +72,7 @@ impl LookedAt<'_> {
     pub fn json(&self) -> Json {
         let (FirstTone { place, tone, .. }, points) = (self.first, self.points);
         let number = |number: Option<i64>| number.map_or(Json::Null, Json::Number);
-        let point = points.at(place);
+        let point = points.typed_at(place);
         Json::Object(vec![
             ("place", Json::Number(place.0 as i64)),
             ("sub_carrier", Json::Number(tone.0.into())),

@@ -121,6 +121,34 @@ fn the_tone() {
     assert_eq!(inner(&none, "rests_on")["register_is"], text("not needed"));
 }
 
+/// What 16 bits do not hold is in the text as it was typed, and in no number.
+#[test]
+fn a_point_beyond_16_bits() {
+    let points = example("clip-neither.csv");
+    for (point, typed, [x, y]) in [
+        ("99999,-1", "(99999, -1)", [None, None]),
+        ("1,-32769", "(1, -32769)", [None, None]),
+        (
+            "32767,-32768",
+            "(32767, -32768)",
+            [Some(32_767), Some(-32_768)],
+        ),
+    ] {
+        let points = points.replacen("\n1,1\n", &format!("\n{point}\n"), 1);
+        let words = [&["clip", SET, "-"], REGISTER.as_slice()].concat();
+        let plain = run_with(points.as_bytes(), &words);
+        let words = format!("the point is {typed}, and the filler bits give (1, -1)");
+        assert!(plain.line(1).ends_with(&words), "{}", plain.out);
+        let json = json(SET, &points, &REGISTER);
+        assert_eq!(json["verdict"], text("neither"));
+        let tone = inner(&json, "tone");
+        let number = |number: Option<i64>| number.map_or(Value::Null, Value::Number);
+        assert_eq!([&tone["x"], &tone["y"]], [&number(x), &number(y)]);
+        let ground = inner(&json, "rests_on");
+        assert_eq!(ground["register_is"], text("none fits"));
+    }
+}
+
 #[test]
 fn refusals() {
     let room = json(SET, "1,1", &REGISTER);
