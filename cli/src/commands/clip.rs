@@ -48,8 +48,9 @@ pub fn clip(call: &Call) -> Result<u8, Fault> {
 
 fn uncoded(set: &TableSet) -> Fault {
     Fault::content(format!(
-        "{}:{}: `mode uncoded`, but `clip` is for coded tables, because what a turned symbol shows is \
-         promised of coded ones only; `turn` takes uncoded ones too",
+        "{}:{}: `mode uncoded`, but `clip` is for coded tables, because the promise on turned symbols \
+         is of coded ones, and because t' may be another one if these are taken as coded; `turn` \
+         takes uncoded ones too",
         set.name, set.mode_line
     ))
 }

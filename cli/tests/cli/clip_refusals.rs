@@ -134,9 +134,18 @@ fn uncoded_tables_stop_it() {
     for words in [&[] as &[&str], &["--json"]] {
         let ran = clip(&set, "1,1\n-1,-1", words);
         assert_eq!((ran.status, ran.out.as_str()), (65, ""));
-        for words in [":3: `mode uncoded`, ", "promised of coded ones", "`turn`"] {
-            assert!(ran.err.contains(words), "{}", ran.err);
-        }
+        let words = ":3: `mode uncoded`, but `clip` is for coded tables, because the promise on turned \
+                     symbols is of coded ones, and because t' may be another one if these are taken as \
+                     coded; `turn` takes uncoded ones too";
+        assert!(ran.err.contains(words), "{}", ran.err);
+    }
+    for words in [&["--help"], &["man"]] {
+        let ran = run(words);
+        assert!(
+            ran.out.contains("; clip: the tables are uncoded\n"),
+            "{}",
+            ran.out
+        );
     }
 }
 
