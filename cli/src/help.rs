@@ -42,7 +42,7 @@ const STATUS: [(&str, &str); 10] = [
     ("64", "the call is wrong"),
     (
         "65",
-        "a file says something else than its kind of file says",
+        "a file says something else than its kind of file says; clip: the tables are uncoded",
     ),
     ("66", "a file cannot be read or written"),
 ];

@@ -1,10 +1,11 @@
 //! `clip`: asks the first monitored tone whether the clips are the wrong way round, before the whole
 //! symbol is read.
 
+use super::clip_said::Said;
 use super::clip_words::sentence;
 use super::first_tone::FirstTone;
 use super::reading::Tables;
-use super::verdict::{Ground, Known, Origin, Verdict, Way};
+use super::verdict::Known;
 use super::verdict_totals::VerdictTotals;
 use super::verdict_words::ground_fields;
 use crate::ask;
@@ -14,11 +15,11 @@ use crate::files::{PointList, TableSet};
 use crate::json::Json;
 use crate::output::Output;
 use crate::refusal::Question;
-use crate::register::{after_draws, Reach};
+use crate::register::after_draws;
 use crate::report::{clip_fields, Report};
 use crate::stream::{self, Reports, Task};
 use clevisroot_sys::refusals::DONE;
-use clevisroot_sys::{self as library, clips, Answer};
+use clevisroot_sys::{self as library, Answer};
 
 struct Clip {
     tables: Tables,
@@ -40,15 +41,16 @@ pub fn clip(call: &Call) -> Result<u8, Fault> {
         draws: 2 * tables.order.without_bits(&tables.set).count(),
         tables,
         known: Known::asked(&call.register),
-        totals: VerdictTotals::default(),
+        totals: VerdictTotals::of_one_tone(),
     };
     stream::run(call, task)
 }
 
 fn uncoded(set: &TableSet) -> Fault {
     Fault::content(format!(
-        "{}:{}: `mode uncoded`, but `clip` is for coded tables, because what a turned symbol shows is \
-         promised of coded ones only; `turn` takes uncoded ones too",
+        "{}:{}: `mode uncoded`, but `clip` is for coded tables, because the promise on turned symbols \
+         is of coded ones, and because t' may be another one if these are taken as coded; `turn` \
+         takes uncoded ones too",
         set.name, set.mode_line
     ))
 }
@@ -58,10 +60,10 @@ impl Task for Clip {
 
     fn take(&mut self, number: usize, points: PointList, _: &Output) -> Reports {
         let lists = (points.x.as_slice(), points.y.as_slice());
-        let told = ask::clip(&self.tables.set, lists, self.known.register);
-        let (report, known) = match told.number {
-            DONE => self.told(&points, &told),
-            _ => (self.refused(&points, &told), doubted(self.known)),
+        let answer = ask::clip(&self.tables.set, lists, self.known.register);
+        let (report, known) = match answer.number {
+            DONE => self.judged(&points, &answer),
+            _ => (self.refused(&points, &answer), self.known.doubted()),
         };
         // The writer has drawn for the symbol, whatever the answer is.
         self.known = Known {
@@ -86,14 +88,15 @@ impl Task for Clip {
 }
 
 impl Clip {
-    /// Reports what the tone tells, and what that makes of the register.
-    fn told(&mut self, points: &PointList, told: &library::Clip) -> (Report, Known) {
-        let (verdict, ground, known) = judged(self.known, told.clip);
-        self.totals.add(verdict, ground.is_conditional());
-        let sentence = sentence(verdict, &self.tables, &ground);
+    /// Reports what the tone says, and what that makes of the register.
+    fn judged(&mut self, points: &PointList, answer: &library::Clip) -> (Report, Known) {
         let register = self.known.register;
         let tone = self.first.map(|first| first.in_symbol(points, register));
-        let mut json = clip_fields("clip", told);
+        let said = Said::of(answer.clip, self.known, tone.as_ref());
+        let (verdict, ground) = (said.verdict(), said.ground());
+        self.totals.add(verdict, ground.is_conditional());
+        let sentence = sentence(&said, &self.tables);
+        let mut json = clip_fields("clip", answer);
         json.extend([
             ("verdict", Json::text(verdict.word())),
             ("sure", Json::Flag(verdict.is_sure())),
@@ -103,60 +106,25 @@ impl Clip {
         ]);
         let mut summary = vec![sentence];
         summary.extend(tone.map(|tone| format!("looked at: {}", tone.words())));
-        (Report::new(verdict.status(), summary, json), known)
+        let report = Report::new(verdict.status(), summary, json);
+        (report, said.known_after(self.known))
     }
 
     /// Tables, points or register are refused, so that there is no verdict.
-    fn refused(&mut self, points: &PointList, told: &library::Clip) -> Report {
+    fn refused(&mut self, points: &PointList, answer: &library::Clip) -> Report {
         let question = Question {
             points: Some(points),
+            only: self.first.map(|first| first.place),
             ..self.tables.question(self.known.register)
         };
-        let answer = Answer {
-            number: told.number,
-            place: told.place,
+        let refusal = question.refusal(&Answer {
+            number: answer.number,
+            place: answer.place,
             size: 0,
-            reg: told.reg,
-        };
-        let refusal = question.refusal(&answer);
-        let report = Report::refused(&refusal, clip_fields("clip", told));
+            reg: answer.reg,
+        });
+        let report = Report::refused(&refusal, clip_fields("clip", answer));
         self.totals.add_refused(report.status);
         report
     }
-}
-
-/// The verdict by what the library tells with this register, what it rests on, and what the register is
-/// to the next symbol.
-fn judged(known: Known, clip: u32) -> (Verdict, Ground, Known) {
-    let way = match clip {
-        clips::STRAIGHT => Way::Straight,
-        clips::TURNED => Way::Turned,
-        clips::CANT_TELL => return (Verdict::CannotTell, Ground::Nothing, known),
-        _ => {
-            let agreed = Reach {
-                rank: 0,
-                ..Reach::ONE_TONE
-            };
-            let ground = Ground::Tones(Known { agreed, ..known });
-            return (Verdict::Neither, ground, doubted(known));
-        }
-    };
-    let known = Known {
-        agreed: Reach::ONE_TONE,
-        ..known.telling(way)
-    };
-    let verdict = match known.origin {
-        Origin::Given => Verdict::sure(way),
-        _ => Verdict::perhaps(way),
-    };
-    (verdict, Ground::Tones(known), known)
-}
-
-/// A symbol spoke against it, or was none: one that was given may be out of step from now on.
-fn doubted(known: Known) -> Known {
-    let origin = match known.origin {
-        Origin::Given => Origin::DrawnOn,
-        origin => origin,
-    };
-    Known { origin, ..known }
 }

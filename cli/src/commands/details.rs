@@ -111,18 +111,20 @@ monitored it cannot tell. Where one is, turn says the same way of every symbol t
 these coded tables and this register, turned or not.
 
 The register must be the one that the symbol was written with: with a wrong one the tone looks
-straight one time in 4, and turned one time in 4. Without --register the value at reset is assumed,
-and straight and turned are only perhaps so; with --register N they hold if N is the writer's
-register. It is not found here (see turn --register find). All other points may be anything, and
-noise on this one deceives it.
+straight about one time in 4, turned about one time in 4, and neither about one time in 2. Without
+--register the value at reset is assumed, and straight and turned are only perhaps so; with
+--register N they hold if N is the writer's register and this one point came as it was written. The
+register is not found here (see turn --register find). All other points may be anything, 0,0 for
+instance, but there must be one for each tone.
 
 Exit status: 0 straight, 32 turned, 36 perhaps (straight or turned), 33 cannot tell, 34 neither;
 1 to 8, 10 and 12 if the tables, the count of points or the register are refused; 65 if the tables
-are uncoded, because what a turned symbol shows is promised of coded ones only. A file may hold many
-symbols, as for read. The register goes on by two draws for each tone with 0 bits, whatever the
-answer; after a symbol that is refused or neither, what is told by a register that was given is only
-perhaps so. The status is that of all of them together, as for turn. --stop ends at a symbol that is
-refused, not at neither.
+are uncoded, because the promise on turned symbols is of coded ones.
+
+A file may hold many symbols, as for read. The register goes on by two draws for each tone with 0
+bits, whatever the answer; after a symbol that is refused or neither, what is told by a register that
+was given is only perhaps so. The status is that of all of them together, as for turn. --stop ends at
+a symbol that is refused, not at neither.
 
 examples
   clevisroot clip examples/clip.txt examples/clip-turned.csv --register 4711

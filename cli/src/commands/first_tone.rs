@@ -6,11 +6,13 @@ use crate::files::{Class, PointList};
 use crate::index::{Place, Subcarrier};
 use crate::json::Json;
 use crate::register::{after_draws, filler_point};
+use clevisroot_sys as library;
+use clevisroot_sys::refusals::DONE;
 
 /// Where it stands.
 #[derive(Clone, Copy)]
 pub struct FirstTone {
-    place: Place,
+    pub place: Place,
     tone: Subcarrier,
     /// The draws of the silent tones before it.
     draws: usize,
@@ -47,6 +49,12 @@ impl FirstTone {
 }
 
 impl LookedAt<'_> {
+    /// Whether some filler bits give its point: one of the four that a tone with 2 bits has.
+    pub fn may_be_filler(&self) -> bool {
+        let point = self.points.at(self.first.place);
+        point.is_some_and(|(x, y)| library::read_point(2, x, y).number == DONE)
+    }
+
     /// "place 3 in t', sub-carrier 4, line 6 of points.csv: the point is (1, 1), and ..."
     pub fn words(&self) -> String {
         let (FirstTone { place, tone, .. }, points) = (self.first, self.points);
@@ -64,7 +72,7 @@ impl LookedAt<'_> {
     pub fn json(&self) -> Json {
         let (FirstTone { place, tone, .. }, points) = (self.first, self.points);
         let number = |number: Option<i64>| number.map_or(Json::Null, Json::Number);
-        let point = points.at(place);
+        let point = points.typed_at(place);
         Json::Object(vec![
             ("place", Json::Number(place.0 as i64)),
             ("sub_carrier", Json::Number(tone.0.into())),

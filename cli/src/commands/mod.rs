@@ -2,6 +2,7 @@
 //! manual page and the completions are made from this table.
 
 mod clip;
+mod clip_said;
 mod clip_words;
 mod decision;
 mod details;

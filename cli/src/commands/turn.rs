@@ -33,7 +33,7 @@ pub fn turn(call: &Call) -> Result<u8, Fault> {
         find,
         known: (!find).then(|| Known::asked(&call.register)),
         finder: Finder::new(),
-        totals: VerdictTotals::default(),
+        totals: VerdictTotals::of_readings(),
     };
     stream::run(call, task)
 }

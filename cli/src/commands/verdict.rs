@@ -99,7 +99,17 @@ impl Known {
         }
     }
 
-    /// The same, where the whole symbol is read.
+    /// What it is after a symbol that was refused or neither way round with it: one that was given may
+    /// be out of step from now on.
+    pub fn doubted(self) -> Known {
+        let origin = match self.origin {
+            Origin::Given => Origin::DrawnOn,
+            origin => origin,
+        };
+        Known { origin, ..self }
+    }
+
+    /// What it is to a symbol that is read this way round.
     pub fn reading(self, way: Way, reaches: &Reaches) -> Known {
         let agreed = match self.origin {
             _ if self.is_against(way) => reaches.alone(),
@@ -122,6 +132,8 @@ pub enum Ground {
     Trellis(usize),
     /// Monitored tones that agree with this register, or do not.
     Tones(Known),
+    /// The first monitored tone alone, which agrees with this register or does not.
+    OneTone(Known),
     /// These monitored tones fit no register the other way round.
     OneWay(Reach),
     /// No tone is monitored and the trellis code does not tell.
@@ -178,7 +190,9 @@ impl Ground {
     /// Whether a sure verdict holds only if the register that was given is the writer's.
     pub fn is_conditional(&self) -> bool {
         match self {
-            Ground::Tones(known) => known.origin == Origin::Given && !known.enough,
+            Ground::Tones(known) | Ground::OneTone(known) => {
+                known.origin == Origin::Given && !known.enough
+            }
             _ => false,
         }
     }

@@ -1,7 +1,7 @@
 //! The totals of a stream of `turn` or `clip`: the clips are the same for all of its symbols.
 
 use super::verdict::{Verdict, CANNOT_TELL};
-use super::verdict_words::IF_GIVEN;
+use super::verdict_words::{IF_GIVEN, POINTS};
 use crate::json::Json;
 use crate::report::Report;
 use crate::words::count;
@@ -16,8 +16,9 @@ const ALL: [Verdict; 6] = [
     Verdict::Neither,
 ];
 
-#[derive(Default)]
 pub struct VerdictTotals {
+    /// What has to be so where a verdict is on a condition.
+    condition: String,
     verdicts: BTreeMap<Verdict, usize>,
     /// Some verdict holds whatever register was given: straight, turned.
     unconditional: [bool; 2],
@@ -28,6 +29,26 @@ pub struct VerdictTotals {
 }
 
 impl VerdictTotals {
+    /// Of verdicts on whole symbols, which were read.
+    pub fn of_readings() -> VerdictTotals {
+        VerdictTotals::new(IF_GIVEN.to_string())
+    }
+
+    /// Of verdicts on one tone of each symbol.
+    pub fn of_one_tone() -> VerdictTotals {
+        VerdictTotals::new(format!("{IF_GIVEN} and {POINTS}"))
+    }
+
+    fn new(condition: String) -> VerdictTotals {
+        VerdictTotals {
+            condition,
+            verdicts: BTreeMap::new(),
+            unconditional: [false; 2],
+            refused: 0,
+            first: None,
+        }
+    }
+
     pub fn add(&mut self, verdict: Verdict, conditional: bool) {
         *self.verdicts.entry(verdict).or_default() += 1;
         match verdict {
@@ -77,14 +98,14 @@ impl VerdictTotals {
     }
 
     /// What the verdict on all of them holds under, if every symbol that says so does.
-    fn condition(&self, whole: Option<Verdict>) -> Option<&'static str> {
+    fn condition(&self, whole: Option<Verdict>) -> Option<&str> {
         let [straight, turned] = self.unconditional;
         let conditional = match whole {
             Some(Verdict::Straight) => !straight,
             Some(Verdict::Turned) => !turned,
             _ => false,
         };
-        conditional.then_some(IF_GIVEN)
+        conditional.then_some(self.condition.as_str())
     }
 
     pub fn report(&self) -> Report {

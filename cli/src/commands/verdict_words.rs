@@ -12,7 +12,9 @@ pub const STRAIGHT: &str = "Straight: the clips are the right way round";
 pub const TURNED: &str = "Turned: the clips are the wrong way round, so swap them";
 
 /// What makes a turned clip show in every symbol.
-pub const SPARE: &str = "a spare tone with 0 bits and a gain would tell";
+pub const SPARE: &str = "a spare tone with 0 bits and a gain";
+
+pub const NO_TONE: &str = "this table set monitors no tone";
 
 /// What the jointer should be told, in one sentence.
 pub fn sentence(verdict: Verdict, tables: &Tables, ground: &Ground) -> String {
@@ -53,16 +55,20 @@ fn sure_sentence(clips: &str, readings: &str, ground: &Ground) -> String {
     }
 }
 
-/// "N, the count of non-zero re-ordered entries, is odd (5)"
+/// Why the trellis code tells.
 pub fn odd(loaded: usize) -> String {
     format!("N, the count of non-zero re-ordered entries, is odd ({loaded})")
+}
+
+/// Why it does not.
+pub fn even(loaded: usize) -> String {
+    format!("N, its count of non-zero re-ordered entries, is even ({loaded})")
 }
 
 fn sure_by_register(clips: &str, readings: &str, known: &Known) -> String {
     let Known {
         register, agreed, ..
     } = known;
-    let origin = origin_words(known);
     match known.origin {
         Origin::Found(tones) if known.carried => format!(
             "{clips}: {readings} with register {register}, which goes on from the one that {tones} \
@@ -76,12 +82,13 @@ fn sure_by_register(clips: &str, readings: &str, known: &Known) -> String {
             checks(2 * tones - 23)
         ),
         _ if known.enough => format!(
-            "{clips}: {readings} with register {register}, which {origin}, and {} monitored \
-             tones agree, as with no other register.",
+            "{clips}: {readings} with {} and {} monitored tones agree, as with no other register.",
+            register_words(known),
             agreed.tones
         ),
         _ => format!(
-            "{clips}, if register {register}, which {origin}, is the writer's: {readings}, and {}.",
+            "{clips}, if {} is the writer's: {readings}, and {}.",
+            register_words(known),
             agreement(*agreed)
         ),
     }
@@ -96,9 +103,8 @@ fn perhaps_sentence(word: &str, readings: &str, tables: &Tables, ground: &Ground
                 known.register
             ),
             _ => format!(
-                "but only with register {}, which {}, and {}",
-                known.register,
-                origin_words(known),
+                "but only with {} and {}",
+                register_words(known),
                 agreement(known.agreed)
             ),
         },
@@ -114,11 +120,10 @@ fn perhaps_sentence(word: &str, readings: &str, tables: &Tables, ground: &Ground
 fn neither_sentence(tables: &Tables, ground: &Ground) -> String {
     match ground {
         Ground::Tones(known) => format!(
-            "Neither: the points are refused both ways with register {}, which {}, so look for \
-             noise, other tables or another register (--register N, or --register find from \
-             {ENOUGH_TONES} monitored tones on{}) before you swap the clips.",
-            known.register,
-            origin_words(known),
+            "Neither: the points are refused both ways with {} so look for noise, other tables or \
+             another register (--register N, or --register find from {ENOUGH_TONES} monitored tones \
+             on{}) before you swap the clips.",
+            register_words(known),
             or_a_few_more(&tables.set)
         ),
         _ => "Neither: the points are refused both ways whatever the register, so look for noise \
@@ -138,28 +143,28 @@ fn why_not_told(tables: &Tables, ground: &Ground) -> String {
         );
     }
     let reason = if tables.set.coded {
-        even(tables)
+        format!("{NO_TONE} and {}", even(tables.order.loaded()))
     } else {
         "this table set is uncoded and monitors no tone".to_string()
     };
-    format!("the points are read both ways, for {reason}; {SPARE}")
+    format!("the points are read both ways, for {reason}; {SPARE} would tell")
 }
 
-/// Why a coded table set cannot tell.
-pub fn even(tables: &Tables) -> String {
+/// "register 4711, which was given,"
+pub fn register_words(known: &Known) -> String {
     format!(
-        "this table set monitors no tone and N, its count of non-zero re-ordered entries, is even \
-         ({})",
-        tables.order.loaded()
+        "register {}, which {},",
+        known.register,
+        origin_words(known)
     )
 }
 
-pub fn origin_words(known: &Known) -> &'static str {
+fn origin_words(known: &Known) -> &'static str {
     match (known.origin, known.carried) {
         (Origin::Reset, false) => "is the value at reset, assumed because none was given",
-        (Origin::Reset, true) => "goes back to the value at reset, assumed because none was given",
+        (Origin::Reset, true) => "follows from the value at reset, assumed because none was given",
         (Origin::Given, false) => "was given",
-        (Origin::Given, true) => "goes back to the one that was given",
+        (Origin::Given, true) => "follows from the one that was given",
         (Origin::Found(_) | Origin::FoundAcross(_), _) => "the monitored tones give",
         (Origin::HandedBack, _) => "a refused symbol handed back and which may be out of step",
         (Origin::Contradicted, _) => {
@@ -174,7 +179,9 @@ pub fn origin_words(known: &Known) -> &'static str {
 /// What a verdict rests on, in fields.
 pub fn ground_fields(verdict: Verdict, ground: &Ground) -> Fields {
     let (register, reach) = match ground {
-        Ground::Tones(known) => (Json::Number(known.register.into()), Some(known.agreed)),
+        Ground::Tones(known) | Ground::OneTone(known) => {
+            (Json::Number(known.register.into()), Some(known.agreed))
+        }
         Ground::TooFew(reach) | Ground::OneWay(reach) => (Json::Null, Some(*reach)),
         Ground::NoRegister | Ground::Trellis(_) | Ground::Nothing => (Json::Null, None),
     };
@@ -200,12 +207,21 @@ pub fn ground_fields(verdict: Verdict, ground: &Ground) -> Fields {
 /// The condition of a verdict that rests on the register that was given.
 pub const IF_GIVEN: &str = "the register that was given is the writer's";
 
+/// And of one that rests on one tone, which nothing else bears out.
+pub const ONE_POINT: &str = "the one point that was looked at came as it was written";
+pub const POINTS: &str = "the points that were looked at came as they were written";
+
 /// What has to be so for a sure verdict to hold, if anything has to.
-fn condition(ground: &Ground) -> Option<&'static str> {
+fn condition(ground: &Ground) -> Option<String> {
     match ground {
-        Ground::Tones(known) if ground.is_conditional() => Some(match known.carried {
-            false => IF_GIVEN,
-            true => "the register that was given is the writer's and no symbol is missing since",
+        _ if !ground.is_conditional() => None,
+        Ground::Tones(known) => Some(match known.carried {
+            false => IF_GIVEN.to_string(),
+            true => format!("{IF_GIVEN} and no symbol is missing since"),
+        }),
+        Ground::OneTone(known) => Some(match known.carried {
+            false => format!("{IF_GIVEN} and {ONE_POINT}"),
+            true => format!("{IF_GIVEN}, no symbol is missing since, and {ONE_POINT}"),
         }),
         _ => None,
     }
@@ -213,7 +229,7 @@ fn condition(ground: &Ground) -> Option<&'static str> {
 
 fn register_word(ground: &Ground) -> &'static str {
     match ground {
-        Ground::Tones(known) => match known.origin {
+        Ground::Tones(known) | Ground::OneTone(known) => match known.origin {
             Origin::Reset => "reset value, assumed",
             Origin::Given => "given",
             Origin::Found(_) => "found",

@@ -70,6 +70,12 @@ impl PointList {
         Some((*self.x.get(place.0)?, *self.y.get(place.0)?))
     }
 
+    /// The point, if it is the one that was typed: the type can hold it.
+    pub fn typed_at(&self, place: Place) -> Option<(i16, i16)> {
+        let held = !self.beyond.contains_key(&place.0);
+        self.at(place).filter(|_| held)
+    }
+
     /// The point as it was typed: "(40000, 1)".
     pub fn words_at(&self, place: Place) -> Option<String> {
         let (x, y) = self.at(place)?;

@@ -1,11 +1,14 @@
 //! What was asked when a refusal came.
 
 use crate::files::{Frame, PointList, TableSet};
+use crate::index::Place;
 
 pub struct Question<'a> {
     pub set: &'a TableSet,
     pub frame: Option<&'a Frame>,
     pub points: Option<&'a PointList>,
+    /// The one place whose point is looked at, where no other is.
+    pub only: Option<Place>,
     /// The bit of its first byte at which the frame starts.
     pub start: u8,
     pub register: u32,
@@ -20,6 +23,7 @@ impl<'a> Question<'a> {
             set,
             frame: None,
             points: None,
+            only: None,
             start: 0,
             register: 0,
             typed: None,

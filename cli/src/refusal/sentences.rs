@@ -102,8 +102,15 @@ fn room(question: &Question) -> String {
     } else {
         ""
     };
+    let others = match question.only {
+        Some(place) if points < tones => format!(
+            "; only the one at place {place} is looked at, so any point, 0,0 for instance, will do for \
+             each of the others"
+        ),
+        _ => String::new(),
+    };
     format!(
-        "There are {} for {}: give one point a tone, in t' order{between}.",
+        "There are {} for {}: give one point a tone, in t' order{between}{others}.",
         count(points, "point"),
         count(tones, "tone")
     )

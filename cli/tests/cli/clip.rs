@@ -1,11 +1,16 @@
 //! `clip` on one symbol: the four answers from files that a person can edit, and what they rest on.
 
-use crate::run::{equal, example, file, run, run_with, tables, Ran};
+use crate::run::{equal, example, run, run_with, tables, Ran};
 
 const SET: &str = "examples/clip.txt";
 const A: &str = "examples/bench-a.txt";
+const TWELVE: &str = "examples/twelve-monitored.txt";
 const EVEN: &str = "examples/cannot-tell.txt";
 const ODD: &str = "examples/five-twos.txt";
+
+/// What a verdict that is not sure begins with.
+const PERHAPS_STRAIGHT: &str = "Perhaps straight, so do not rely on it yet";
+const PERHAPS_TURNED: &str = "Perhaps turned, so do not swap the clips yet";
 
 /// The line of the examples' points that is the first monitored tone, counted from 1.
 const FIRST: usize = 7;
@@ -19,12 +24,12 @@ fn given(points: &str) -> Ran {
     clip(SET, points, &["--register", "4711"])
 }
 
-/// One sentence first: it begins with this word and is the only one. Then so many lines.
-fn told(ran: &Ran, status: i32, word: &str, lines: usize) {
+/// One sentence first: it begins with these words and is the only one. Then so many lines.
+fn told(ran: &Ran, status: i32, words: &str, lines: usize) {
     assert_eq!((ran.status, ran.err.as_str()), (status, ""), "{}", ran.out);
     let sentence = ran.line(0);
     assert!(
-        sentence.starts_with(&format!("{word}: ")) && sentence.ends_with('.'),
+        sentence.starts_with(&format!("{words}: ")) && sentence.ends_with('.'),
         "{sentence}"
     );
     assert_eq!(sentence.matches('.').count(), 1, "{sentence}");
@@ -121,145 +126,120 @@ fn the_first_monitored_tone_is_the_one_in_t_dash() {
 #[test]
 fn it_says_what_it_rests_on() {
     let ran = given(&example("clip-turned.csv"));
-    for words in [
-        "so swap them, if register 4711, which was given, is the writer's: ",
-        "the first monitored tone, the only one that was looked at, ",
-        "as it would with a wrong register one time in 4.",
-    ] {
-        assert!(ran.line(0).contains(words), "{}", ran.out);
-    }
-    let ran = given(&example("clip-neither.csv"));
-    for words in [
-        "with register 4711, which was given, ",
-        "noise, other tables or another register (--register N)",
-        "`turn` reads the whole symbol",
-        "`turn --register find` finds the register from 12 monitored tones on",
-    ] {
-        assert!(ran.line(0).contains(words), "{}", ran.out);
+    let words = "Turned: the clips are the wrong way round, so swap them, if register 4711, which was \
+                 given, is the writer's and the one point that was looked at came as it was written: \
+                 the first monitored tone has the opposite of the point that its filler bits give, as \
+                 it would with a wrong register about one time in 4.";
+    assert_eq!(ran.line(0), words);
+}
+
+/// What to look for first depends on whether the register was given.
+#[test]
+fn neither_says_what_to_look_for() {
+    let turn =
+        "; if only the register is wrong, what would tell is `turn --register find` from 12 \
+                monitored tones in one symbol, or 32 in several that follow each other";
+    let given = given(&example("clip-neither.csv"));
+    let words =
+        "with register 4711, which was given, nor the opposite one, so look for noise, other \
+                 tables or another register (--register N) before you swap the clips";
+    assert!(given.line(0).contains(words), "{}", given.out);
+    assert!(given.line(0).contains(turn), "{}", given.out);
+    // The examples of `clip` were written with another register than the one at reset.
+    let assumed = clip(SET, &example("clip-straight.csv"), &[]);
+    told(&assumed, 34, "Neither", 1);
+    let words = "with register 8388607, which is the value at reset, assumed because none was given, \
+                 nor the opposite one, so do not swap the clips yet: give the writer's register \
+                 (--register N) first, for a wrong one looks like this about one time in 2, and only \
+                 then look for noise or other tables";
+    assert!(assumed.line(0).contains(words), "{}", assumed.out);
+    assert!(assumed.line(0).contains(turn), "{}", assumed.out);
+}
+
+/// No register helps where the point is none of the four.
+#[test]
+fn a_point_that_no_register_gives_is_neither_for_all() {
+    for point in ["3,-3", "0,0", "1,2", "-32768,1", "32768,-1"] {
+        let points = edited(&example("clip-straight.csv"), FIRST, point);
+        for words in [&[] as &[&str], &["--register", "4711"], &["--register=1"]] {
+            let ran = clip(SET, &points, words);
+            told(&ran, 34, "Neither", 1);
+            let words = "has a point that filler bits never give, whatever the register, so look for \
+                         noise or other tables before you swap the clips; `turn` too refuses such a \
+                         symbol both ways.";
+            assert!(ran.line(0).ends_with(words), "{}", ran.out);
+        }
+        for register in ["4711", "find"] {
+            let words = ["turn", SET, "-", "--register", register];
+            let turn = run_with(points.as_bytes(), &words);
+            assert_eq!(turn.status, 34, "{}", turn.out);
+            let words = "refused both ways whatever the register";
+            assert!(turn.line(0).contains(words), "{}", turn.out);
+        }
     }
 }
 
 #[test]
 fn an_assumed_register_is_a_perhaps() {
     for (name, word) in [
-        ("bench-a.csv", "Perhaps straight"),
-        ("bench-a-turned.csv", "Perhaps turned"),
+        ("bench-a.csv", PERHAPS_STRAIGHT),
+        ("bench-a-turned.csv", PERHAPS_TURNED),
     ] {
         let ran = clip(A, &example(name), &[]);
         told(&ran, 36, word, 1);
-        for words in [
-            "register 8388607, which is the value at reset, assumed because none was given",
-            "as it would with a wrong register one time in 4",
-            "the writer's register (--register N)",
-            "`turn --register find` from 12 monitored tones in one symbol",
-        ] {
-            assert!(ran.line(0).contains(words), "{}", ran.out);
-        }
+        let words = "the point that its filler bits give with register 8388607, which is the value at \
+                     reset, assumed because none was given, and about one wrong register in 4 would \
+                     look the same; the writer's register (--register N) would settle it, and so \
+                     would `turn --register find` from 12 monitored tones in one symbol, or 32 in \
+                     several that follow each other.";
+        assert!(ran.line(0).ends_with(words), "{}", ran.out);
         let sure = clip(A, &example(name), &["--register", "0x7fffff"]);
         assert!(matches!(sure.status, 0 | 32), "{}", sure.out);
     }
-    // The examples of `clip` were written with another one.
-    let ran = clip(SET, &example("clip-straight.csv"), &[]);
-    told(&ran, 34, "Neither", 1);
-    let words = "the value at reset, assumed because none was given";
-    assert!(ran.line(0).contains(words), "{}", ran.out);
 }
 
 /// What `turn` can do without the register, where it can.
 #[test]
-fn a_perhaps_points_to_turn() {
-    let twelve = example("twelve-monitored-turned.csv");
-    let ran = clip("examples/twelve-monitored.txt", &twelve, &[]);
-    told(&ran, 36, "Perhaps turned", 1);
-    let words = "so would `turn --register find`, whatever the register.";
-    assert!(ran.line(0).ends_with(words), "{}", ran.out);
+fn what_is_not_sure_points_to_turn() {
     let tones = [equal(5, 2), vec![(7, 0, 512)]].concat();
-    let set = tables("clip-odd.txt", "coded", 8, &tones);
-    let ran = clip(&set, &"-1,-1\n".repeat(6), &[]);
-    told(&ran, 36, "Perhaps straight", 1);
-    let words = "so would `turn`, whatever the register, because N, ";
-    assert!(ran.line(0).contains(words), "{}", ran.out);
-}
-
-#[test]
-fn without_a_monitored_tone_it_says_whether_turn_can_tell() {
-    let spare = "a spare tone with 0 bits and a gain would tell.";
-    for (set, points, words) in [
-        (ODD, "five-twos-turned.csv", "`turn` reads the whole symbol and can tell, whatever the register, because N, the count of non-zero re-ordered entries, is odd (5)"),
-        (EVEN, "cannot-tell.csv", "is even (4), so that `turn` cannot either"),
-    ] {
-        let ran = clip(set, &example(points), &["--register", "77"]);
-        told(&ran, 33, "Cannot tell", 0);
-        assert!(ran.line(0).contains(words), "{}", ran.out);
-        assert!(ran.line(0).ends_with(spare), "{}", ran.out);
-    }
-}
-
-/// The tables first, then the count of points, then the register.
-#[test]
-fn refusals() {
-    let points = example("clip-straight.csv");
-    let twice = file(
-        "clip-twice.txt",
-        "mode coded\ncarriers 8\n1 2 512\n1 2 512\n",
-    );
-    let few = tables("clip-few.txt", "coded", 8, &[(0, 2, 512), (1, 0, 512)]);
-    for (set, points, register, status, title) in [
-        (&twice, "1,1", "0", 3, "3 TWICE"),
-        (&few, "1,1", "0", 8, "8 FEW"),
-        (&SET.to_string(), "1,1", "0", 10, "10 ROOM"),
-        (&SET.to_string(), "", "4711", 10, "10 ROOM"),
-        (&SET.to_string(), &points, "0", 12, "12 SEED"),
-        (&SET.to_string(), &points, "8388608", 12, "12 SEED"),
-        (
-            &EVEN.to_string(),
-            &example("cannot-tell.csv"),
-            "0",
-            12,
-            "12 SEED",
-        ),
-    ] {
-        let ran = clip(set, points, &["--register", register]);
-        assert_eq!((ran.status, ran.err.as_str()), (status, ""), "{}", ran.out);
-        assert_eq!(ran.line(0), format!("refused: {title}"));
-        assert_eq!(ran.out.lines().count(), 3);
-    }
-    let ran = given("1,1");
-    let words = "There are 1 point for 8 tones: give one point a tone, in t' order.";
-    assert_eq!(ran.line(2), words);
-}
-
-#[test]
-fn uncoded_tables_stop_it() {
-    let set = file(
-        "clip-uncoded.txt",
-        "# none\ncarriers 8\nmode uncoded\n1 2 512\n2 0 512\n",
-    );
-    for words in [&[] as &[&str], &["--json"]] {
-        let ran = clip(&set, "1,1\n-1,-1", words);
-        assert_eq!((ran.status, ran.out.as_str()), (65, ""));
-        for words in [":3: `mode uncoded`, ", "promised of coded ones", "`turn`"] {
-            assert!(ran.err.contains(words), "{}", ran.err);
+    let odd = tables("clip-odd.txt", "coded", 8, &tones);
+    let trellis =
+        "`turn`, whatever the register, because N, the count of non-zero re-ordered entries, \
+                   is odd (5).";
+    let find = "`turn --register find`, whatever the register.";
+    // The one at reset draws two ones: (-1, -1).
+    for (set, places, turn) in [(odd.as_str(), 6, trellis), (TWELVE, 16, find)] {
+        for (point, status, words) in [
+            ("-1,-1\n", 36, "so would "),
+            ("1,-1\n", 34, "would tell is "),
+        ] {
+            let ran = clip(set, &point.repeat(places), &[]);
+            assert_eq!(ran.status, status, "{}", ran.out);
+            let words = format!("{words}{turn}");
+            assert!(ran.line(0).ends_with(&words), "{}", ran.out);
         }
     }
 }
 
 #[test]
-fn wrong_calls() {
-    for (words, message) in [
-        (
-            &["--register", "find"],
-            "clip: --register takes a whole number from 1\n`turn --register find` ",
-        ),
-        (&["--start", "1"], "no option --start here"),
-        (&["--out", "x"], "no option --out here"),
-        (&["--svg", "x"], "no option --svg here"),
+fn without_a_monitored_tone_it_says_whether_turn_can_tell() {
+    let odd = "Cannot tell: this table set monitors no tone, and no other is looked at; `turn` reads the \
+               whole symbol and can tell, whatever the register, because N, the count of non-zero \
+               re-ordered entries, is odd (5); for `clip` to tell, it takes a spare tone with 0 bits \
+               and a gain.";
+    let even =
+        "Cannot tell: this table set monitors no tone; nor can `turn` tell a written symbol from \
+                a turned one, because N, its count of non-zero re-ordered entries, is even (4); a \
+                spare tone with 0 bits and a gain would tell.";
+    for (set, points, words, turn) in [
+        (ODD, "five-twos-turned.csv", odd, 32),
+        (EVEN, "cannot-tell.csv", even, 33),
     ] {
-        let ran = clip(SET, "", words);
-        assert_eq!((ran.status, ran.out.as_str()), (64, ""));
-        assert!(ran.err.contains(message), "{}", ran.err);
-        assert!(ran.err.contains("usage: clevisroot clip TABLES POINTS "));
+        let register = ["--register", "77"];
+        let ran = clip(set, &example(points), &register);
+        told(&ran, 33, "Cannot tell", 0);
+        assert_eq!(ran.line(0), words);
+        let words = [&["turn", set, "-"], register.as_slice()].concat();
+        assert_eq!(run_with(example(points).as_bytes(), &words).status, turn);
     }
-    assert_eq!(run(&["clip", SET]).status, 64);
-    assert_eq!(run(&["clip", SET, "examples/no.csv"]).status, 66);
 }

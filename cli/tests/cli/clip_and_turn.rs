@@ -1,7 +1,7 @@
 //! `clip` and `turn` on written symbols, straight and turned, with the writer's register: they never
 //! contradict each other, and where a tone is monitored they say the same way.
 
-use crate::run::{file, numbers, run_with, turned, Ran};
+use crate::run::{equal, file, numbers, run_with, tables, turned, written, Ran};
 use clevisroot_sys::{check, encode, Tables};
 
 /// A small coded table set: bits and gains by sub-carrier, and t.
@@ -144,11 +144,46 @@ fn what_a_wrong_register_tells_has_its_condition() {
         let given = ["clip", &name, "-", "--register", &opposite];
         let given = run_with(points.as_bytes(), &given);
         assert_eq!(given.status, 32, "{}", given.out);
-        let condition = format!(", if register {opposite}, which was given, is the writer's");
+        let condition = format!(
+            ", if register {opposite}, which was given, is the writer's and the one point that was \
+             looked at came as it was written: "
+        );
         assert!(given.line(0).contains(&condition), "{}", given.out);
+        let turn = "; `turn` tells it whatever the register, because N, ";
+        assert_eq!(given.line(0).contains(turn), set.is_odd(), "{}", given.out);
         let assumed = run_with(points.as_bytes(), &["clip", &name, "-"]);
         assert!(matches!(assumed.status, 34 | 36), "{}", assumed.out);
-        deceived += usize::from(assumed.line(0).starts_with("Perhaps turned: "));
+        deceived += usize::from(assumed.line(0).starts_with("Perhaps turned, "));
     }
     assert!(deceived > 8, "{deceived}");
+}
+
+/// Written with one register and asked with another, `clip` says the wrong way, and names the call that
+/// says the true one.
+#[test]
+fn the_call_that_clip_names_says_the_true_way() {
+    let tones = [equal(5, 2), vec![(7, 0, 512)]].concat();
+    let odd = tables("clip-turn-odd.txt", "coded", 8, &tones);
+    let trellis =
+        "; `turn` tells it whatever the register, because N, the count of non-zero re-ordered \
+                   entries, is odd (5).";
+    let find = "; `turn --register find` tells it whatever the register.";
+    let twelve = "examples/twelve-monitored.txt";
+    for (set, names, finds) in [(odd.as_str(), trellis, false), (twelve, find, true)] {
+        for register in [1, 4_711, 8_388_606] {
+            let points = written(set, "02", register);
+            let other = (8_388_607 - register).to_string();
+            for (points, true_way, told) in [(turned(&points), 32, 0), (points, 0, 32)] {
+                let clip = ["clip", set, "-", "--register", &other];
+                let clip = run_with(points.as_bytes(), &clip);
+                assert_eq!(clip.status, told, "{}", clip.out);
+                assert!(clip.line(0).ends_with(names), "{}", clip.out);
+                let register = if finds { "find" } else { &other };
+                let turn = ["turn", set, "-", "--register", register];
+                let turn = run_with(points.as_bytes(), &turn);
+                assert_eq!(turn.status, true_way, "{}", turn.out);
+                assert!(turn.line(0).contains(", whatever the register"));
+            }
+        }
+    }
 }

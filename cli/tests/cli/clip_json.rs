@@ -1,6 +1,6 @@
 //! `--json` of `clip`.
 
-use crate::json::{head, object, text, Value};
+use crate::json::{head, inner, object, text, Value};
 use crate::run::{example, run_with};
 use std::collections::BTreeMap;
 
@@ -10,13 +10,6 @@ const REGISTER: [&str; 2] = ["--register", "4711"];
 fn json(set: &str, points: &str, words: &[&str]) -> BTreeMap<String, Value> {
     let words = [&["clip", set, "-", "--json"], words].concat();
     object(&run_with(points.as_bytes(), &words))
-}
-
-fn inner(object: &BTreeMap<String, Value>, key: &str) -> BTreeMap<String, Value> {
-    match &object[key] {
-        Value::Object(inner) => inner.clone(),
-        other => panic!("no object: {other:?}"),
-    }
 }
 
 #[test]
@@ -31,15 +24,50 @@ fn each_answer() {
         assert_eq!(json["command"], text("clip"));
         assert_eq!(json["verdict"], text(name));
         assert_eq!(json["sure"], Value::Flag(sure));
-        assert!(
-            matches!(&json["sentence"], Value::Text(words) if words.to_lowercase().starts_with(name))
+    }
+}
+
+/// The same sentence as in the text, where a refusal's is the third line, and the same status.
+#[test]
+fn the_sentence_and_the_status() {
+    const A: &str = "examples/bench-a.txt";
+    let [straight, turned, neither] =
+        ["straight", "turned", "neither"].map(|name| example(&format!("clip-{name}.csv")));
+    let (even, odd) = (example("cannot-tell.csv"), example("five-twos-turned.csv"));
+    let (given, none): (&[&str], &[&str]) = (&REGISTER, &[]);
+    for (set, points, words, status) in [
+        (SET, straight.as_str(), given, 0),
+        (SET, &turned, given, 32),
+        (SET, &neither, given, 34),
+        (SET, &straight, none, 34),
+        (SET, &"0,0\n".repeat(8), given, 34),
+        (A, &example("bench-a.csv"), none, 36),
+        (A, &example("bench-a-turned.csv"), none, 36),
+        ("examples/cannot-tell.txt", &even, given, 33),
+        ("examples/five-twos.txt", &odd, given, 33),
+        (SET, "1,1", given, 10),
+        (SET, &straight, &["--register", "0"], 12),
+    ] {
+        let words = [&["clip", set, "-"], words].concat();
+        let plain = run_with(points.as_bytes(), &words);
+        let json = run_with(points.as_bytes(), &[&words[..], &["--json"]].concat());
+        assert_eq!(
+            (plain.status, json.status),
+            (status, status),
+            "{}",
+            json.out
         );
+        let line = if status < 32 && status > 0 { 2 } else { 0 };
+        assert_eq!(object(&json)["sentence"], text(plain.line(line)));
     }
 }
 
 #[test]
 fn what_it_rests_on() {
-    let condition = text("the register that was given is the writer's");
+    let condition =
+        "the register that was given is the writer's and the one point that was looked at \
+                     came as it was written";
+    let condition = text(condition);
     for (name, holds_if, alike) in [
         ("straight", condition.clone(), Value::Number(4)),
         ("turned", condition, Value::Number(4)),
@@ -91,6 +119,34 @@ fn the_tone() {
         (&Value::Null, &Value::Flag(false))
     );
     assert_eq!(inner(&none, "rests_on")["register_is"], text("not needed"));
+}
+
+/// What 16 bits do not hold is in the text as it was typed, and in no number.
+#[test]
+fn a_point_beyond_16_bits() {
+    let points = example("clip-neither.csv");
+    for (point, typed, [x, y]) in [
+        ("99999,-1", "(99999, -1)", [None, None]),
+        ("1,-32769", "(1, -32769)", [None, None]),
+        (
+            "32767,-32768",
+            "(32767, -32768)",
+            [Some(32_767), Some(-32_768)],
+        ),
+    ] {
+        let points = points.replacen("\n1,1\n", &format!("\n{point}\n"), 1);
+        let words = [&["clip", SET, "-"], REGISTER.as_slice()].concat();
+        let plain = run_with(points.as_bytes(), &words);
+        let words = format!("the point is {typed}, and the filler bits give (1, -1)");
+        assert!(plain.line(1).ends_with(&words), "{}", plain.out);
+        let json = json(SET, &points, &REGISTER);
+        assert_eq!(json["verdict"], text("neither"));
+        let tone = inner(&json, "tone");
+        let number = |number: Option<i64>| number.map_or(Value::Null, Value::Number);
+        assert_eq!([&tone["x"], &tone["y"]], [&number(x), &number(y)]);
+        let ground = inner(&json, "rests_on");
+        assert_eq!(ground["register_is"], text("none fits"));
+    }
 }
 
 #[test]

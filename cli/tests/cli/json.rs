@@ -139,6 +139,26 @@ pub fn text(text: &str) -> Value {
     Value::Text(text.to_string())
 }
 
+/// An object within an object.
+pub fn inner(object: &BTreeMap<String, Value>, key: &str) -> BTreeMap<String, Value> {
+    as_object(&object[key])
+}
+
+/// The objects of a list.
+pub fn list(value: &Value) -> Vec<BTreeMap<String, Value>> {
+    match value {
+        Value::List(list) => list.iter().map(as_object).collect(),
+        other => panic!("no list: {other:?}"),
+    }
+}
+
+fn as_object(value: &Value) -> BTreeMap<String, Value> {
+    match value {
+        Value::Object(object) => object.clone(),
+        other => panic!("no object: {other:?}"),
+    }
+}
+
 /// number, name, place, size and register
 pub fn head(object: &BTreeMap<String, Value>) -> [Value; 5] {
     ["number", "name", "place", "size", "register"].map(|key| object[key].clone())

@@ -3,6 +3,7 @@
 mod clip;
 mod clip_and_turn;
 mod clip_json;
+mod clip_refusals;
 mod commands;
 mod examples;
 mod faults;

@@ -168,9 +168,10 @@ pub fn symbols_of(set: &str, frames: &[String], register: &str) -> Vec<String> {
         .collect()
 }
 
-/// The words of `turn` on each symbol of a stream.
+/// The words of `turn` or `clip` on each symbol of a stream, without what to do about it.
 pub fn verdicts(ran: &Ran) -> Vec<String> {
     let lines = ran.out.lines().filter(|line| line.starts_with("symbol "));
-    let word = |line: &str| line.split(": ").nth(1).unwrap().to_string();
-    lines.map(word).collect()
+    let told = lines.map(|line| line.split(": ").nth(1).unwrap());
+    told.map(|told| told.split(',').next().unwrap().to_string())
+        .collect()
 }

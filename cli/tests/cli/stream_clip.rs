@@ -1,10 +1,16 @@
 //! `clip` on a stream: the register goes on by the draws of each symbol, whatever the answer, and no
 //! verdict is surer than what it rests on.
 
-use crate::json::{object, text, Value};
+use crate::json::{inner, list, object, text, Value};
 use crate::run::{example, run, run_with, symbols_of, turned, verdicts, Ran};
+use std::collections::BTreeMap;
 
 const SET: &str = "examples/clip.txt";
+
+/// The condition of the totals.
+const IF: &str =
+    "if the register that was given is the writer's and the points that were looked at came \
+                  as they were written";
 
 /// Symbols of the example that follow each other from register 4711 on.
 fn symbols(count: usize) -> Vec<String> {
@@ -43,11 +49,11 @@ fn the_register_is_carried() {
         assert_eq!(verdicts(&ran), vec![word; 40]);
         assert_eq!((ran.status, ran.err.as_str()), (status, ""));
         let word = word.to_lowercase();
-        let totals = format!(
-            "40 symbols: 40 {word}; in all: {word}, if the register that was given is the writer's"
-        );
+        let totals = format!("40 symbols: 40 {word}; in all: {word}, {IF}");
         assert_eq!(last(&ran), totals);
-        let words = ", which goes back to the one that was given, is the writer's";
+        let words =
+            ", which follows from the one that was given, is the writer's and the one point that \
+                     was looked at came as it was written: ";
         assert_eq!(ran.out.matches(words).count(), 39);
     }
 }
@@ -62,14 +68,10 @@ fn the_carried_register_is_the_writer_s() {
     let words = ["encode", SET, "-", "--register", "4711", "--json"];
     let written = object(&run_with(frames.as_bytes(), &words));
     let registers = |object: &Value| {
-        let Value::List(symbols) = object else {
-            panic!("no list")
-        };
-        let register = |symbol: &Value| match symbol {
-            Value::Object(symbol) => symbol["register"].clone(),
-            other => panic!("no object: {other:?}"),
-        };
-        symbols.iter().map(register).collect::<Vec<Value>>()
+        let symbols = list(object).into_iter();
+        symbols
+            .map(|symbol| symbol["register"].clone())
+            .collect::<Vec<Value>>()
     };
     let (before, after) = (registers(&told["symbols"]), registers(&written["symbols"]));
     assert_eq!(before[0], Value::Number(4711));
@@ -97,7 +99,9 @@ fn a_symbol_that_is_neither_does_not_stop_the_draws() {
             format!("12 symbols: 5 {word}, 6 perhaps {word}, 1 neither; in all: perhaps {word}");
         assert_eq!(last(&ran), totals);
         let words = "which goes on past a symbol that was refused or neither way round and so may \
-                     be out of step";
+                     be out of step, and about one wrong register in 4 would look the same; the \
+                     writer's register before this symbol (--register N, with this symbol first) \
+                     would settle it";
         assert_eq!(ran.out.matches(words).count(), 6, "{}", ran.out);
     }
 }
@@ -116,6 +120,9 @@ fn after_a_symbol_of_the_wrong_length_nothing_is_sure() {
         assert_eq!(told[0], "refused");
         assert!(ran.out.contains("There are 16 points for 8 tones"));
         assert!(told[1] == "Neither" || told[1].starts_with("Perhaps "));
+        let writer_s =
+            "the writer's register before this symbol (--register N, with this symbol first)";
+        assert_eq!(ran.out.matches(writer_s).count(), 1, "{}", ran.out);
         assert!(matches!(ran.status, 34 | 36), "{}", ran.out);
         deceived += usize::from(told[1] == "Perhaps turned");
     }
@@ -135,9 +142,9 @@ fn a_refused_symbol_does_not_stop_the_draws() {
     ]
     .concat();
     assert_eq!(verdicts(&ran), expected);
-    let totals = "12 symbols: 5 straight, 6 perhaps straight, 1 refused; in all: straight, if the \
-                  register that was given is the writer's";
-    assert_eq!((ran.status, last(&ran)), (0, totals));
+    let totals =
+        format!("12 symbols: 5 straight, 6 perhaps straight, 1 refused; in all: straight, {IF}");
+    assert_eq!((ran.status, last(&ran)), (0, totals.as_str()));
     let stopped = clip(&symbols, &["--register", "4711", "--stop"]);
     assert_eq!(verdicts(&stopped), expected[..6]);
     assert!(last(&stopped).starts_with("6 symbols: 5 straight, 1 refused; "));
@@ -154,8 +161,35 @@ fn symbols_of_both_ways_cannot_tell() {
     assert_eq!(verdicts(&ran), expected);
     assert_eq!(ran.status, 33);
     assert!(last(&ran).ends_with("; in all: cannot tell"), "{}", ran.out);
-    let words = "which had a symbol before the other way round and so may be out of step";
-    assert_eq!(ran.out.matches(words).count(), 2, "{}", ran.out);
+    for words in [
+        "which had a symbol before the other way round and so may be out of step",
+        "; the writer's register before this symbol (--register N, with this symbol first) would settle it",
+    ] {
+        assert_eq!(ran.out.matches(words).count(), 2, "{}", ran.out);
+    }
+}
+
+/// `turn` goes on with the register that a noisy symbol handed back, `clip` with the draws of its own:
+/// both say "perhaps", and may say different ways.
+#[test]
+fn after_noise_turn_may_say_another_way() {
+    let mut others = 0;
+    for register in (1..=40).map(|number| (number * 209_701).to_string()) {
+        let frames = vec!["0b".to_string(); 3];
+        let mut symbols = symbols_of(SET, &frames, &register);
+        symbols[1] = with_noise(&symbols[1]);
+        let words = ["--register", &register];
+        assert_eq!(
+            verdicts(&clip(&symbols, &words)),
+            ["Straight", "Neither", "Perhaps straight"]
+        );
+        let words = ["turn", SET, "-", "--register", &register];
+        let turn = verdicts(&run_with(symbols.join("\n").as_bytes(), &words));
+        assert_eq!(turn[..2], ["Straight", "Neither"]);
+        assert!(turn[2] == "Neither" || turn[2].starts_with("Perhaps "));
+        others += usize::from(turn[2] == "Perhaps turned");
+    }
+    assert!(others > 0, "{others}");
 }
 
 #[test]
@@ -165,7 +199,9 @@ fn an_assumed_register_is_a_perhaps_for_all() {
     assert_eq!(verdicts(&ran), ["Perhaps straight"; 3]);
     let totals = "3 symbols: 3 perhaps straight; in all: perhaps straight";
     assert_eq!((ran.status, last(&ran)), (36, totals));
-    let words = "goes back to the value at reset, assumed because none was given";
+    let words =
+        "follows from the value at reset, assumed because none was given, and about one wrong \
+                 register in 4 would look the same; the writer's register (--register N) would";
     assert_eq!(ran.out.matches(words).count(), 2);
 }
 
@@ -189,27 +225,59 @@ fn all_of_a_kind() {
     assert_eq!(clip(&noise, &["--register=4711", "--stop"]).out, ran.out);
 }
 
+/// The verdicts of the totals, each with its count.
+fn counts(totals: &BTreeMap<String, Value>) -> Vec<(String, Value)> {
+    let all = inner(totals, "verdicts").into_iter();
+    all.filter(|(_, count)| *count != Value::Number(0))
+        .collect()
+}
+
 #[test]
 fn json_of_a_stream() {
-    let mut symbols = symbols(3);
-    symbols[1] = with_noise(&symbols[1]);
+    let mut symbols = symbols(4);
+    symbols[2] = with_noise(&symbols[2]);
     let json = object(&clip(&symbols, &["--register", "4711", "--json"]));
     assert_eq!(json["command"], text("clip"));
-    let Value::Object(totals) = &json["totals"] else {
-        panic!("no object")
-    };
+    let totals = inner(&json, "totals");
     assert_eq!(totals["verdict"], text("perhaps straight"));
-    assert_eq!(totals["symbols"], Value::Number(3));
-    let Value::List(list) = &json["symbols"] else {
-        panic!("no list")
-    };
-    let Value::Object(third) = &list[2] else {
-        panic!("no object")
-    };
-    assert_eq!(third["symbol"], Value::Number(2));
-    let Value::Object(ground) = &third["rests_on"] else {
-        panic!("no object")
-    };
-    let words = "drawn on past a symbol that was refused or neither";
-    assert_eq!(ground["register_is"], text(words));
+    assert_eq!(totals["symbols"], Value::Number(4));
+    assert_eq!(
+        (&totals["refused"], &totals["holds_if"]),
+        (&Value::Number(0), &Value::Null)
+    );
+    let expected = [("neither", 1), ("perhaps straight", 1), ("straight", 2)];
+    let expected = expected.map(|(word, count)| (word.to_string(), Value::Number(count)));
+    assert_eq!(counts(&totals), expected);
+    let condition = "the register that was given is the writer's";
+    let point = "the one point that was looked at came as it was written";
+    let drawn_on = "drawn on past a symbol that was refused or neither";
+    let expected = [
+        ("given", text(&format!("{condition} and {point}"))),
+        (
+            "given",
+            text(&format!(
+                "{condition}, no symbol is missing since, and {point}"
+            )),
+        ),
+        ("none fits", Value::Null),
+        (drawn_on, Value::Null),
+    ];
+    for (number, (register_is, holds_if)) in expected.into_iter().enumerate() {
+        let symbol = &list(&json["symbols"])[number];
+        assert_eq!(symbol["symbol"], Value::Number(number as i64));
+        let ground = inner(symbol, "rests_on");
+        assert_eq!(ground["register_is"], text(register_is));
+        assert_eq!(ground["holds_if"], holds_if);
+    }
+}
+
+#[test]
+fn json_of_a_stream_on_a_condition() {
+    let wrong: Vec<String> = symbols(3).iter().map(|symbol| turned(symbol)).collect();
+    let ran = clip(&wrong, &["--register", "4711", "--json"]);
+    let totals = inner(&object(&ran), "totals");
+    assert_eq!((ran.status, &totals["verdict"]), (32, &text("turned")));
+    assert_eq!(counts(&totals), [("turned".to_string(), Value::Number(3))]);
+    let words = IF.strip_prefix("if ").unwrap();
+    assert_eq!(totals["holds_if"], text(words));
 }
