@@ -109,8 +109,9 @@ fn room(question: &Question) -> String {
         ),
         _ => String::new(),
     };
+    let are = if points == 1 { "is" } else { "are" };
     format!(
-        "There are {} for {}: give one point a tone, in t' order{between}{others}.",
+        "There {are} {} for {}: give one point a tone, in t' order{between}{others}.",
         count(points, "point"),
         count(tones, "tone")
     )

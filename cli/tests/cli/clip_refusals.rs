@@ -110,13 +110,13 @@ fn too_few_points() {
     let others =
         "; only the one at place 3 is looked at, so any point, 0,0 for instance, will do for \
                   each of the others.";
-    let words = "There are 1 point for 8 tones: give one point a tone, in t' order";
+    let words = "There is 1 point for 8 tones: give one point a tone, in t' order";
     assert_eq!(clip(SET, "1,1", &[]).line(2), format!("{words}{others}"));
     let zeros = "0,0\n".repeat(3) + "1,-1\n" + &"0,0\n".repeat(4);
     assert_eq!(clip(SET, &zeros, &["--register", "4711"]).status, 0);
     // Nothing is looked at where no tone is monitored, and too many are another matter.
     let none = clip("examples/cannot-tell.txt", "1,1", &[]);
-    let words = "There are 1 point for 6 tones: give one point a tone, in t' order.";
+    let words = "There is 1 point for 6 tones: give one point a tone, in t' order.";
     assert_eq!(none.line(2), words);
     let many = clip(SET, &"1,1\n".repeat(16), &[]);
     let words =
