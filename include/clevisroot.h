@@ -149,10 +149,10 @@
  * and 0 where the call is refused. If some tone is monitored, and the points are a symbol written with
  * these tables and this register, or one turned by half a turn, it answers what two readings would:
  * straight exactly when the points are read as they are, turned exactly when they are read with all
- * signs changed. It rests on that one tone and on the register: with another one than the writer's the
- * tone looks straight about one time in four, and turned about one time in four. Straight does not say
- * that the symbol will be read, for all other points may be anything. After the checks of the tables
- * it looks along them once and along t at most once, as far as that tone.
+ * signs changed. It rests on that one tone, on the tables and on the register: with another register
+ * than the writer's the tone looks straight about one time in four, and turned about one time in four.
+ * Straight does not say that the symbol will be read, for all other points may be anything. After the
+ * checks of the tables it goes over bits and gains once, and along t at most once, as far as that tone.
  */
 #ifndef CLEVISROOT_H
 #define CLEVISROOT_H

@@ -41,7 +41,7 @@ fn sure_sentence(way: Way, tables: &Tables, known: &Known) -> String {
         format!("; {turn} tells it whatever the register{reason}")
     });
     format!(
-        "{clips}, if {} is the writer's and {ONE_POINT}: the first monitored tone has {point}, as it \
+        "{clips}, if the tables and {} are the writer's and {ONE_POINT}: the first monitored tone has {point}, as it \
          would with a wrong register about one time in {}{turn}.",
         register_words(known),
         alike_one_in(known.agreed)
@@ -85,7 +85,7 @@ fn neither_sentence(tables: &Tables, known: &Known) -> String {
 fn cannot_tell_sentence(tables: &Tables) -> String {
     let rest = match trellis_tells(&tables.set, &tables.order) {
         true => format!(
-            ", and no other is looked at; `turn` reads the whole symbol and can tell, whatever the \
+            ", and `clip` looks at monitored tones only; `turn` reads the whole symbol and can tell, whatever the \
              register, because {}; for `clip` to tell, it takes {SPARE}",
             odd(tables.order.loaded())
         ),

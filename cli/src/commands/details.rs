@@ -113,8 +113,8 @@ these coded tables and this register, turned or not.
 The register must be the one that the symbol was written with: with a wrong one the tone looks
 straight about one time in 4, turned about one time in 4, and neither about one time in 2. Without
 --register the value at reset is assumed, and straight and turned are only perhaps so; with
---register N they hold if N is the writer's register and this one point came as it was written. The
-register is not found here (see turn --register find). All other points may be anything, 0,0 for
+--register N they hold if the tables and N are the writer's and this one point came as it was written.
+The register is not found here (see turn --register find). All other points may be anything, 0,0 for
 instance, but there must be one for each tone.
 
 Exit status: 0 straight, 32 turned, 36 perhaps (straight or turned), 33 cannot tell, 34 neither;

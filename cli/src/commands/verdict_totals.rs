@@ -1,7 +1,7 @@
 //! The totals of a stream of `turn` or `clip`: the clips are the same for all of its symbols.
 
 use super::verdict::{Verdict, CANNOT_TELL};
-use super::verdict_words::{IF_GIVEN, POINTS};
+use super::verdict_words::{IF_BOTH, IF_GIVEN, POINTS};
 use crate::json::Json;
 use crate::report::Report;
 use crate::words::count;
@@ -36,7 +36,7 @@ impl VerdictTotals {
 
     /// Of verdicts on one tone of each symbol.
     pub fn of_one_tone() -> VerdictTotals {
-        VerdictTotals::new(format!("{IF_GIVEN} and {POINTS}"))
+        VerdictTotals::new(format!("{IF_BOTH} and {POINTS}"))
     }
 
     fn new(condition: String) -> VerdictTotals {

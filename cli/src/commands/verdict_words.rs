@@ -207,7 +207,8 @@ pub fn ground_fields(verdict: Verdict, ground: &Ground) -> Fields {
 /// The condition of a verdict that rests on the register that was given.
 pub const IF_GIVEN: &str = "the register that was given is the writer's";
 
-/// And of one that rests on one tone, which nothing else bears out.
+/// And of one that rests on one tone, which nothing else bears out: no reading speaks for the tables.
+pub const IF_BOTH: &str = "the tables and the register that were given are the writer's";
 pub const ONE_POINT: &str = "the one point that was looked at came as it was written";
 pub const POINTS: &str = "the points that were looked at came as they were written";
 
@@ -220,8 +221,8 @@ fn condition(ground: &Ground) -> Option<String> {
             true => format!("{IF_GIVEN} and no symbol is missing since"),
         }),
         Ground::OneTone(known) => Some(match known.carried {
-            false => format!("{IF_GIVEN} and {ONE_POINT}"),
-            true => format!("{IF_GIVEN}, no symbol is missing since, and {ONE_POINT}"),
+            false => format!("{IF_BOTH} and {ONE_POINT}"),
+            true => format!("{IF_BOTH}, no symbol is missing since, and {ONE_POINT}"),
         }),
         _ => None,
     }

@@ -126,8 +126,8 @@ fn the_first_monitored_tone_is_the_one_in_t_dash() {
 #[test]
 fn it_says_what_it_rests_on() {
     let ran = given(&example("clip-turned.csv"));
-    let words = "Turned: the clips are the wrong way round, so swap them, if register 4711, which was \
-                 given, is the writer's and the one point that was looked at came as it was written: \
+    let words = "Turned: the clips are the wrong way round, so swap them, if the tables and \
+                 register 4711, which was given, are the writer's and the one point that was looked at came as it was written: \
                  the first monitored tone has the opposite of the point that its filler bits give, as \
                  it would with a wrong register about one time in 4.";
     assert_eq!(ran.line(0), words);
@@ -223,7 +223,7 @@ fn what_is_not_sure_points_to_turn() {
 
 #[test]
 fn without_a_monitored_tone_it_says_whether_turn_can_tell() {
-    let odd = "Cannot tell: this table set monitors no tone, and no other is looked at; `turn` reads the \
+    let odd = "Cannot tell: this table set monitors no tone, and `clip` looks at monitored tones only; `turn` reads the \
                whole symbol and can tell, whatever the register, because N, the count of non-zero \
                re-ordered entries, is odd (5); for `clip` to tell, it takes a spare tone with 0 bits \
                and a gain.";

@@ -145,7 +145,7 @@ fn what_a_wrong_register_tells_has_its_condition() {
         let given = run_with(points.as_bytes(), &given);
         assert_eq!(given.status, 32, "{}", given.out);
         let condition = format!(
-            ", if register {opposite}, which was given, is the writer's and the one point that was \
+            ", if the tables and register {opposite}, which was given, are the writer's and the one point that was \
              looked at came as it was written: "
         );
         assert!(given.line(0).contains(&condition), "{}", given.out);

@@ -65,7 +65,7 @@ fn the_sentence_and_the_status() {
 #[test]
 fn what_it_rests_on() {
     let condition =
-        "the register that was given is the writer's and the one point that was looked at \
+        "the tables and the register that were given are the writer's and the one point that was looked at \
                      came as it was written";
     let condition = text(condition);
     for (name, holds_if, alike) in [

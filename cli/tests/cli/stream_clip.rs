@@ -9,7 +9,7 @@ const SET: &str = "examples/clip.txt";
 
 /// The condition of the totals.
 const IF: &str =
-    "if the register that was given is the writer's and the points that were looked at came \
+    "if the tables and the register that were given are the writer's and the points that were looked at came \
                   as they were written";
 
 /// Symbols of the example that follow each other from register 4711 on.
@@ -52,7 +52,7 @@ fn the_register_is_carried() {
         let totals = format!("40 symbols: 40 {word}; in all: {word}, {IF}");
         assert_eq!(last(&ran), totals);
         let words =
-            ", which follows from the one that was given, is the writer's and the one point that \
+            ", which follows from the one that was given, are the writer's and the one point that \
                      was looked at came as it was written: ";
         assert_eq!(ran.out.matches(words).count(), 39);
     }
@@ -248,7 +248,7 @@ fn json_of_a_stream() {
     let expected = [("neither", 1), ("perhaps straight", 1), ("straight", 2)];
     let expected = expected.map(|(word, count)| (word.to_string(), Value::Number(count)));
     assert_eq!(counts(&totals), expected);
-    let condition = "the register that was given is the writer's";
+    let condition = "the tables and the register that were given are the writer's";
     let point = "the one point that was looked at came as it was written";
     let drawn_on = "drawn on past a symbol that was refused or neither";
     let expected = [

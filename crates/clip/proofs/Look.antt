@@ -29,14 +29,14 @@ use Rattle.tables.specs.Modes.{sharing}
 use Rattle.tables.proofs.Scans.{any-nothing}
 use Rattle.clip.specs.Tones.{isMonitoredIn, along, pastTone, look}
 use Rattle.clip.specs.declared.Along.{Along}
-use Rattle.clip.specs.declared.FirstMonitored.{FirstMonitored}
-use Rattle.clip.specs.declared.FirstMonitored.the-variants.{At, Nowhere}
+use Rattle.clip.specs.declared.Looked.{Looked}
+use Rattle.clip.specs.declared.Looked.the-variants.{At, Nowhere}
 
 -- of classes in t' order: the first monitored one, and how many before it draw; these are silent
 abbrev isMonitoredAt : List Class → ℕ → Bool
 isMonitoredAt cs k = isMonitored (getD cs k Silent)
 
-abbrev Finds : List Class → FirstMonitored → Type 0
+abbrev Finds : List Class → Looked → Type 0
 Finds cs (At a) = (first (isMonitoredAt cs) (length cs) ≡ F.At (a .place .0)) × (a .silent ≡ count isDrawing (take (a .place .0) cs)) × (a .place .0 < length cs)
 Finds cs Nowhere = first (isMonitoredAt cs) (length cs) ≡ F.Nothing
 
@@ -127,12 +127,12 @@ register-count r (c ∷ cs) =
     let n : draws c + 2 * count isDrawing cs ≡ 2 * (weight (isDrawing c) + count isDrawing cs) = omega (arith, draws-two c) in
     register-count (afterDraws (draws c) r) cs ∙ sym (after-add (draws c) (2 * count isDrawing cs) r) ∙ ap (λ (k : ℕ). afterDraws k r) n
 
-abbrev pub FoundIn : Tables → FirstMonitored → Type 0
+abbrev pub FoundIn : Tables → Looked → Type 0
 FoundIn T (At a) =
     (firstMonitored T ≡ F.At (a .place .0)) × ((r : ℕ) → registerAfter r (take (a .place .0) (classesOf T)) ≡ afterDraws (2 * a .silent) r) × (a .place .0 < length (T .tones))
 FoundIn T Nowhere = firstMonitored T ≡ F.Nothing
 
-found-in : (T : Tables) (found : FirstMonitored) → Finds (classesOf T) found → FoundIn T found
+found-in : (T : Tables) (found : Looked) → Finds (classesOf T) found → FoundIn T found
 found-in T (At a) f =
     let n = length-classes T in
     (rw n at (f .0), λ r. register-count r (take (a .place .0) (classesOf T)) ∙ ap (λ (k : ℕ). afterDraws (2 * k) r) (sym (f .1)), omega (arith, f .2))

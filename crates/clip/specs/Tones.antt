@@ -14,26 +14,27 @@ use Rattle.g9932.specs.declared.Mode.the-variants.{Coded}
 use Rattle.plan.specs.Plan.{isPlaced, isDrawing}
 use Rattle.tables.specs.Checks.{Below}
 use Rattle.clip.specs.declared.Along.{Along}
-use Rattle.clip.specs.declared.FirstMonitored.{FirstMonitored}
-use Rattle.clip.specs.declared.FirstMonitored.the-variants.{At, Nowhere}
+use Rattle.clip.specs.declared.Looked.{Looked}
+use Rattle.clip.specs.declared.Looked.the-variants.{At, Nowhere}
 
 -- of a sub-carrier, whether a tone there is monitored
 abbrev pub isMonitoredIn : List ℕ → List ℕ → ℕ → Bool
 isMonitoredIn b g k = isMonitored (classAt b g k)
 
--- past a tone: the place in t' of the next, and the silent tones before it; a 1-bit tone has its place behind the others
+-- a place in t', and the silent tones before it
 abbrev pub along : ℕ → ℕ → Along
 along p s = record { place = record { 0 = p }; silent = s }
 
+-- past a tone: a 1-bit tone takes no place here, for t' has it behind the others; a 0-bit tone draws
 abbrev pub pastTone : Class → Along → Along
 pastTone c at = along (at .place .0 + weight (isPlaced 2 c)) (at .silent + weight (isDrawing c))
 
 -- the look along the classes of t
-abbrev pub lookBy : Bool → Along → FirstMonitored → FirstMonitored
+abbrev pub lookBy : Bool → Along → Looked → Looked
 lookBy true at rest = At at
 lookBy false at rest = rest
 
-unfoldable pub look : List Class → Along → FirstMonitored
+unfoldable pub look : List Class → Along → Looked
 look [] at = Nowhere
 look (c ∷ cs) at = lookBy (isMonitored c) at (look cs (pastTone c at))
 

@@ -16,14 +16,15 @@ use g9932::Place;
 use g9932::Refusal;
 use tables::sizes::Sized;
 
-// A tone on the way along t: its place in t', and how many silent tones stand before it there. No 1-bit tone does.
+// How far the look along t has come: the place in t' of the next tone that has not 1 bit, and how many silent tones stand before it there.
+// No 1-bit tone does.
 pub struct Along {
     pub place: Place,
     pub silent: usize,
 }
 
 // What the look along t finds: the first monitored tone, or that there is none.
-pub enum FirstMonitored {
+pub enum Looked {
     At(Along),
     Nowhere,
 }
@@ -35,8 +36,8 @@ fn is_monitored(bits: u8, gain: u16) -> bool
     (bits == 0) & (0 < gain)
 }
 
-// Whether any sub-carrier is as a monitored tone is: of accepted tables, whether any tone is monitored. No early exit and no `if`, so that
-// the compiler takes many entries at a time. Called by proved code only.
+// Whether any sub-carrier has 0 bits and a gain. In accepted tables every such one is in t, so that this is whether any tone is monitored.
+// No early exit and no `if`, so that the compiler takes many entries at a time. Called by proved code only.
 fn any_monitored(bits: &[u8], gains: &[u16]) -> bool
     requires { ⌜ length (now gains) ≡ length (now bits) ⌝ }
     ensures { λ r. ⌜ r ≡ anyBelow (isMonitoredIn (now (bits .entry)) (now (gains .entry))) (length (now (bits .entry))) ⌝ }
@@ -52,7 +53,7 @@ fn any_monitored(bits: &[u8], gains: &[u16]) -> bool
 
 // The first monitored tone in t'. It is the first one in t, for no 1-bit tone is monitored. The counts have no `if`. Called by proved code
 // only.
-fn first_monitored(bits: &[u8], gains: &[u16], tones: &[u16]) -> FirstMonitored
+fn look_along(bits: &[u8], gains: &[u16], tones: &[u16]) -> Looked
     requires { ⌜ LookNeeds (now bits) (now gains) (now tones) ⌝ }
     ensures { λ r. ⌜ r ≡ look (classesBy (now (bits .entry)) (now (gains .entry)) (now (tones .entry))) (along 0 0) ⌝ }
 {
@@ -63,7 +64,7 @@ fn first_monitored(bits: &[u8], gains: &[u16], tones: &[u16]) -> FirstMonitored
         let k = tables::tone_at(tones, Place(i));
         let b = tables::bits_of(bits, k);
         if is_monitored(b, tables::gain_of(gains, k)) {
-            return FirstMonitored::At(Along {
+            return Looked::At(Along {
                 place: Place(place),
                 silent,
             });
@@ -72,7 +73,7 @@ fn first_monitored(bits: &[u8], gains: &[u16], tones: &[u16]) -> FirstMonitored
         silent += tables::one_if(b == 0) as usize;
         i += 1;
     }
-    FirstMonitored::Nowhere
+    Looked::Nowhere
 }
 
 // What the point of a monitored tone tells, by the register before its draws.
@@ -89,8 +90,8 @@ fn clip_at(x: i16, y: i16, register: u32) -> Clip
     Clip::Neither
 }
 
-// What the first monitored tone tells; where there is none, t is not looked along. Its caller shows that the tables are accepted and that
-// both lists have NSC entries.
+// What the first monitored tone tells; where there is none, t is not looked along, so that `Nowhere` does not come; the answer is the
+// definition's all the same. Its caller shows that the tables are accepted and that both lists have NSC entries.
 fn tell(bits: &[u8], gains: &[u16], tones: &[u16], xs: &[i16], ys: &[i16], register: u32) -> Clip
     requires { ⌜ TellNeeds (now bits) (now gains) (now tones) (now xs) (now ys) ⌝ }
     ensures { λ r. ⌜ r ≡ clipOf (tables Coded (now (bits .entry)) (now (gains .entry)) (now (tones .entry))) (points (now (xs .entry)) (now (ys .entry))) register ⌝ }
@@ -98,10 +99,10 @@ fn tell(bits: &[u8], gains: &[u16], tones: &[u16], xs: &[i16], ys: &[i16], regis
     if !any_monitored(bits, gains) {
         return Clip::CannotTell;
     }
-    let monitored = first_monitored(bits, gains, tones);
+    let monitored = look_along(bits, gains, tones);
     match monitored {
-        FirstMonitored::Nowhere => Clip::CannotTell,
-        FirstMonitored::At(at) => {
+        Looked::Nowhere => Clip::CannotTell,
+        Looked::At(at) => {
             let p = at.place.0;
             clip_at(xs[p], ys[p], prbs::after_tones(register, at.silent))
         }

@@ -1,7 +1,7 @@
 -- The promises over the definitions of document 01: demand 3, in full; of demand 2, how many bits go on the tones, and which go where;
 -- what else is shown of the definitions; of request R-13, nearest reading, by itself and against exact reading; and of request R-10, the clip
--- check, by itself and against two readings. That the code gives what they say is the `ensures` of each operation. Each proof cites the part that shows it.
--- The words are those of specs/Words.antt and of crate g9932. Request R-12, the pair report, has a page of its own:
+-- check, by itself and against two readings. That the code gives what they say is the `ensures` of each operation. Each proof cites the
+-- part that shows it. The words are those of specs/Words.antt and of crate g9932. Request R-12, the pair report, has a page of its own:
 -- crates/tally/proofs/Theorems.antt.
 use Prim.Native.Nat.{ℕ, _+_, _-_, _*_, _/_, _%_, _^_, _≤_, _<_}
 use mathlib.Core.Bool.{Bool, true, false, cond, not}
@@ -519,7 +519,7 @@ module _ (T : Tables) (ok : AcceptedTables T) (m : T .mode ≡ Coded) (r : ℕ) 
     pub clip-turned-exactly : (clipOf T (points X Y) r ≡ Turned) ↔ (readAt T (turned X) (turned Y) r start f₀ .report .verdict .number ≡ 0)
     clip-turned-exactly = ClipFullWay.turned-exactly T ok m r valid start small f₀ fits k monitored X Y symbol
 
-  -- Of any points of the right length, never are both;
+  -- Of any points of the right length, both readings are never accepted;
   pub clip-never-both : RightLength T X Y
       → (readAt T X Y r start f₀ .report .verdict .number ≡ 0) × (readAt T (turned X) (turned Y) r start f₀ .report .verdict .number ≡ 0) → ⊥
   clip-never-both = ClipFullWay.never-both T ok m r valid start small f₀ fits k monitored X Y
@@ -549,8 +549,9 @@ module _ (T : Tables) (ok : AcceptedTables T) (r : ℕ) (valid : ValidRegister r
   pub clip-of-turned : TurnedSymbol T r X Y → clipCheck T X Y r ≡ record { number = 0; place = 0; clip = some Turned; register = r }
   clip-of-turned = ClipFullWay.check-turned T ok r X Y k monitored valid
 
--- Whatever the points and the register, what is told is straight exactly when the point of the first monitored tone, at place k in t', is
--- the one its filler bits give, turned exactly when it is the opposite one, and neither exactly when it is any other;
+-- Whatever the tables, the points and the register, `clipOf` is straight exactly when the point of the first monitored tone, at place k in
+-- t', is the one its filler bits give, turned exactly when it is the opposite one, and neither exactly when it is any other (a list that is too
+-- short has the origin there);
 module _ (T : Tables) (q : List Point) (r k : ℕ) (monitored : firstMonitored T ≡ At k) where
   pub clip-straight : (clipOf T q r ≡ Straight) ↔ (getD q k origin ≡ fillerPoint T r k)
   clip-straight = ClipAnswers.straight T q r k monitored
@@ -580,7 +581,7 @@ module _ (T : Tables) (xs ys : List ℤ) (r : ℕ) where
   pub clip-refused : clipCheck T xs ys r .number ≢ 0 → clipCheck T xs ys r .clip ≡ none
   clip-refused = ClipAnswers.not-told T xs ys r
 
-  -- and has 0 for it in C, which no other has.
+  -- and has 0 for it in C; a check that is done never has.
   pub clip-zero : (clipNumber (clipCheck T xs ys r .clip) ≡ 0) ↔ (clipCheck T xs ys r .number ≢ 0)
   clip-zero = ClipAnswers.zero-refused T xs ys r
 

@@ -30,18 +30,18 @@ returns c =
     let s = c .before .before .before .before .before in
     rw (none-monitored (s .args .bits .now) (s .args .gains .now) (s .args .tones .now) (facts s .tonesBelow) (sym (c .before .any-monitored .ensures) ∙ not-true _ (c .if1 .taken)))
 
-first-monitored-requires : tie.Need-first-monitored-requires
-first-monitored-requires c κs =
+look-along-requires : tie.Need-look-along-requires
+look-along-requires c κs =
     let a = facts (c .before .before .before .before .before) in
     record { below = a .tonesBelow; gains = a .gainsLength; most = omega (arith, a .tonesMost, a .tableMost) }
 
 -- what is found is the first monitored tone
-module _ (c : tie.After-first-monitored) where
+module _ (c : tie.After-look-along) where
   abbrev T : Tables
   T = let a = c .before .before .before .before .before .before .args in tables Coded (a .bits .now) (a .gains .now) (a .tones .now)
 
-  found : FoundIn T (c .first-monitored .result)
-  found = let a = c .before .before .before .before .before .before .args in rw (c .first-monitored .ensures) (finds-all (a .bits .now) (a .gains .now) (a .tones .now))
+  found : FoundIn T (c .look-along .result)
+  found = let a = c .before .before .before .before .before .before .args in rw (c .look-along .ensures) (finds-all (a .bits .now) (a .gains .now) (a .tones .now))
 
 -- and it has a place in t'
 inside : (c : tie.After-known-told) → c .before .monitored .given .0 .0 .place .0 < length (c .before .before .before .before .before .before .before .before .before .args .tones .now)
@@ -87,7 +87,7 @@ tell-spec =
     (tie.spec
     any-monitored-requires
     returns
-    first-monitored-requires
+    look-along-requires
     (λ c. search needs)
     (λ c. search needs)
     mul-clip-at

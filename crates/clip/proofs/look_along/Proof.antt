@@ -1,4 +1,4 @@
--- `clip::first_monitored` meets its contract. The invariant: the look goes on from place i of t as it would from the first, and both counts are
+-- `clip::look_along` meets its contract. The invariant: the look goes on from place i of t as it would from the first, and both counts are
 -- at most i. The measure is what is left of t.
 use mathlib.Core.Path.{_≡_, refl, sym, _∙_}
 use Prim.Native.Nat.{_-_, _≤_}
@@ -9,8 +9,8 @@ use Rattle.g9932.specs.Symbol.{classAt, classesBy}
 use Rattle.clip.specs.Tones.{isMonitoredIn, along, look}
 use Rattle.clip.proofs.Look.{look-here, look-past, past-by}
 use borrow.Author.Needs.{needs}
-use Rattle.clip.proofs.first_monitored.Statement.{statement}
-use Rattle.clip.proofs.first_monitored.Tie as tie
+use Rattle.clip.proofs.look_along.Statement.{statement}
+use Rattle.clip.proofs.look_along.Tie as tie
 
 abbrev Inv-loop : tie.InvT-loop
 Inv-loop bits gains tones place₀ silent₀ i₀ place silent i =
@@ -67,8 +67,8 @@ returns-2 c =
     let e = drop-of-length-le (classesBy (a .bits .now) (a .gains .now) (a .tones .now)) {i = l .i} (omega (arith, length-map (a .tones .now) (classAt (a .bits .now) (a .gains .now)))) in
     rw e at (l .inv .3)
 
-pub first-monitored-spec : {M : Type 1} → statement M
-first-monitored-spec =
+pub look-along-spec : {M : Type 1} → statement M
+look-along-spec =
     tie.close
     (tie.spec
     Inv-loop
