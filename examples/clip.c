@@ -38,7 +38,10 @@ static void read_and_tell(const int16_t *x, const int16_t *y, uint32_t reg)
                clevisroot_refusal_name(a.number), (unsigned)a.place);
 }
 
-/* A turned symbol is read with its signs changed back; what is neither would be refused both ways. */
+/*
+ * A turned symbol is read with its signs changed back, and one of which nothing can be told as it came; what
+ * is neither would be refused both ways.
+ */
 static int ask_and_read(uint8_t symbol, int16_t *x, int16_t *y, uint32_t reg)
 {
     clevisroot_clip c = clevisroot_clip_check(LISTS, x, NSC, y, NSC, reg);

@@ -519,12 +519,12 @@ module _ (T : Tables) (ok : AcceptedTables T) (m : T .mode ≡ Coded) (r : ℕ) 
     pub clip-turned-exactly : (clipOf T (points X Y) r ≡ Turned) ↔ (readAt T (turned X) (turned Y) r start f₀ .report .verdict .number ≡ 0)
     clip-turned-exactly = ClipFullWay.turned-exactly T ok m r valid start small f₀ fits k monitored X Y symbol
 
-  -- Of any points of the right length, both readings are never accepted;
+  -- Of any points of the right length, the two readings are never both accepted;
   pub clip-never-both : RightLength T X Y
       → (readAt T X Y r start f₀ .report .verdict .number ≡ 0) × (readAt T (turned X) (turned Y) r start f₀ .report .verdict .number ≡ 0) → ⊥
   clip-never-both = ClipFullWay.never-both T ok m r valid start small f₀ fits k monitored X Y
 
-  -- and where either is, the check tells what the full way tells.
+  -- and where one of them is, the check tells what the full way tells.
   pub clip-agrees : RightLength T X Y → fullWay T X Y r start f₀ ≢ Neither → clipOf T (points X Y) r ≡ fullWay T X Y r start f₀
   clip-agrees = ClipFullWay.agrees T ok m r valid start small f₀ fits k monitored X Y
 
