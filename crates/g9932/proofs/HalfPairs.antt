@@ -14,13 +14,13 @@ use Rattle.g9932.specs.Trellis.{zeroState, lastTwo, nextOf, encodePairs,
 use Rattle.g9932.specs.declared.TrellisState.{TrellisState}
 use Rattle.g9932.proofs.Pairs.{Ok, sentTotal, length-encode, read-stop, read-encode, FirstRead, first-read}
 use Rattle.g9932.proofs.Formed.{Full, Formed, whole, padded, full-ok, formed-ok}
-use Rattle.g9932.proofs.Coordinates.{oppositeLabel}
-use Rattle.g9932.proofs.HalfWord.{half, Turned, TurnedLone, both-turned, lone-turned, turned-obeys, turned-next, taken-differ, OffOne, lone-off, off-free, off-next, off-forced}
+use Rattle.g9932.proofs.HalfWord.{Turned, TurnedLone, both-turned, lone-turned, turned-obeys, turned-next, taken-differ, OffOne, lone-off, off-free, off-next, off-forced}
+use Rattle.g9932.proofs.Quarters.{turnedLabel, half}
 use Rattle.g9932.proofs.Turns.{turnedBits, both-at, lone-at, turned-on, breaks-here}
 
 -- the sent bits of pairs, each label turned
 abbrev pub halfTurned : List Pair → List Bool → List Bool
-halfTurned = turnedBits oppositeLabel
+halfTurned = turnedBits (turnedLabel 2)
 
 -- the first pair of them
 module _ (p : Pair) (ps : List Pair) (d : List Bool) (fits : width p ≤ length d) where

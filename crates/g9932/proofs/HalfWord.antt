@@ -9,47 +9,28 @@ use lib.ListN.{length}
 use Rattle.g9932.specs.Bits.{_⊕_, bit}
 use Rattle.g9932.specs.Trellis.{Word, nextOf, implied, same, obeysCode, takenBits}
 use Rattle.g9932.specs.declared.TrellisState.{TrellisState}
-use Rattle.g9932.proofs.Coordinates.{oppositeLabel, length-opposite}
 use Rattle.g9932.proofs.Identities.{bits-agree, xor-false}
 use Rattle.g9932.proofs.OnePair.{forced-obeys, same-not}
-use Rattle.g9932.proofs.Turns.{Turn, both-u0, lone-u0, turned-parity}
+use Rattle.g9932.proofs.Quarters.{turnedLabel, lowest-turned, half}
+use Rattle.g9932.proofs.Turns.{both-u0, lone-u0, turned-parity}
 
 -- ---- bits
 
 not-both : (a b : Bool) → not a ⊕ not b ≡ a ⊕ b
 not-both = bits-agree 2 (λ a b. not a ⊕ not b) (λ a b. a ⊕ b) refl
 
-xor-not : (a b : Bool) → a ⊕ not b ≡ not (a ⊕ b)
+pub xor-not : (a b : Bool) → a ⊕ not b ≡ not (a ⊕ b)
 xor-not = bits-agree 2 (λ a b. a ⊕ not b) (λ a b. not (a ⊕ b)) refl
 
 not-xor : (a b : Bool) → not a ⊕ b ≡ not (a ⊕ b)
 not-xor = bits-agree 2 (λ a b. not a ⊕ b) (λ a b. not (a ⊕ b)) refl
 
-and-false : (a b : Bool) → a && false && b ≡ false
+pub and-false : (a b : Bool) → a && false && b ≡ false
 and-false = bits-agree 2 (λ a b. a && false && b) (λ a b. false) refl
 
 not-self : (b : Bool) → b ≡ not b → ⊥
 not-self true e = true≢false e
 not-self false e = false≢true e
-
--- ---- the turn
-
-pub half-lowest : (v : List Bool) → 2 ≤ length v → (bit (oppositeLabel v) 0 ≡ not (bit v 0)) × (bit (oppositeLabel v) 1 ≡ not (bit v 1))
-half-lowest [] h = absurd (omega arith)
-half-lowest (a ∷ []) h = absurd (omega arith)
-half-lowest (a ∷ b ∷ v) h = (refl, refl)
-
-abbrev pub half : Turn
-half =
-    record {
-      word = oppositeLabel;
-      low = λ v0 v1. (not v0, not v1);
-      flips = false;
-      sameLength = length-opposite;
-      lowest = half-lowest;
-      parity = bits-agree 2 (λ a b. not a ⊕ not b) (λ a b. a ⊕ b ⊕ false) refl;
-      moves = bits-agree 2 (λ a b. same (not a) a && same (not b) b) (λ a b. false) refl;
-    }
 
 -- ---- the word of a turned pair
 
@@ -64,10 +45,10 @@ pub record TurnedLone (u t : Word) : Type 0 where
   pub same1 : t .u1 ≡ u .u1
   pub other2 : t .u2 ≡ not (u .u2)
 
-pub both-turned : (v w : List Bool) → 2 ≤ length v → 2 ≤ length w → Turned (implied v w) (implied (oppositeLabel v) (oppositeLabel w))
+pub both-turned : (v w : List Bool) → 2 ≤ length v → 2 ≤ length w → Turned (implied v w) (implied (turnedLabel 2 v) (turnedLabel 2 w))
 both-turned v w h k =
-    let a = half-lowest v h in
-    let b = half-lowest w k in
+    let a = lowest-turned 2 v h in
+    let b = lowest-turned 2 w k in
     record {
       same0 = both-u0 half v w h k;
       same1 = turned-parity half v h ∙ xor-false (bit v 0 ⊕ bit v 1);
@@ -75,12 +56,12 @@ both-turned v w h k =
       other3 = a .0;
     }
 
-pub lone-turned : (w : List Bool) → 2 ≤ length w → TurnedLone (implied [] w) (implied [] (oppositeLabel w))
+pub lone-turned : (w : List Bool) → 2 ≤ length w → TurnedLone (implied [] w) (implied [] (turnedLabel 2 w))
 lone-turned w h =
     record {
       same0 = lone-u0 half w h ∙ xor-false (implied [] w .u0);
       same1 = refl;
-      other2 = ap (λ (c : Bool). false ⊕ c) (half-lowest w h .0) ∙ xor-not false (bit w 0);
+      other2 = ap (λ (c : Bool). false ⊕ c) (lowest-turned 2 w h .0) ∙ xor-not false (bit w 0);
     }
 
 -- ---- from the same state
