@@ -93,12 +93,17 @@ point-turned n b (x ∷ []) h l = absurd (omega arith)
 point-turned n b (x ∷ y ∷ v) h l = point-quarters n b (x ∷ y ∷ v) h l
 
 -- a 1-bit point has one after half a turn
-pub one-turned : (v : List Bool) → length v ≡ 1 → quarters 2 (pointOf 1 v) ≡ pointOf 1 (turnedLabel 2 v)
+one-turned : (v : List Bool) → length v ≡ 1 → quarters 2 (pointOf 1 v) ≡ pointOf 1 (turnedLabel 2 v)
 unfolding pointOf num weight
 one-turned [] h = absurd (omega arith)
 one-turned (true ∷ []) h = refl
 one-turned (false ∷ []) h = refl
 one-turned (a ∷ b ∷ v) h = absurd (omega arith)
+
+pub point-opposite : (b : ℕ) (v : List Bool) → 1 ≤ b → length v ≡ b → quarters 2 (pointOf b v) ≡ pointOf b (turnedLabel 2 v)
+point-opposite zero v h l = absurd (omega arith)
+point-opposite (suc zero) v h l = one-turned v l
+point-opposite (suc (suc b)) v h l = point-turned 2 (suc (suc b)) v (omega arith) l
 
 -- and none after a quarter, either way
 pub one-left : (v : List Bool) → length v ≡ 1 → labelOf 1 (quarters 1 (pointOf 1 v)) ≡ none

@@ -10,7 +10,7 @@ use borrow.Author.Tests.{eq-eqb, ne-eqb}
 use lib.IntN.{ℤ}
 use lib.ListN.{length, take, getD}
 use Rattle.g9932.specs.Clip.{clipBy, clipAgainst, fillerPoint, clipAt, clipOf, clipInputs, clipVerdict, ClipReport, clipReportBy, clipCheck, clipNumber}
-use Rattle.g9932.specs.Filler.{registerAfter}
+use Rattle.g9932.specs.Filler.{drawn, registerAfter}
 use Rattle.g9932.specs.Points.{negated, samePoint}
 use Rattle.g9932.specs.Refusals.{Verdict, andThen, roomTest, tableVerdict}
 use Rattle.g9932.specs.Sizes.{Tables, Point, origin, points}
@@ -24,7 +24,7 @@ use Rattle.g9932.proofs.Verdicts.{test-here, test-past, and-past, clip-told}
 use Rattle.guarantees.specs.Words.{AcceptedTables, ValidRegister, RightLength}
 use Rattle.guarantees.proofs.HalfTurn.{halfPoint}
 use Rattle.guarantees.proofs.Operations.{exact-lists, lists-fit}
-use Rattle.guarantees.proofs.TurnedSymbol.{filler-differs}
+use Rattle.guarantees.proofs.TurnedSymbol.{two-moves}
 
 -- ---- whatever the inputs
 
@@ -139,7 +139,7 @@ module _ (T : Tables) (q : List Point) (r : ℕ) where
 
     -- the opposite point is another one
     differs : samePoint (negated filler) filler ≡ false
-    differs = filler-differs halfPoint (registerAfter r (take k (classesOf T)))
+    differs = two-moves halfPoint (drawn 2 (registerAfter r (take k (classesOf T)))) refl
 
     pub straight : (clipOf T q r ≡ Straight) ↔ (getD q k origin ≡ filler)
     straight = (

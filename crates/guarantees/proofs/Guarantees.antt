@@ -1,5 +1,5 @@
 -- The promises over the definitions of document 01: demand 3, in full; of demand 2, how many bits go on the tones, and which go where;
--- what else is shown of the definitions; of request R-13, nearest reading, by itself and against exact reading; and of request R-10, the clip
+-- what else is shown of the definitions; request R-14, quarter turns, beside half a turn; of request R-13, nearest reading, by itself and against exact reading; and of request R-10, the clip
 -- check, by itself and against two readings. That the code gives what they say is the `ensures` of each operation. Each proof cites the
 -- part that shows it. The words are those of specs/Words.antt and of crate g9932. Request R-12, the pair report, has a page of its own:
 -- crates/tally/proofs/Theorems.antt.
@@ -17,10 +17,10 @@ use Rattle.g9932.specs.Sizes.{Tables, entry, bytesFor, pack, frameBits, unusedB
 use Rattle.g9932.specs.Refusals.{numberOf, accepted, refused, someOne, tableVerdict}
 use Rattle.g9932.specs.Order.{sum, count, filter, oneBit, bitsOf, entryCount, entries, pairCount}
 use Rattle.g9932.specs.Trellis.{Word, zeroState, lowBits, lowBitsOf, sentBits}
-use Rattle.g9932.specs.Points.{pointOf, negated}
+use Rattle.g9932.specs.Points.{pointOf, negated, quarters, lowQuarters}
 use Rattle.g9932.specs.Filler.{nextRegister, drawn, afterDraws, registerAfter}
 use Rattle.g9932.specs.Symbol.{reorderedTonesOf, reorderedBitsOf, classesOf, pairsIn, sizeOf, sentIn, writtenPoints, firstMonitored}
-use Rattle.g9932.specs.Answers.{reorderOf, encodeAt, Read, readAt, toneDone, mapLabel, readPoint, drawAnswer}
+use Rattle.g9932.specs.Answers.{reorderOf, encodeAt, Read, readAt, toneRefused, toneDone, mapLabel, readPoint, drawAnswer}
 use Rattle.g9932.specs.Aligned.{encodeOf, readOf}
 use Rattle.g9932.specs.Nearest.{frameTotal, NearestFrame, rangeTest, workBytes, nearestVerdict, nearestOf, totalIn, ReadsNearest}
 use Rattle.g9932.specs.Clip.{fillerPoint, clipOf, clipCheck, clipNumber}
@@ -36,9 +36,10 @@ use Rattle.g9932.proofs.Figures as Figures
 use Rattle.g9932.proofs.Packed as Packed
 use Rattle.g9932.proofs.Reordering as Reordering
 use Rattle.g9932.proofs.Verdicts as Verdicts
-use Rattle.guarantees.specs.Words.{Bytes, AcceptedTables, AcceptedFrame, ValidRegister, RightLength, Ready, nonZero, pairAt, wordsIn, stateAfter, labelsOf, lowest, lowestAt, oneBitTones, firstOfTwo, sharedEntry, table10-2, bitOne, zeroBitTones, fillerBit, turned, SameUnloaded, SameLoaded, WrittenSymbol, TurnedSymbol, fullWay}
+use Rattle.guarantees.specs.Words.{Bytes, AcceptedTables, AcceptedFrame, ValidRegister, RightLength, Ready, nonZero, pairAt, wordsIn, stateAfter, labelsOf, lowest, lowestAt, oneBitTones, firstOfTwo, sharedEntry, table10-2, bitOne, zeroBitTones, fillerBit, turned, firstOneBit, quarterVerdict, SameUnloaded, SameLoaded, WrittenSymbol, TurnedSymbol, fullWay}
 use Rattle.guarantees.proofs.ClipAnswers as ClipAnswers
 use Rattle.guarantees.proofs.ClipFullWay as ClipFullWay
+use Rattle.guarantees.proofs.ClipQuarter as ClipQuarter
 use Rattle.guarantees.proofs.Coded as Coded
 use Rattle.guarantees.proofs.EntryBits as EntryBits
 use Rattle.guarantees.proofs.HalfTurn as HalfTurn
@@ -48,6 +49,7 @@ use Rattle.guarantees.proofs.NearestFrames as NearestFrames
 use Rattle.guarantees.proofs.NearestTotals as NearestTotals
 use Rattle.guarantees.proofs.NearestVerdicts as NearestVerdicts
 use Rattle.guarantees.proofs.Operations as Operations
+use Rattle.guarantees.proofs.QuarterTurn as QuarterTurn
 use Rattle.guarantees.proofs.RoundTrip as RoundTrip
 use Rattle.guarantees.proofs.Totals as Totals
 
@@ -105,6 +107,51 @@ module _ (T : Tables) (r start : ℕ) (xs ys : List ℤ) (f₀ : List ℕ) (read
   pub half-turn-odd : T .mode ≡ Coded → (f : List ℕ) → AcceptedFrame T start f → firstMonitored T ≡ Nothing → nonZero T % 2 ≡ 1
       → turnedRead f .report .verdict ≡ refused 15 (cond (eqb (length (pairsIn T)) 3) 1 2)
   half-turn-odd = HalfTurn.half-turn-odd T r start xs ys f₀ ready
+
+  -- Where N is odd, it is never read, whatever is monitored: with no register s, from no start, into no buffer.
+  pub half-turn-any-register : T .mode ≡ Coded → (f : List ℕ) → AcceptedFrame T start f → nonZero T % 2 ≡ 1 → (s start′ : ℕ) (f′ : List ℕ)
+      → readAt T (turned (encodeAt T start f r xs ys .xs)) (turned (encodeAt T start f r xs ys .ys)) s start′ f′ .report .verdict .number ≢ 0
+  half-turn-any-register = HalfTurn.half-turn-any-register T r start xs ys f₀ ready
+
+  -- ---- quarter turns (request R-14)
+
+  -- Coded, a written symbol with every (X, Y) replaced by (−Y, X), a quarter to the left, or every one by (Y, −X), a quarter to the right:
+  abbrev leftRead : List ℕ → Read
+  leftRead f = readAt T (turned (encodeAt T start f r xs ys .ys)) (encodeAt T start f r xs ys .xs) r start f₀
+
+  abbrev rightRead : List ℕ → Read
+  rightRead f = readAt T (encodeAt T start f r xs ys .ys) (turned (encodeAt T start f r xs ys .xs)) r start f₀
+
+  -- it is always refused;
+  pub quarter-turn-refused : T .mode ≡ Coded → (f : List ℕ) → AcceptedFrame T start f
+      → (leftRead f .report .verdict .number ≢ 0) × (rightRead f .report .verdict .number ≢ 0)
+  quarter-turn-refused m f ok = QuarterTurn.quarter-any-register T r start xs ys f₀ ready m f ok r start f₀
+
+  -- the verdict is one, whatever the frame and the register (`quarter-refusals`), and register and buffer come back as they were.
+  pub quarter-turn : T .mode ≡ Coded → (f : List ℕ) → AcceptedFrame T start f
+      → (leftRead f ≡ record { report = record { verdict = quarterVerdict T; register = r }; frame = f₀ })
+      × (rightRead f ≡ record { report = record { verdict = quarterVerdict T; register = r }; frame = f₀ })
+  quarter-turn = QuarterTurn.quarter-turn T r start xs ys f₀ ready
+
+  -- Nor is it ever read with another register s, from another start, or into another buffer.
+  pub quarter-any-register : T .mode ≡ Coded → (f : List ℕ) → AcceptedFrame T start f → (s start′ : ℕ) (f′ : List ℕ)
+      → (readAt T (turned (encodeAt T start f r xs ys .ys)) (encodeAt T start f r xs ys .xs) s start′ f′ .report .verdict .number ≢ 0)
+      × (readAt T (encodeAt T start f r xs ys .ys) (turned (encodeAt T start f r xs ys .xs)) s start′ f′ .report .verdict .number ≢ 0)
+  quarter-any-register = QuarterTurn.quarter-any-register T r start xs ys f₀ ready
+
+-- That verdict is OFFGRID at the first 1-bit tone in t'; if there is none, MONITOR at the first monitored one; if there is neither, TRELLIS,
+-- at pair 0 where N is odd or 4, else at pair 1.
+pub quarter-refusals : (T : Tables)
+    → ((k : ℕ) → firstOneBit T ≡ At k → quarterVerdict T ≡ refused 13 k)
+    × (firstOneBit T ≡ Nothing → (k : ℕ) → firstMonitored T ≡ At k → quarterVerdict T ≡ refused 14 k)
+    × (firstOneBit T ≡ Nothing → firstMonitored T ≡ Nothing → (nonZero T % 2 ≡ 1) ⊎ (nonZero T ≡ 4) → quarterVerdict T ≡ refused 15 0)
+    × (firstOneBit T ≡ Nothing → firstMonitored T ≡ Nothing → nonZero T % 2 ≡ 0 → nonZero T ≢ 4 → quarterVerdict T ≡ refused 15 1)
+quarter-refusals = QuarterTurn.quarter-refusals
+
+-- Coded, any 1-bit tone that is present is found: 1-bit tones stand last in t'.
+pub first-one-bit : (T : Tables) → T .mode ≡ Coded
+    → (0 < oneBitTones T → firstOneBit T ≡ At (length (T .tones) - oneBitTones T)) × (oneBitTones T ≡ 0 → firstOneBit T ≡ Nothing)
+first-one-bit = QuarterTurn.first-one-bit
 
 -- ---- where a frame starts
 
@@ -300,13 +347,24 @@ pub low-bits : (b l : ℕ) (p : Point) → 2 ≤ b → mapLabel b l ≡ toneDone
     → (bitOne (p .px) ≡ bit (bits b l) 1) × (bitOne (p .py) ≡ bit (bits b l) 0)
 low-bits = Mapping.low-bits
 
--- The opposite point has a label: the other one for 1 bit, and from 2 bits on one with both lowest bits complemented.
+-- From 2 bits on a point turned by n quarters to the left has a label, and of that v0 and v1 are what n quarters make of them, v1 and the
+-- complement of v0 with each: so every quarter makes v0 xor v1 the other bit.
+pub turned-lowest : (n b l : ℕ) (p : Point) → 2 ≤ b → mapLabel b l ≡ toneDone p
+    → (m : ℕ) × (readPoint b (quarters n p) ≡ toneDone m)
+    × (bit (bits b m) 0 ≡ lowQuarters n (bit (bits b l) 0) (bit (bits b l) 1) .0) × (bit (bits b m) 1 ≡ lowQuarters n (bit (bits b l) 0) (bit (bits b l) 1) .1)
+turned-lowest = Mapping.turned-lowest
+
+-- Two quarters are half a turn, which gives the opposite point: both bits are complemented.
+pub opposite : (b l : ℕ) (p : Point) → 2 ≤ b → mapLabel b l ≡ toneDone p
+    → (m : ℕ) × (readPoint b (negated p) ≡ toneDone m) × (bit (bits b m) 0 ≡ not (bit (bits b l) 0)) × (bit (bits b m) 1 ≡ not (bit (bits b l) 1))
+opposite = Mapping.turned-lowest 2
+
+-- The opposite point of 1 bit has the other label; turned by a quarter, to the left or, by three, to the right, a point of 1 bit has none.
 pub opposite-one : (l : ℕ) (p : Point) → mapLabel 1 l ≡ toneDone p → readPoint 1 (negated p) ≡ toneDone (1 - l)
 opposite-one = Mapping.opposite-one
 
-pub opposite : (b l : ℕ) (p : Point) → 2 ≤ b → mapLabel b l ≡ toneDone p
-    → (m : ℕ) × (readPoint b (negated p) ≡ toneDone m) × (bit (bits b m) 0 ≡ not (bit (bits b l) 0)) × (bit (bits b m) 1 ≡ not (bit (bits b l) 1))
-opposite = Mapping.opposite
+pub quarter-one : (l : ℕ) (p : Point) → mapLabel 1 l ≡ toneDone p → (readPoint 1 (quarters 1 p) ≡ toneRefused 13) × (readPoint 1 (quarters 3 p) ≡ toneRefused 13)
+quarter-one = Mapping.quarter-one
 
 -- ---- filler bits
 
@@ -548,6 +606,12 @@ module _ (T : Tables) (ok : AcceptedTables T) (r : ℕ) (valid : ValidRegister r
 
   pub clip-of-turned : TurnedSymbol T r X Y → clipCheck T X Y r ≡ record { number = 0; place = 0; clip = some Turned; register = r }
   clip-of-turned = ClipFullWay.check-turned T ok r X Y k monitored valid
+
+  -- A written symbol turned by a quarter, to the left or to the right, is neither.
+  pub clip-of-quarter : WrittenSymbol T r X Y
+      → (clipCheck T (turned Y) X r ≡ record { number = 0; place = 0; clip = some Neither; register = r })
+      × (clipCheck T Y (turned X) r ≡ record { number = 0; place = 0; clip = some Neither; register = r })
+  clip-of-quarter = ClipQuarter.check-quarter T r k ok valid monitored X Y
 
 -- Whatever the tables, the points and the register, `clipOf` is straight exactly when the point of the first monitored tone, at place k in
 -- t', is the one its filler bits give, turned exactly when it is the opposite one, and neither exactly when it is any other (a list that is too

@@ -26,21 +26,19 @@ use Rattle.g9932.specs.declared.Mode.{Mode}
 use Rattle.g9932.specs.declared.Mode.the-variants.{Coded}
 use Rattle.g9932.specs.declared.Refusal.the-variants.{Monitor}
 use Rattle.g9932.proofs.Accepted.{Accepted, AcceptedCoded, accepted-tables}
-use Rattle.g9932.proofs.Constellations.{point-opposite}
 use Rattle.g9932.proofs.Formed.{Formed}
 use Rattle.g9932.proofs.HalfPairs.{halfTurned, turned-even, turned-odd}
-use Rattle.g9932.proofs.HalfWord.{half}
 use Rattle.g9932.proofs.Packed.{start-most}
-use Rattle.g9932.proofs.Reordering.{nonzero-entries}
+use Rattle.g9932.proofs.Quarters.{half, point-opposite}
 use Rattle.g9932.proofs.Search.{first-no, first-all}
 use Rattle.g9932.proofs.Sent.{length-classes, loads-sum, length-taken, sentOf-read}
 use Rattle.g9932.proofs.Symbols.{length-gather}
 use Rattle.g9932.proofs.TurnedTones.{half-ones}
 use Rattle.g9932.proofs.Verdicts.{found-here, found-past, and-refused, and-accepted}
 use Rattle.guarantees.specs.Words.{AcceptedFrame, RightLength, Ready, nonZero, turned}
-use Rattle.guarantees.proofs.Operations.{Passes, done, reading, reading-done}
+use Rattle.guarantees.proofs.Operations.{Passes, not-broken, done, reading-done, read-points}
 use Rattle.guarantees.proofs.RoundTrip.{length-written, packed-frame, packed-bits, X-of, Y-of, encoded-xs, encoded-ys, encoded-right}
-use Rattle.guarantees.proofs.TurnedSymbol.{AllLoaded, loaded-classes, PointTurn, leaves, off-13, at-14, turned-reading}
+use Rattle.guarantees.proofs.TurnedSymbol.{AllLoaded, loaded-classes, PointTurn, leaves, firstLeaving, formed-as, taken-bits, off-13, at-14, verdict-turned, turned-reading, verdict-read}
 
 pub points-turned : (q : List Point) → points (turned (map (λ p. p .px) q)) (turned (map (λ p. p .py) q)) ≡ map negated q
 unfolding points
@@ -70,9 +68,6 @@ none-leaves (c ∷ cs) h (suc k) l = none-leaves cs (h .1) k (omega arith)
 -- ---- the turned points of accepted tables in coded mode
 
 module _ (T : Tables) (a : Accepted T) (m : T .mode ≡ Coded) (r start : ℕ) (f : List ℕ) (ok : AcceptedFrame T start f) where
-  c : AcceptedCoded T
-  c = a .coded m
-
   abbrev q : List Point
   q = map negated (writtenPoints T r start f)
 
@@ -85,35 +80,21 @@ module _ (T : Tables) (a : Accepted T) (m : T .mode ≡ Coded) (r start : ℕ) (
   pub no-13 : (k : ℕ) → k < length (classesOf T) → offgridTest (classesOf T) q k ≡ false
   no-13 k h = off-13 halfPoint T a m r start f ok k h ∙ none k h
 
-  is-14 : first (monitorTest r (classesOf T) q) (length (classesOf T)) ≡ firstMonitored T
-  is-14 = ap (first (monitorTest r (classesOf T) q)) (length-classes T) ∙ at-14 halfPoint T a m r start f ok
-
   half-reading : readingIn T q ≡ readPairs zeroState (pairsIn T) (halfTurned (pairsIn T) (encodePairs zeroState (pairsIn T) g))
   half-reading =
       let n : ℕ = ones (T .bits) (T .tones) in
-      let even : n % 2 ≡ 0 = c .onesEven in
+      let even : n % 2 ≡ 0 = a .coded m .onesEven in
       turned-reading halfPoint T a m r start f ok none (λ d l. half-ones (n / 2) n d (omega arith) l)
-
-  taken-bits : length g ≡ takenTotal (pairsIn T)
-  taken-bits = length-taken T a m start f (ok .passes)
-
-  parity : nonZero T ≡ length (entries (T .bits) (T .tones))
-  parity = ap (λ (n : Mode). count (ltb 0) (reorderedBits n (T .bits) (T .tones))) m ∙ nonzero-entries (T .bits) (T .tones)
-
-  formed-as : (o : Bool) → isOne (length (entries (T .bits) (T .tones)) % 2) ≡ o → Formed o (pairsIn T)
-  formed-as o e = rw e at (c .formed)
 
   -- whatever is monitored: N odd breaks the code, and N even gives the bits of another frame
   pub reading-odd : nonZero T % 2 ≡ 1 → readingIn T q ≡ breaks (cond (eqb (length (pairsIn T)) 3) 1 2)
-  reading-odd n =
-      let o = formed-as true (eq-eqb (length (entries (T .bits) (T .tones)) % 2) 1 (rw (← parity) n)) in
-      half-reading ∙ turned-odd (pairsIn T) g o taken-bits
+  reading-odd n = half-reading ∙ turned-odd (pairsIn T) g (formed-as T a m true (eq-eqb (nonZero T % 2) 1 n)) (taken-bits T a m start f ok)
 
   pub reading-even : nonZero T % 2 ≡ 0 → (h : List Bool) × (readingIn T q ≡ frame h) × (length h ≡ sizeOf T) × (h ≢ g)
   unfolding readingIn
   reading-even n =
-      let o = formed-as false (ne-eqb (length (entries (T .bits) (T .tones)) % 2) 1 (λ h. omega (arith, parity))) in
-      let t = turned-even (pairsIn T) g o taken-bits in
+      let o = formed-as T a m false (ne-eqb (nonZero T % 2) 1 (λ h. omega arith)) in
+      let t = turned-even (pairsIn T) g o (taken-bits T a m start f ok) in
       let is : readingIn T q ≡ frame (t .0) = half-reading ∙ t .1 in
       let lq : length q ≡ length (classesOf T) = length-map (writtenPoints T r start f) negated ∙ length-written T a r start f ∙ sym (length-classes T) in
       let lg = length-gather (classesOf T) q lq no-13 ∙ loads-sum T in
@@ -121,17 +102,14 @@ module _ (T : Tables) (a : Accepted T) (m : T .mode ≡ Coded) (r start : ℕ) (
 
   -- ---- the verdict on them
 
-  past-13 : first (offgridTest (classesOf T) q) (length (classesOf T)) ≡ Nothing
-  past-13 = first-all (offgridTest (classesOf T) q) (length (classesOf T)) no-13
+  stays : firstLeaving halfPoint T ≡ Nothing
+  stays = first-all _ (length (T .tones)) (λ k h. none k (rw (length-classes T) h))
 
   pub points-monitored : (k : ℕ) → firstMonitored T ≡ At k → refused 14 k ≡ pointsVerdict T q r
-  unfolding pointsVerdict
-  points-monitored k e = and-refused (Monitor (record { 0 = k })) _ (found-past 13 past-13 (found-here 14 _ (is-14 ∙ e)))
+  points-monitored k e = found-past 13 stays (found-here 14 _ e) ∙ sym (verdict-turned halfPoint T a m r start f ok)
 
   pub points-odd : firstMonitored T ≡ Nothing → nonZero T % 2 ≡ 1 → refused 15 (cond (eqb (length (pairsIn T)) 3) 1 2) ≡ pointsVerdict T q r
-  unfolding pointsVerdict
-  points-odd e n =
-      and-accepted 0 (found-past 13 past-13 (found-past 14 (is-14 ∙ e) refl)) (found-here 15 _ (ap breakIn (reading-odd n)))
+  points-odd e n = found-past 13 stays (found-past 14 e (found-here 15 _ (ap breakIn (reading-odd n)))) ∙ sym (verdict-turned halfPoint T a m r start f ok)
 
   pub points-even : firstMonitored T ≡ Nothing → nonZero T % 2 ≡ 0
       → Passes T q r × (h : List Bool) × (readingIn T q ≡ frame h) × (length h ≡ sizeOf T) × (h ≢ g)
@@ -139,7 +117,7 @@ module _ (T : Tables) (a : Accepted T) (m : T .mode ≡ Coded) (r start : ℕ) (
       let t = reading-even n in (
         record {
           on = no-13;
-          filled = first-no (monitorTest r (classesOf T) q) (length (classesOf T)) (is-14 ∙ e);
+          filled = first-no (monitorTest r (classesOf T) q) (length (classesOf T)) (at-14 halfPoint T a m r start f ok ∙ e);
         },
         t .0,
         t .1,
@@ -178,8 +156,12 @@ module _ (T : Tables) (r start : ℕ) (xs ys : List ℤ) (f₀ : List ℕ) (read
     are-points = rw (encoded-xs T r start xs ys f₀ ready f ok, encoded-ys T r start xs ys f₀ ready f ok) (points-turned (writtenPoints T r start f))
 
     verdict-is : turnedRead f .report .verdict ≡ pointsVerdict T (map negated (writtenPoints T r start f)) r
-    unfolding reportBy
-    verdict-is = ap (λ (a : Read). a .report .verdict) (reading T r start xs ys f₀ ready small X′ Y′ right) ∙ ap (λ (q : List Point). pointsVerdict T q r) are-points
+    verdict-is = verdict-read halfPoint T r start xs ys f₀ ready f ok X′ Y′ right are-points
+
+    -- where N is odd no register reads it, from whatever start and into whatever buffer
+    pub half-turn-any-register : nonZero T % 2 ≡ 1 → (s start′ : ℕ) (f′ : List ℕ) → readAt T X′ Y′ s start′ f′ .report .verdict .number ≢ 0
+    half-turn-any-register n s start′ f′ h =
+        not-broken (sym (read-points T X′ Y′ s start′ f′ h .2) ∙ ap (readingIn T) are-points ∙ reading-odd T facts m r start f ok n)
 
     pub half-turn-monitored : (k : ℕ) → firstMonitored T ≡ At k → turnedRead f .report .verdict ≡ refused 14 k
     half-turn-monitored k e = verdict-is ∙ sym (points-monitored T facts m r start f ok k e)

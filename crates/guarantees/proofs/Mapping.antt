@@ -1,4 +1,4 @@
--- The one-tone calls: mapping and reading undo one another, the second bits of the coordinates, and the opposite point.
+-- The one-tone calls: mapping and reading undo one another, the second bits of the coordinates, and points turned by quarters.
 use Prim.Native.Nat.{ℕ, zero, suc, _+_, _-_, _*_, _/_, _^_, _≤_, _<_}
 use mathlib.Core.Bool.{Bool, true, false, not, cond}
 use mathlib.Core.List.{List, [], _∷_, map}
@@ -13,13 +13,13 @@ use lib.ListN.{length, drop}
 use Rattle.g9932.specs.Bits.{bit, weight, num, odd, bits}
 use Rattle.g9932.specs.Sizes.{Point}
 use Rattle.g9932.specs.Refusals.{bitCountTest, labelTest}
-use Rattle.g9932.specs.Points.{signBit, twosComplement, pointOf, labelOf, negated}
+use Rattle.g9932.specs.Points.{signBit, twosComplement, pointOf, labelOf, negated, quarters, lowQuarters}
 use Rattle.g9932.specs.Answers.{OneTone, toneRefused, toneDone, mapLabel, labelFound, readPoint}
-use Rattle.g9932.proofs.Constellations.{axesPoint, point-coords, point-opposite}
-use Rattle.g9932.proofs.Coordinates.{coords, oppositeLabel, length-opposite, coords-low}
-use Rattle.g9932.proofs.HalfWord.{half-lowest}
+use Rattle.g9932.proofs.Constellations.{axesPoint, point-coords}
+use Rattle.g9932.proofs.Coordinates.{coords, coords-low}
 use Rattle.g9932.proofs.Identities.{or-false}
 use Rattle.g9932.proofs.Labels.{point-label, label-point}
+use Rattle.g9932.proofs.Quarters.{turnedLabel, length-turned, point-turned, point-opposite, one-left, one-right, lowest-turned}
 use Rattle.g9932.proofs.TwosComplement.{num-not}
 use Rattle.g9932.proofs.Words.{odd-weight, half-weight, num-bits, bits-num, length-bits, num-lt}
 use Rattle.guarantees.specs.Words.{bitOne}
@@ -132,28 +132,43 @@ low-bits b l p h e =
     let s = point-second b (bits b l) (length-bits b l) h in
     rw (← (m .is)) s
 
--- ---- the opposite point
+-- ---- points turned by quarters
 
--- it is read as the opposite label
-read-opposite : (b l : ℕ) (p : Point) → 1 ≤ b → mapLabel b l ≡ toneDone p → readPoint b (negated p) ≡ toneDone (num (oppositeLabel (bits b l)))
-read-opposite b l p h e =
+-- from 2 bits on they are read as the turned label,
+read-turned : (n b l : ℕ) (p : Point) → 2 ≤ b → mapLabel b l ≡ toneDone p → readPoint b (quarters n p) ≡ toneDone (num (turnedLabel n (bits b l)))
+read-turned n b l p h e =
     let m = maps b l p e in
-    read-as b (oppositeLabel (bits b l)) (negated p) (m .counted) (length-opposite (bits b l) ∙ length-bits b l)
-    (sym (point-opposite b (bits b l) h (length-bits b l)) ∙ ap negated (m .is))
+    read-as b (turnedLabel n (bits b l)) (quarters n p) (m .counted) (length-turned n (bits b l) ∙ length-bits b l)
+    (sym (point-turned n b (bits b l) h (length-bits b l)) ∙ ap (quarters n) (m .is))
 
-one-opposite : (l : ℕ) → l < 2 → num (oppositeLabel (bits 1 l)) ≡ 1 - l
+pub turned-lowest : (n b l : ℕ) (p : Point) → 2 ≤ b → mapLabel b l ≡ toneDone p
+    → (m : ℕ) × (readPoint b (quarters n p) ≡ toneDone m)
+    × (bit (bits b m) 0 ≡ lowQuarters n (bit (bits b l) 0) (bit (bits b l) 1) .0) × (bit (bits b m) 1 ≡ lowQuarters n (bit (bits b l) 0) (bit (bits b l) 1) .1)
+turned-lowest n b l p h e =
+    let v : List Bool = bits b l in
+    let w : bits b (num (turnedLabel n v)) ≡ turnedLabel n v = number-bits b (num (turnedLabel n v)) (turnedLabel n v) (length-turned n v ∙ length-bits b l) refl in
+    let t = lowest-turned n v (rw (length-bits b l) h) in
+    (num (turnedLabel n v), read-turned n b l p h e, ap (λ (z : List Bool). bit z 0) w ∙ t .0, ap (λ (z : List Bool). bit z 1) w ∙ t .1)
+
+-- and a 1-bit point as the other label after half a turn,
+one-opposite : (l : ℕ) → l < 2 → num (turnedLabel 2 (bits 1 l)) ≡ 1 - l
 unfolding num weight bits odd
 one-opposite zero h = refl
 one-opposite (suc zero) h = refl
 one-opposite (suc (suc l)) h = absurd (omega arith)
 
 pub opposite-one : (l : ℕ) (p : Point) → mapLabel 1 l ≡ toneDone p → readPoint 1 (negated p) ≡ toneDone (1 - l)
-opposite-one l p e = read-opposite 1 l p (omega arith) e ∙ ap toneDone (one-opposite l (maps 1 l p e .below))
+opposite-one l p e =
+    let m = maps 1 l p e in
+    read-as 1 (turnedLabel 2 (bits 1 l)) (negated p) (m .counted) (length-turned 2 (bits 1 l) ∙ length-bits 1 l)
+    (sym (point-opposite 1 (bits 1 l) (omega arith) (length-bits 1 l)) ∙ ap negated (m .is))
+    ∙ ap toneDone (one-opposite l (m .below))
 
-pub opposite : (b l : ℕ) (p : Point) → 2 ≤ b → mapLabel b l ≡ toneDone p
-    → (m : ℕ) × (readPoint b (negated p) ≡ toneDone m) × (bit (bits b m) 0 ≡ not (bit (bits b l) 0)) × (bit (bits b m) 1 ≡ not (bit (bits b l) 1))
-opposite b l p h e =
-    let v : List Bool = bits b l in
-    let w : bits b (num (oppositeLabel v)) ≡ oppositeLabel v = number-bits b (num (oppositeLabel v)) (oppositeLabel v) (length-opposite v ∙ length-bits b l) refl in
-    let t = half-lowest v (rw (length-bits b l) h) in
-    (num (oppositeLabel v), read-opposite b l p (omega arith) e, ap (λ (z : List Bool). bit z 0) w ∙ t .0, ap (λ (z : List Bool). bit z 1) w ∙ t .1)
+-- and as none after a quarter, either way
+off-one : (n l : ℕ) (p : Point) → ((v : List Bool) → length v ≡ 1 → labelOf 1 (quarters n (pointOf 1 v)) ≡ none) → mapLabel 1 l ≡ toneDone p
+    → readPoint 1 (quarters n p) ≡ toneRefused 13
+unfolding readPoint
+off-one n l p law e = let m = maps 1 l p e in rw (← (m .is), law (bits 1 l) (length-bits 1 l))
+
+pub quarter-one : (l : ℕ) (p : Point) → mapLabel 1 l ≡ toneDone p → (readPoint 1 (quarters 1 p) ≡ toneRefused 13) × (readPoint 1 (quarters 3 p) ≡ toneRefused 13)
+quarter-one l p e = (off-one 1 l p one-left e, off-one 3 l p one-right e)

@@ -10,7 +10,7 @@ use lib.IntN.{ℤ}
 use lib.ListN.{length, getD, length-map}
 use Rattle.g9932.specs.Sizes.{Tables, pack, frameBits, Point, origin, points}
 use Rattle.g9932.specs.Refusals.{frameTest}
-use Rattle.g9932.specs.Trellis.{frame, breaks, readingOf}
+use Rattle.g9932.specs.Trellis.{frame, readingOf}
 use Rattle.g9932.specs.Points.{negated}
 use Rattle.g9932.specs.Symbol.{classesOf, pairsIn, sizeOf, firstMonitored, writePoints, sentIn, writtenPoints, gatherBits, readingIn}
 use Rattle.g9932.specs.Answers.{encodeAt, Read, readAt}
@@ -25,6 +25,7 @@ use Rattle.g9932.proofs.Sent.{length-classes, loads-sum, length-sentOf, read-se
 use Rattle.g9932.proofs.Symbols.{loads, OnGrid, gather-write, length-gather}
 use Rattle.guarantees.specs.Words.{AcceptedFrame, RightLength, Ready, nonZero, turned, SameUnloaded}
 use Rattle.guarantees.proofs.HalfTurn.{no-13, reading-odd, reading-even, turnedRead, are-points, half-turn-only, half-turn-even}
+use Rattle.guarantees.proofs.Operations.{not-broken}
 use Rattle.guarantees.proofs.RoundTrip.{packed-frame, packed-points, length-written, X-of, Y-of, encoded-xs, encoded-ys, answered, exactly}
 
 -- ---- totals
@@ -40,9 +41,6 @@ module _ {T : Tables} {q : List Point} {r start : ℕ} {f : List ℕ} {n : ℕ} 
 
 bits-of : {g h : List Bool} → frame g ≡ frame h → g ≡ h
 bits-of e = cc
-
-not-both : {g : List Bool} {k : ℕ} → frame g ≡ breaks k → ⊥
-not-both e = let z : _≡_ {A = ℕ} 0 1 = cc in omega arith
 
 module _ (T : Tables) (a : Accepted T) (r start : ℕ) (q : List Point) (long : length q ≡ length (T .tones)) where
   -- the bits of a frame at total 0 are what the points are read as, 13 and 14 apart
@@ -182,7 +180,7 @@ module _ (T : Tables) (a : Accepted T) (m : T .mode ≡ Coded) (r start : ℕ) (
       where
         go : (o : ℕ) → nonZero T % 2 ≡ o → nonZero T % 2 ≡ 0
         go zero e = e
-        go (suc o) e = absurd (not-both (sym (zero-half z) ∙ reading-odd T a m r start g ok (omega arith)))
+        go (suc o) e = absurd (not-broken (sym (zero-half z) ∙ reading-odd T a m r start g ok (omega arith)))
 
     half-other : n ≡ 0 → f ≢ g
     half-other z same =

@@ -1,23 +1,24 @@
--- The words that the guarantees are stated with: document 01, "The words of demand 3", those of the sent bits, those of received points, and
--- those of the clip check.
-use Prim.Native.Nat.{ℕ, zero, suc, _+_, _*_, _-_, _/_, _<_}
-use mathlib.Core.Bool.{Bool, true, false, not}
+-- The words that the guarantees are stated with: document 01, "The words of demand 3", those of a quarter turn, those of the sent bits, those
+-- of received points, and those of the clip check.
+use Prim.Native.Nat.{ℕ, zero, suc, _+_, _*_, _-_, _/_, _%_, _<_}
+use mathlib.Core.Bool.{Bool, true, false, not, _||_, cond}
 use mathlib.Core.List.{List, [], _∷_, _++_, map}
 use mathlib.Core.Path.{_≡_}
 use lib.Dec.{ltb, eqb}
 use lib.IntN.{ℤ, pos, negsuc, negℤ}
 use lib.ListN.{length, take, drop, getD}
-use Rattle.g9932.specs.Bits.{bit, odd}
+use Rattle.g9932.specs.Bits.{bit, odd, first}
 use Rattle.g9932.specs.Sizes.{Tables, entry, bytesFor, frameBits, Point, origin}
-use Rattle.g9932.specs.Refusals.{tableVerdict, frameTest, seedTest}
-use Rattle.g9932.specs.Order.{Pair, pair, count, ones}
+use Rattle.g9932.specs.Refusals.{Verdict, refused, refuseAt, tableVerdict, frameTest, seedTest}
+use Rattle.g9932.specs.Order.{Pair, pair, count, isOne, oneBit, ones}
 use Rattle.g9932.specs.Trellis.{Word, zeroState, lastTwo, taken, lowBitsOf, nextOf, wordAt}
 use Rattle.g9932.specs.Filler.{resetRegister, drawn}
-use Rattle.g9932.specs.Symbol.{reorderedBitsOf, classesOf, load, pairsIn, sizeOf, writtenPoints}
+use Rattle.g9932.specs.Symbol.{reorderedTonesOf, reorderedBitsOf, classesOf, firstMonitored, load, pairsIn, sizeOf, writtenPoints}
 use Rattle.g9932.specs.Answers.{readAt}
 use Rattle.g9932.specs.declared.Class.the-variants.{Silent}
 use Rattle.g9932.specs.declared.Clip.{Clip}
 use Rattle.g9932.specs.declared.Clip.the-variants.{Straight, Turned, Neither, CannotTell}
+use Rattle.g9932.specs.declared.Found.{Found}
 use Rattle.g9932.specs.declared.TrellisState.{TrellisState}
 
 -- Tables are accepted in a mode when none of 1 to 8 applies, a frame of bytes, from its start, when 11 doesn't. A register is valid
@@ -51,6 +52,28 @@ nonZero T = count (ltb 0) (reorderedBitsOf T)
 -- Half a turn puts (−X, −Y) for (X, Y) at every place in t', whatever the tone's class: on each of the two lists.
 abbrev pub turned : List ℤ → List ℤ
 turned xs = map negℤ xs
+
+-- ---- a quarter turn (request R-14)
+
+-- A quarter turn puts (−Y, X) for (X, Y) at every place in t', to the left, or (Y, −X), to the right: the lists are exchanged, and one of
+-- them is `turned`.
+
+-- the first 1-bit tone, in t' order
+abbrev pub firstOneBit : Tables → Found
+firstOneBit T = first (λ k. oneBit (T .bits) (entry (reorderedTonesOf T) k)) (length (T .tones))
+
+-- the pair that breaks the code: pair 0 where N is odd, by its u0, or where N is 4, so that it is one of the last two, by its u1; else
+-- pair 1, by its u0
+abbrev pub quarterPair : Tables → ℕ
+quarterPair T = cond (isOne (nonZero T % 2) || eqb (nonZero T) 4) 0 1
+
+-- The verdict on a written symbol that is turned by a quarter, either way, in coded mode: OFFGRID at the first 1-bit tone; if there is none,
+-- MONITOR at the first monitored one; if there is neither, TRELLIS.
+abbrev pub quarterVerdict : Tables → Verdict
+quarterVerdict T =
+    refuseAt 13 (firstOneBit T)
+    (refuseAt 14 (firstMonitored T)
+    (refused 15 (quarterPair T)))
 
 -- ---- coded: the pairs, their words u, and where their bits go
 
