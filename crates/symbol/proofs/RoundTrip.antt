@@ -1,9 +1,10 @@
 -- What a user sees of an operation that encodes and one that reads, by their promises alone. The theorems are marked `pub`:
--- `encode-done`, `read-exactly`, `read-back`, `turned-read` with `turned-monitored` and `turned-odd`, and `same-lists`.
+-- `encode-done`, `read-exactly`, `read-back`, `turned-read` with `turned-monitored` and `turned-odd`, `quarter-refused`, and
+-- `same-lists`.
 use Prim.Native.Nat.{ℕ, _%_, _<_}
 use mathlib.Core.Bool.{false, cond, true≢false}
 use mathlib.Core.List.{List, map}
-use mathlib.Core.Logic.{_↔_, _≢_}
+use mathlib.Core.Logic.{_↔_, _≢_, _⊎_, inl, inr}
 use mathlib.Core.Path.{_≡_, refl, sym, ap, ap₂, _∙_, subst}
 use lib.Dec.{eqb}
 use lib.IntN.{ℤ}
@@ -20,7 +21,7 @@ use Rattle.g9932.specs.declared.Mode.the-variants.{Coded}
 use Rattle.g9932.specs.declared.Refusal.{Refusal}
 use Rattle.g9932.proofs.Packed.{frame-length}
 use Rattle.g9932.proofs.Verdicts.{number-some, test-none, and-none}
-use Rattle.guarantees.specs.Words.{AcceptedFrame, RightLength, Ready, nonZero, turned}
+use Rattle.guarantees.specs.Words.{AcceptedFrame, RightLength, Ready, nonZero, turned, quarterVerdict}
 use Rattle.guarantees.proofs.Guarantees as Guarantees
 use Rattle.guarantees.proofs.HalfTurn as HalfTurn
 use Rattle.symbol.proofs.Answers.{no-room}
@@ -122,6 +123,11 @@ module _ (T : Tables) (start : ℕ) (f : List ℕ) (r : ℕ) (xs ys : List ℤ) 
     pub read-back : Reads T X Y r start f₀ a g → (a ≡ Done l s) × (g ≡ f)
     read-back h = let w = if T r start xs ys f₀ ready X Y a g h f (Done l s) ok e in (w .0 ∙ sym answer-is, w .1)
 
+    quarter-answer : (A B : List ℤ) → Reads T A B r start f₀ a g
+        → readAt T A B r start f₀ ≡ record { report = record { verdict = quarterVerdict T; register = r }; frame = f₀ }
+        → (reportOf a ≡ record { verdict = quarterVerdict T; register = r }) × (g ≡ f₀)
+    quarter-answer A B h is = (h .answer ∙ ap (λ (x : Read). x .report) is, h .frameHolds ∙ ap (λ (x : Read). x .frame) is)
+
     -- Coded, of the lists turned by half a turn:
     module _ (coded : T .mode ≡ Coded) (h : Reads T (turned X) (turned Y) r start f₀ a g) where
       here : Reads T (turned (encodeAt T start f r xs ys .xs)) (turned (encodeAt T start f r xs ys .ys)) r start f₀ a g
@@ -174,6 +180,13 @@ module _ (T : Tables) (start : ℕ) (f : List ℕ) (r : ℕ) (xs ys : List ℤ) 
           → (reportOf a ≡ record { verdict = refused 15 (cond (eqb (length (pairsIn T)) 3) 1 2); register = r }) × (g ≡ f₀)
       turned-odd m n =
           as-refused 15 (cond (eqb (length (pairsIn T)) 3) 1 2) refl (Guarantees.half-turn-odd T r start xs ys f₀ ready coded f ok m n)
+
+    -- Coded, of the lists turned by a quarter, to the left or to the right, it is always refused, with the register and the buffer as they
+    -- came: OFFGRID at the first 1-bit tone, or else MONITOR at the first monitored one, or else TRELLIS at pair 0 or 1.
+    pub quarter-refused : T .mode ≡ Coded → Reads T (turned Y) X r start f₀ a g ⊎ Reads T Y (turned X) r start f₀ a g
+        → (reportOf a ≡ record { verdict = quarterVerdict T; register = r }) × (g ≡ f₀)
+    quarter-refused coded (inl h) = quarter-answer (turned Y) X h (rw (e .xsHold, e .ysHold) (Guarantees.quarter-turn T r start xs ys f₀ ready coded f ok .0))
+    quarter-refused coded (inr h) = quarter-answer Y (turned X) h (rw (e .xsHold, e .ysHold) (Guarantees.quarter-turn T r start xs ys f₀ ready coded f ok .1))
 
 -- Two accepted frames encoded with the same tables, register and start, in any lent lists, give the same X and Y exactly when they are
 -- the same frame.
