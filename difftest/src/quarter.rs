@@ -67,6 +67,8 @@ impl Comparison<'_> {
         }
         Ok(())
     }
+
+    /// Any frame from any start, with any valid register.
     fn written<'a>(
         &mut self,
         random: &mut Random,
@@ -92,6 +94,7 @@ impl Comparison<'_> {
         })
     }
 
+    /// Points of the symbol's tables, read from this register to the symbol's start.
     fn reading(
         &self,
         random: &mut Random,
