@@ -137,22 +137,33 @@
  * monitored and the count is even, the turned symbol is read as another frame, and no refusal tells.
  * Nearest reading never refuses it: it compares no monitored point.
  *
+ * QUARTER TURNS
+ *
+ * If a hybrid turns the points by a quarter, every (X, Y) arrives as (-Y, X), or every one as (Y, -X).
+ * Coded, reading without noise always refuses such a symbol: with 13 at the first 1-bit tone in t'; if
+ * there is none, with 14 at the first monitored tone; if there is neither, with 15, at pair 0 if the
+ * count of non-zero entries in b' is odd or is 4, else at pair 1. With another register than the
+ * writer's it is refused too, by one of the three. Uncoded, 13 and 14 tell it in the same way; with
+ * neither such tone it is read, as another frame if L is above 0. Nearest reading never refuses it.
+ *
  * IS THE CLIP THE WRONG WAY ROUND?
  *
  * clevisroot_clip_check asks the first monitored tone in t', and looks at no other point. Its clip is
  *
  *   1  straight    the tone's point is the one that its filler bits give
  *   2  turned      it is the opposite point
- *   3  neither     it is another one: noise, another register, or no symbol of these tables
+ *   3  neither     it is another one: a quarter turn, noise, another register, or no symbol of these
+ *                  tables
  *   4  can't tell  no tone is monitored
  *
  * and 0 where the call is refused. If some tone is monitored, and the points are a symbol written with
  * these tables and this register, or one turned by half a turn, it answers what two readings would:
  * straight exactly when the points are read as they are, turned exactly when they are read with all
- * signs changed. It rests on that one tone, on the tables and on the register: with another register
- * than the writer's the tone looks straight about one time in four, and turned about one time in four.
- * Straight does not say that the symbol will be read, for all other points may be anything. After the
- * checks of the tables it goes over bits and gains once, and along t at most once, as far as that tone.
+ * signs changed. Of such a symbol turned by a quarter it answers neither. It rests on that one tone, on
+ * the tables and on the register: with another register than the writer's the tone looks straight about
+ * one time in four, and turned about one time in four. Straight does not say that the symbol will be
+ * read, for all other points may be anything. After the checks of the tables it goes over bits and gains
+ * once, and along t at most once, as far as that tone.
  */
 #ifndef CLEVISROOT_H
 #define CLEVISROOT_H

@@ -2,6 +2,7 @@
 
 use crate::clips::Clips;
 use crate::decisions::Decisions;
+use crate::quarters::Quarters;
 use crate::starts::{Causes, Starts};
 use crate::tallied::Tallied;
 use clevisroot_sys::refusals::*;
@@ -100,6 +101,7 @@ pub struct Coverage {
     pub refused: Causes,
     pub decisions: Decisions,
     pub clips: Clips,
+    pub quarters: Quarters,
     pub tallied: Tallied,
 }
 
@@ -128,7 +130,7 @@ impl Coverage {
 
     /// Every number an operation can give turned up, and no other, and so did every outcome for a
     /// monitored tone behind a silent one, every start, every cause to refuse a frame, and every
-    /// outcome of nearest reading, of the clip check and of tallies.
+    /// outcome of nearest reading, of the clip check, of quarter turns and of tallies.
     pub fn verdict(&self) -> Result<(), String> {
         for operation in OPERATIONS {
             for (number, &count) in (DONE..).zip(&self.counts[operation as usize]) {
@@ -157,6 +159,7 @@ impl Coverage {
         self.refused.verdict()?;
         self.decisions.verdict()?;
         self.clips.verdict()?;
+        self.quarters.verdict()?;
         self.tallied.verdict()
     }
 }
@@ -192,6 +195,7 @@ impl fmt::Display for Coverage {
         write!(f, "\nframes refused for their {}", self.refused)?;
         write!(f, "\nnearest reading: {}", self.decisions)?;
         write!(f, "\nthe clip check: {}", self.clips)?;
+        write!(f, "\nquarter turns: {}", self.quarters)?;
         write!(f, "\ntallies: {}", self.tallied)
     }
 }

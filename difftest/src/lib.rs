@@ -2,7 +2,8 @@
 //!
 //! [`run::random_cases`] and [`exhaustive`] compare number, place, size, register and the whole of
 //! every lent buffer, on success and on refusal; of nearest reading what the rules fix ([`nearest`]). The
-//! clip check is held to the implementation's own readings, too ([`clip`]).
+//! clip check is held to the implementation's own readings, too ([`clip`]), and a symbol turned by a
+//! quarter to the refusal that its tables give ([`quarter`]).
 
 pub mod clip;
 pub mod clips;
@@ -16,6 +17,8 @@ pub mod inputs;
 pub mod lent;
 pub mod nearest;
 pub mod points;
+pub mod quarter;
+pub mod quarters;
 pub mod random;
 pub mod received;
 pub mod rows;

@@ -1,6 +1,6 @@
 //! `difftest [CASES] [SEED]`: the static library against the reference. Exit 1 on a mismatch, or
 //! if a number that an operation can give never came, or a start, a fault of a frame, or an outcome of
-//! nearest reading, of the clip check or of a tally.
+//! nearest reading, of the clip check, of a quarter turn or of a tally.
 
 use difftest::compare::Comparison;
 use difftest::coverage::Coverage;

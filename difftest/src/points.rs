@@ -5,7 +5,7 @@ use crate::random::Random;
 use reference::forms::Class;
 use reference::points::{constellation, Point};
 use reference::reordering::reordered_tones;
-use reference::words::half_turn;
+use reference::words::{half_turn, quarter_left, quarter_right};
 use reference::Tables;
 
 /// Points for tables that are refused: any.
@@ -31,12 +31,8 @@ pub fn points_to_read(random: &mut Random, tables: &Tables, l: usize, register: 
     };
     match random.below(12) {
         0 => points = half_turn(&points),
-        1 => points
-            .iter_mut()
-            .for_each(|point| *point = (-point.1, point.0)),
-        2 => points
-            .iter_mut()
-            .for_each(|point| *point = (point.1, -point.0)),
+        1 => points = quarter_left(&points),
+        2 => points = quarter_right(&points),
         3 => damage(random, tables, &mut points, 3),
         4 | 5 => damage(random, tables, &mut points, 1),
         6 => damage_end(random, tables, &mut points),

@@ -40,7 +40,8 @@ fn run_case(comparison: &mut Comparison, random: &mut Random) -> Result<(), Mism
     nearest_case(comparison, random, &given)?;
     one_tone_case(comparison, random)?;
     tally_case(comparison, random)?;
-    clip_case(comparison, random, &given)
+    clip_case(comparison, random, &given)?;
+    quarter_case(comparison, random, &given)
 }
 
 fn encode_case(
@@ -127,4 +128,16 @@ fn clip_case(
     let given = coded(given);
     let asked = random_asked(random, &given.tables);
     comparison.clip_check(&given, &asked)
+}
+
+fn quarter_case(
+    comparison: &mut Comparison,
+    random: &mut Random,
+    given: &GivenTables,
+) -> Result<(), Mismatch> {
+    let checked = reference::check(&given.tables);
+    match checked.number {
+        0 => comparison.quarter_turns(random, given, checked.size as usize),
+        _ => Ok(()),
+    }
 }

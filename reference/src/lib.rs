@@ -11,6 +11,7 @@ pub mod forms;
 pub mod nearest;
 pub mod operations;
 pub mod points;
+pub mod quarter;
 pub mod refusals;
 pub mod reordering;
 pub mod symbol;

@@ -1,4 +1,4 @@
-//! "The words of demand 3": turning point lists.
+//! "The words of demand 3" and request R-14: turning point lists.
 
 use crate::points::Point;
 
@@ -8,6 +8,16 @@ pub fn half_turn(points: &[Point]) -> Vec<Point> {
         .iter()
         .map(|&(x, y)| (x.wrapping_neg(), y.wrapping_neg()))
         .collect()
+}
+
+/// (−Y, X) for (X, Y) at every place: a quarter to the left.
+pub fn quarter_left(points: &[Point]) -> Vec<Point> {
+    points.iter().map(|&(x, y)| (y.wrapping_neg(), x)).collect()
+}
+
+/// (Y, −X) for (X, Y) at every place: a quarter to the right.
+pub fn quarter_right(points: &[Point]) -> Vec<Point> {
+    points.iter().map(|&(x, y)| (y, x.wrapping_neg())).collect()
 }
 
 /// X and Y as two lists.
