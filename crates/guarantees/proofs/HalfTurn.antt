@@ -7,34 +7,30 @@ use mathlib.Core.Logic.{_↔_, _≢_}
 use mathlib.Core.Path.{_≡_, refl, sym, ap, _∙_, subst}
 use native.Mathlib.Omega.{arith}
 use borrow.Author.Tests.{eq-eqb, ne-eqb, le-ltb}
-use lib.Dec.{ltb, eqb}
+use lib.Dec.{eqb}
 use lib.IntN.{ℤ, negℤ}
 use lib.ListN.{length, getD, length-map}
-use Rattle.g9932.specs.Bits.{first}
 use Rattle.g9932.specs.Sizes.{Tables, pack, frameBits, Point, points}
 use Rattle.g9932.specs.Refusals.{Verdict, refused}
-use Rattle.g9932.specs.Order.{count, isOne, ones, entries, reorderedBits}
-use Rattle.g9932.specs.Trellis.{zeroState, encodePairs, frame, breaks, readPairs, takenTotal}
+use Rattle.g9932.specs.Order.{ones}
+use Rattle.g9932.specs.Trellis.{zeroState, encodePairs, frame, breaks, readPairs}
 use Rattle.g9932.specs.Points.{negated}
 use Rattle.g9932.specs.Symbol.{classesOf, reorderedTonesOf, pairsIn, sizeOf, writtenPoints, offgridTest, monitorTest, gatherBits, readingIn, firstMonitored}
-use Rattle.g9932.specs.Answers.{reportBy, breakIn, pointsVerdict, Read, readAt}
+use Rattle.g9932.specs.Answers.{breakIn, pointsVerdict, Read, readAt}
 use Rattle.g9932.specs.declared.Class.{Class}
 use Rattle.g9932.specs.declared.Class.the-variants.{Data, Monitored, Silent}
 use Rattle.g9932.specs.declared.Found.{Found}
 use Rattle.g9932.specs.declared.Found.the-variants.{At, Nothing}
-use Rattle.g9932.specs.declared.Mode.{Mode}
 use Rattle.g9932.specs.declared.Mode.the-variants.{Coded}
-use Rattle.g9932.specs.declared.Refusal.the-variants.{Monitor}
-use Rattle.g9932.proofs.Accepted.{Accepted, AcceptedCoded, accepted-tables}
-use Rattle.g9932.proofs.Formed.{Formed}
+use Rattle.g9932.proofs.Accepted.{Accepted, accepted-tables}
 use Rattle.g9932.proofs.HalfPairs.{halfTurned, turned-even, turned-odd}
 use Rattle.g9932.proofs.Packed.{start-most}
 use Rattle.g9932.proofs.Quarters.{half, point-opposite}
 use Rattle.g9932.proofs.Search.{first-no, first-all}
-use Rattle.g9932.proofs.Sent.{length-classes, loads-sum, length-taken, sentOf-read}
+use Rattle.g9932.proofs.Sent.{length-classes, loads-sum, sentOf-read}
 use Rattle.g9932.proofs.Symbols.{length-gather}
 use Rattle.g9932.proofs.TurnedTones.{half-ones}
-use Rattle.g9932.proofs.Verdicts.{found-here, found-past, and-refused, and-accepted}
+use Rattle.g9932.proofs.Verdicts.{found-here, found-past}
 use Rattle.guarantees.specs.Words.{AcceptedFrame, RightLength, Ready, nonZero, turned}
 use Rattle.guarantees.proofs.Operations.{Passes, not-broken, done, reading-done, read-points}
 use Rattle.guarantees.proofs.RoundTrip.{length-written, packed-frame, packed-bits, X-of, Y-of, encoded-xs, encoded-ys, encoded-right}

@@ -10,22 +10,20 @@ use native.Mathlib.Omega.{arith}
 use borrow.Author.Tests.{eqb-true, eqb-false, eq-eqb, ne-eqb, le-ltb}
 use lib.Dec.{ltb, eqb}
 use lib.IntN.{ℤ, negℤ, negℤ-negℤ}
-use lib.ListN.{length, getD, replicate, length-map}
-use Rattle.g9932.specs.Bits.{weight, first}
+use lib.ListN.{length, getD, length-map}
+use Rattle.g9932.specs.Bits.{weight}
 use Rattle.g9932.specs.Sizes.{Tables, entry, classBy, classOf, frameBits, Point, point, points}
 use Rattle.g9932.specs.Refusals.{Verdict, refused, accepted, refuseAt}
-use Rattle.g9932.specs.Order.{count, isOne, oneBit, bitsOf, ones, reorderedTones}
+use Rattle.g9932.specs.Order.{count, isOne, oneBit, ones}
 use Rattle.g9932.specs.Points.{pointOf, quarters, labelOf}
 use Rattle.g9932.specs.Symbol.{classesBy, reorderedTonesOf, classesOf, firstMonitored, pairsIn, sizeOf, writtenPoints, offgridTest, readingIn}
 use Rattle.g9932.specs.Trellis.{breaks}
 use Rattle.g9932.specs.Answers.{onDone, reportBy, breakIn, pointsVerdict, Read, readAt}
-use Rattle.g9932.specs.declared.Class.{Class}
-use Rattle.g9932.specs.declared.Class.the-variants.{Data, Monitored, Silent}
+use Rattle.g9932.specs.declared.Class.the-variants.{Monitored, Silent}
 use Rattle.g9932.specs.declared.Found.{Found}
 use Rattle.g9932.specs.declared.Found.the-variants.{At, Nothing}
-use Rattle.g9932.specs.declared.Mode.{Mode}
 use Rattle.g9932.specs.declared.Mode.the-variants.{Coded}
-use Rattle.g9932.proofs.Accepted.{Accepted, AcceptedCoded, accepted-tables}
+use Rattle.g9932.proofs.Accepted.{Accepted, accepted-tables}
 use Rattle.g9932.proofs.Counts.{two-loaded, two-not-one}
 use Rattle.g9932.proofs.QuarterPairs.{turned-breaks}
 use Rattle.g9932.proofs.Quarters.{quarterLeft, quarterRight, point-turned, one-left, one-right}
