@@ -134,7 +134,7 @@ fn half_turn_figures() -> Vec<String> {
     .concat()
 }
 
-/// A table for each place where a quarter turn is refused.
+/// A table of each kind: by it goes what refuses a quarter turn, and where.
 fn quarter_turn_figures() -> Vec<String> {
     let twos = |count| equal_tones(count, 2, Mode::Coded);
     [

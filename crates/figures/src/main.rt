@@ -91,7 +91,7 @@ fn half_turns() {
     table_a(0, Figure::HalfTurn);
 }
 
-// A table for each place where a quarter turn is refused.
+// A table of each kind: by it goes what refuses a quarter turn, and where.
 fn quarter_turns() {
     text(b"\ntable A, two 1-bit tones, tone 4 monitored");
     table_a(512, Figure::QuarterTurn);
