@@ -35,22 +35,22 @@ pub fn equal_tones(count: u16, bits: u8, mode: Mode) -> Tables {
     }
 }
 
-/// Every figure of the page, one to a line, and what half a turn does.
+/// Bench table A with 2 bits for each tone of 1 bit.
+pub fn table_a_of_twos() -> Tables {
+    let mut tables = table_a();
+    tables.bits = vec![0, 0, 3, 2, 0, 2, 2, 4];
+    tables
+}
+
+/// Every figure of the page, one to a line, and what half a turn and quarter turns do.
 pub fn page() -> String {
     let mut lines = vec!["bench figures".to_string()];
     lines.extend(table_a_figures());
     lines.extend(small_table_figures());
     lines.extend(point_figures());
     lines.extend(large_table_figures());
-    lines.push("half a turn: frame 0 written, every point turned, read".to_string());
-    lines.extend(turned("table A, tone 4 monitored", &table_a()));
-    let twos = |count| equal_tones(count, 2, Mode::Coded);
-    lines.extend(turned("five 2-bit tones, none monitored, N odd", &twos(5)));
-    lines.extend(turned("four 2-bit tones, none monitored, N even", &twos(4)));
-    lines.extend(turned(
-        "table A, gain of 4 is 0, none monitored, N even",
-        &table_a_silent(),
-    ));
+    lines.extend(half_turn_figures());
+    lines.extend(quarter_turn_figures());
     lines.join("\n") + "\n"
 }
 
@@ -119,25 +119,73 @@ fn large_table_figures() -> Vec<String> {
     ]
 }
 
-/// Frame byte 0 written and read, as it is and with every point turned.
-fn turned(tables_name: &str, tables: &Tables) -> Vec<String> {
-    let points = write(tables, 0).contents.expect("frame 0 is accepted");
-    let written = read_back(tables, &points);
-    let turned = read_back(tables, &half_turn(&points));
-    let answer = match turned.number {
-        0 => format!("read as {}, the turn is not detected", frame_line(&turned)),
-        15 => format!("refused 15 {} at pair {}", name(15), turned.place),
-        number => format!(
-            "refused {number} {} at place {}",
-            name(number),
-            turned.place
+fn half_turn_figures() -> Vec<String> {
+    let twos = |count| equal_tones(count, 2, Mode::Coded);
+    [
+        vec!["half a turn: frame 0 written, every point turned, read".to_string()],
+        half_turned("table A, tone 4 monitored", &table_a()),
+        half_turned("five 2-bit tones, none monitored, N odd", &twos(5)),
+        half_turned("four 2-bit tones, none monitored, N even", &twos(4)),
+        half_turned(
+            "table A, gain of 4 is 0, none monitored, N even",
+            &table_a_silent(),
         ),
-    };
+    ]
+    .concat()
+}
+
+/// A table of each kind: by it goes what refuses a quarter turn, and where.
+fn quarter_turn_figures() -> Vec<String> {
+    let twos = |count| equal_tones(count, 2, Mode::Coded);
+    [
+        vec!["a quarter turn: frame 0 written, every point turned, read".to_string()],
+        quarter_turned("table A, two 1-bit tones, tone 4 monitored", &table_a()),
+        quarter_turned(
+            "table A, 2 bits on 3 and 6, no 1-bit tone, tone 4 monitored",
+            &table_a_of_twos(),
+        ),
+        quarter_turned("five 2-bit tones, none monitored, N odd", &twos(5)),
+        quarter_turned("four 2-bit tones, none monitored, N 4", &twos(4)),
+        quarter_turned("six 2-bit tones, none monitored, N even from 6", &twos(6)),
+    ]
+    .concat()
+}
+
+/// Frame byte 0 written and read, as it is and with every point turned by half.
+fn half_turned(tables_name: &str, tables: &Tables) -> Vec<String> {
+    let points = frame_0(tables);
+    let written = read_back(tables, &points);
     vec![
         tables_name.to_string(),
         format!("as written: read as {}", frame_line(&written)),
-        format!("turned: {answer}"),
+        format!("turned: {}", turned_line(tables, &half_turn(&points))),
     ]
+}
+
+/// Frame byte 0 written and read with every point turned by a quarter, each way.
+fn quarter_turned(tables_name: &str, tables: &Tables) -> Vec<String> {
+    let points = frame_0(tables);
+    let left: Vec<Point> = points.iter().map(|&(x, y)| (-y, x)).collect();
+    let right: Vec<Point> = points.iter().map(|&(x, y)| (y, -x)).collect();
+    vec![
+        tables_name.to_string(),
+        format!("turned left: {}", turned_line(tables, &left)),
+        format!("turned right: {}", turned_line(tables, &right)),
+    ]
+}
+
+fn frame_0(tables: &Tables) -> Vec<Point> {
+    write(tables, 0).contents.expect("frame 0 is accepted")
+}
+
+fn turned_line(tables: &Tables, turned: &[Point]) -> String {
+    let answer = read_back(tables, turned);
+    let place = answer.place;
+    match answer.number {
+        0 => format!("read as {}, the turn is not detected", frame_line(&answer)),
+        15 => format!("refused 15 {} at pair {place}", name(15)),
+        number => format!("refused {number} {} at place {place}", name(number)),
+    }
 }
 
 fn write(tables: &Tables, byte: u8) -> Answer<Vec<Point>> {

@@ -1,7 +1,8 @@
-//! Every bench figure of document 01, as amended, marked (*) and unmarked.
+//! Every bench figure of document 01, as amended, marked (*) and unmarked, and where quarter turns
+//! are refused.
 
-use clevisroot_sys::refusals::{DONE, FEW, FRAME, ODD};
-use reference::figures::{equal_tones, table_a, table_a_silent};
+use clevisroot_sys::refusals::{DONE, FEW, FRAME, MONITOR, ODD, OFFGRID, TRELLIS};
+use reference::figures::{equal_tones, table_a, table_a_of_twos, table_a_silent};
 use reference::filler::RESET;
 use reference::points::Point;
 use reference::words::lists_of;
@@ -18,6 +19,14 @@ fn points(tables: &Tables, byte: u8) -> Vec<Point> {
 fn size(tables: &Tables) -> (u32, u32) {
     let answer = check(tables);
     (answer.number, answer.size)
+}
+
+/// Frame 0 with every point turned: what reading it answers.
+fn read_turned(tables: &Tables, turn: impl Fn(Point) -> Point) -> (u32, u32) {
+    let turned: Vec<Point> = points(tables, 0).into_iter().map(turn).collect();
+    let (x, y) = lists_of(&turned);
+    let answer = read(tables, &x, &y, RESET, 1);
+    (answer.number, answer.place)
 }
 
 #[test]
@@ -97,4 +106,19 @@ fn single_labels() {
 fn largest_frames() {
     assert_eq!(size(&equal_tones(4096, 15, Mode::Coded)), (DONE, 59_388));
     assert_eq!(size(&equal_tones(4096, 15, Mode::Uncoded)), (DONE, 61_440));
+}
+
+#[test]
+fn quarter_turns_are_refused() {
+    let twos = |count| equal_tones(count, 2, Mode::Coded);
+    for (tables, refused) in [
+        (table_a(), (OFFGRID, 4)),
+        (table_a_of_twos(), (MONITOR, 5)),
+        (twos(5), (TRELLIS, 0)),
+        (twos(4), (TRELLIS, 0)),
+        (twos(6), (TRELLIS, 1)),
+    ] {
+        assert_eq!(read_turned(&tables, |(x, y)| (-y, x)), refused);
+        assert_eq!(read_turned(&tables, |(x, y)| (y, -x)), refused);
+    }
 }

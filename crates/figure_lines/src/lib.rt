@@ -1,5 +1,7 @@
 // What the page of bench figures has on one table. The caller prints how the line begins; the register is at reset.
 mod half_turn; // what half a turn does
+mod opposites; // coordinates with their signs changed
+mod quarter_turn; // what a quarter turn does
 
 use g9932::Mode;
 use half_turn::half_turn;
@@ -12,12 +14,13 @@ use print::points;
 use print::refused;
 use print::text;
 use print::with_byte;
+use quarter_turn::quarter_turn;
 
 // The register at reset: all 23 bits are 1.
 const RESET: u32 = 8388607;
 
 // What is printed of a table: L, t' and b', the points of a frame of one byte, the register after it, what given points are
-// read as, or what half a turn does.
+// read as, or what half a turn or a quarter turn does.
 pub enum Figure {
     Size(Mode),
     Order,
@@ -25,6 +28,7 @@ pub enum Figure {
     Register(u8),
     Silent,
     HalfTurn,
+    QuarterTurn,
 }
 
 // L, or the refusal of the tables.
@@ -92,6 +96,14 @@ fn read(bits: &[u8], gains: &[u16], tones: &[u16], xs: &[i16], ys: &[i16]) -> Ou
     with_byte(outcome, frame[0])
 }
 
+// What turned points are read as.
+fn turned(outcome: Outcome) {
+    frame(outcome);
+    if outcome.refusal == 0 {
+        text(b", the turn is not detected");
+    }
+}
+
 // The points of a frame of one byte, or the refusal.
 fn written(bits: &[u8], gains: &[u16], tones: &[u16], byte: u8, xs: &mut [i16], ys: &mut [i16]) {
     let outcome = encode(bits, gains, tones, byte, xs, ys);
@@ -126,5 +138,6 @@ pub fn line(
         Figure::Register(byte) => number(encode(bits, gains, tones, byte, xs, ys).value),
         Figure::Silent => silent(bits, gains, tones),
         Figure::HalfTurn => half_turn(bits, gains, tones, xs, ys),
+        Figure::QuarterTurn => quarter_turn(bits, gains, tones, xs, ys),
     }
 }

@@ -6,14 +6,24 @@ use figure_lines::Figure;
 use figure_lines::line;
 use g9932::MOST_TONES;
 
-// Bench table A, with this gain of tone 4.
-pub fn table_a(gain: u16, figure: Figure) {
-    let bits = [0u8, 0, 3, 1, 0, 2, 1, 4];
+// Bench table A, with this many bits of tones 3 and 6 and this gain of tone 4.
+fn table_a_with(bits_of_3_and_6: u8, gain: u16, figure: Figure) {
+    let bits = [0u8, 0, 3, bits_of_3_and_6, 0, 2, bits_of_3_and_6, 4];
     let gains = [0u16, 0, 512, 512, gain, 512, 512, 512];
     let tones = [7u16, 3, 5, 2, 6, 4];
     let mut xs = [0i16; 6];
     let mut ys = [0i16; 6];
     line(figure, &bits, &gains, &tones, &mut xs, &mut ys);
+}
+
+// Bench table A, with this gain of tone 4.
+pub fn table_a(gain: u16, figure: Figure) {
+    table_a_with(1, gain, figure);
+}
+
+// Bench table A with 2 bits for each tone of 1 bit.
+pub fn table_a_of_twos(figure: Figure) {
+    table_a_with(2, 512, figure);
 }
 
 // Puts t in index order.

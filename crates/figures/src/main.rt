@@ -3,6 +3,7 @@ mod bench; // the bench tables
 
 use bench::equal_tones;
 use bench::table_a;
+use bench::table_a_of_twos;
 use figure_lines::Figure;
 use g9932::Mode;
 use print::entry;
@@ -90,6 +91,20 @@ fn half_turns() {
     table_a(0, Figure::HalfTurn);
 }
 
+// A table of each kind: by it goes what refuses a quarter turn, and where.
+fn quarter_turns() {
+    text(b"\ntable A, two 1-bit tones, tone 4 monitored");
+    table_a(512, Figure::QuarterTurn);
+    text(b"\ntable A, 2 bits on 3 and 6, no 1-bit tone, tone 4 monitored");
+    table_a_of_twos(Figure::QuarterTurn);
+    text(b"\nfive 2-bit tones, none monitored, N odd");
+    equal_tones(5, 2, Figure::QuarterTurn);
+    text(b"\nfour 2-bit tones, none monitored, N 4");
+    equal_tones(4, 2, Figure::QuarterTurn);
+    text(b"\nsix 2-bit tones, none monitored, N even from 6");
+    equal_tones(6, 2, Figure::QuarterTurn);
+}
+
 fn main() {
     text(b"bench figures");
     table_a_order();
@@ -101,5 +116,7 @@ fn main() {
     large_tables();
     text(b"\nhalf a turn: frame 0 written, every point turned, read");
     half_turns();
+    text(b"\na quarter turn: frame 0 written, every point turned, read");
+    quarter_turns();
     text(b"\n");
 }

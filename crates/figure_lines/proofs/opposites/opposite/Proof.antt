@@ -1,4 +1,4 @@
--- `figure_lines::half_turn::opposite` meets its contract.
+-- `figure_lines::opposites::opposite` meets its contract.
 use Prim.Native.Nat.{ℕ, zero, suc, _<_}
 use mathlib.Core.Bool.{true, false}
 use mathlib.Core.Path.{_≡_}
@@ -8,8 +8,8 @@ use lib.IntN.{ℤ, pos, negsuc, negℤ, _-ℤ_, +ℤ-idl}
 use lib.Signed.{mag, ltZ}
 use mir.Syntax.{w16}
 use mir.ValLaws.{toZ-ofZ}
-use Rattle.figure_lines.proofs.half_turn.opposite.Statement.{statement}
-use Rattle.figure_lines.proofs.half_turn.opposite.Tie as tie
+use Rattle.figure_lines.proofs.opposites.opposite.Statement.{statement}
+use Rattle.figure_lines.proofs.opposites.opposite.Tie as tie
 
 zero-minus : (z : ℤ) → pos 0 -ℤ z ≡ negℤ z
 zero-minus z = +ℤ-idl (negℤ z)
