@@ -5,7 +5,7 @@ use crate::forms::{Mode, Tables};
 use crate::operations::{check, encode, map_label, read, reorder, Answer};
 use crate::points::Point;
 use crate::refusals::name;
-use crate::words::{half_turn, lists_of};
+use crate::words::{half_turn, lists_of, quarter_left, quarter_right};
 use std::fmt::Display;
 
 /// Bench table A.
@@ -146,7 +146,10 @@ fn quarter_turn_figures() -> Vec<String> {
         ),
         quarter_turned("five 2-bit tones, none monitored, N odd", &twos(5)),
         quarter_turned("four 2-bit tones, none monitored, N 4", &twos(4)),
-        quarter_turned("six 2-bit tones, none monitored, N even from 6", &twos(6)),
+        quarter_turned(
+            "six 2-bit tones, none monitored, N even and above 4",
+            &twos(6),
+        ),
     ]
     .concat()
 }
@@ -165,12 +168,12 @@ fn half_turned(tables_name: &str, tables: &Tables) -> Vec<String> {
 /// Frame byte 0 written and read with every point turned by a quarter, each way.
 fn quarter_turned(tables_name: &str, tables: &Tables) -> Vec<String> {
     let points = frame_0(tables);
-    let left: Vec<Point> = points.iter().map(|&(x, y)| (-y, x)).collect();
-    let right: Vec<Point> = points.iter().map(|&(x, y)| (y, -x)).collect();
+    let [left, right] =
+        [quarter_left, quarter_right].map(|turn| turned_line(tables, &turn(&points)));
     vec![
         tables_name.to_string(),
-        format!("turned left: {}", turned_line(tables, &left)),
-        format!("turned right: {}", turned_line(tables, &right)),
+        format!("turned left: {left}"),
+        format!("turned right: {right}"),
     ]
 }
 

@@ -5,7 +5,7 @@ use clevisroot_sys::refusals::{DONE, FEW, FRAME, MONITOR, ODD, OFFGRID, TRELLIS}
 use reference::figures::{equal_tones, table_a, table_a_of_twos, table_a_silent};
 use reference::filler::RESET;
 use reference::points::Point;
-use reference::words::lists_of;
+use reference::words::{lists_of, quarter_left, quarter_right};
 use reference::{check, encode, map_label, read, reorder, Answer, Mode, Tables};
 
 fn write(tables: &Tables, byte: u8) -> Answer<Vec<Point>> {
@@ -22,9 +22,8 @@ fn size(tables: &Tables) -> (u32, u32) {
 }
 
 /// Frame 0 with every point turned: what reading it answers.
-fn read_turned(tables: &Tables, turn: impl Fn(Point) -> Point) -> (u32, u32) {
-    let turned: Vec<Point> = points(tables, 0).into_iter().map(turn).collect();
-    let (x, y) = lists_of(&turned);
+fn read_turned(tables: &Tables, turn: fn(&[Point]) -> Vec<Point>) -> (u32, u32) {
+    let (x, y) = lists_of(&turn(&points(tables, 0)));
     let answer = read(tables, &x, &y, RESET, 1);
     (answer.number, answer.place)
 }
@@ -118,7 +117,7 @@ fn quarter_turns_are_refused() {
         (twos(4), (TRELLIS, 0)),
         (twos(6), (TRELLIS, 1)),
     ] {
-        assert_eq!(read_turned(&tables, |(x, y)| (-y, x)), refused);
-        assert_eq!(read_turned(&tables, |(x, y)| (y, -x)), refused);
+        assert_eq!(read_turned(&tables, quarter_left), refused);
+        assert_eq!(read_turned(&tables, quarter_right), refused);
     }
 }

@@ -101,7 +101,7 @@ fn quarter_turns() {
     equal_tones(5, 2, Figure::QuarterTurn);
     text(b"\nfour 2-bit tones, none monitored, N 4");
     equal_tones(4, 2, Figure::QuarterTurn);
-    text(b"\nsix 2-bit tones, none monitored, N even from 6");
+    text(b"\nsix 2-bit tones, none monitored, N even and above 4");
     equal_tones(6, 2, Figure::QuarterTurn);
 }
 
