@@ -9,7 +9,7 @@ use lib.ListN.{length}
 use Rattle.g9932.specs.Bits.{_⊕_, bit}
 use Rattle.g9932.specs.Trellis.{Word, nextOf, implied, same, obeysCode, takenBits}
 use Rattle.g9932.specs.declared.TrellisState.{TrellisState}
-use Rattle.g9932.proofs.Identities.{bits-agree, xor-false}
+use Rattle.g9932.proofs.Identities.{bits-agree, xor-false, xor-not, and-false}
 use Rattle.g9932.proofs.OnePair.{forced-obeys, same-not}
 use Rattle.g9932.proofs.Quarters.{turnedLabel, lowest-turned, half}
 use Rattle.g9932.proofs.Turns.{both-u0, lone-u0, turned-parity}
@@ -19,14 +19,8 @@ use Rattle.g9932.proofs.Turns.{both-u0, lone-u0, turned-parity}
 not-both : (a b : Bool) → not a ⊕ not b ≡ a ⊕ b
 not-both = bits-agree 2 (λ a b. not a ⊕ not b) (λ a b. a ⊕ b) refl
 
-pub xor-not : (a b : Bool) → a ⊕ not b ≡ not (a ⊕ b)
-xor-not = bits-agree 2 (λ a b. a ⊕ not b) (λ a b. not (a ⊕ b)) refl
-
 not-xor : (a b : Bool) → not a ⊕ b ≡ not (a ⊕ b)
 not-xor = bits-agree 2 (λ a b. not a ⊕ b) (λ a b. not (a ⊕ b)) refl
-
-pub and-false : (a b : Bool) → a && false && b ≡ false
-and-false = bits-agree 2 (λ a b. a && false && b) (λ a b. false) refl
 
 not-self : (b : Bool) → b ≡ not b → ⊥
 not-self true e = true≢false e

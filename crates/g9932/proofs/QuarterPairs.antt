@@ -14,33 +14,25 @@ use Rattle.g9932.specs.Order.{Pair}
 use Rattle.g9932.specs.Trellis.{Word, zeroState, lastTwo, nextOf, encodePairs, implied, same, obeysCode, frame, breaks, width, decodedAt, readPairs, takenTotal}
 use Rattle.g9932.specs.declared.TrellisState.{TrellisState}
 use Rattle.g9932.proofs.Formed.{Full, Formed, whole, padded, formed-ok}
-use Rattle.g9932.proofs.Identities.{bits-agree}
+use Rattle.g9932.proofs.Identities.{xor-true, xor-not, not-not, and-false}
 use Rattle.g9932.proofs.OnePair.{forced-obeys, same-not, obeys-u0, breaks-u0}
 use Rattle.g9932.proofs.Pairs.{sentTotal, length-encode, read-stop, read-encode, FirstRead, first-read}
-use Rattle.g9932.proofs.HalfWord.{xor-not, and-false}
 use Rattle.g9932.proofs.Turns.{Turn, turned-parity, both-u0, lone-u0, turnedBits, both-at, lone-at, turned-on, breaks-here}
-
--- ---- bits
-
-xor-true : (a : Bool) → a ⊕ true ≡ not a
-xor-true = bits-agree 1 (λ a. a ⊕ true) (λ a. not a) refl
-
-not-not : (a : Bool) → a ≡ not (not a)
-not-not = bits-agree 1 (λ a. a) (λ a. not (not a)) refl
 
 -- ---- one pair
 
-record Turned (u t : Word) : Type 0 where
+-- u0 stays and u1 is the other one
+record OtherU1 (u t : Word) : Type 0 where
   same0 : t .u0 ≡ u .u0
   other1 : t .u1 ≡ not (u .u1)
 
 -- a forced pair breaks the code by its u1, and after any pair S0 is the other one
-forced-breaks : (s : TrellisState) (u t : Word) → Turned u t → obeysCode true s u ≡ true → obeysCode true s t ≡ false
+forced-breaks : (s : TrellisState) (u t : Word) → OtherU1 u t → obeysCode true s u ≡ true → obeysCode true s t ≡ false
 forced-breaks s u t h k =
-    let e : s .s1 ⊕ s .s3 ≡ not (t .u1) = sym (forced-obeys (u .u0) (s .s0) (u .u1) (s .s1 ⊕ s .s3) (u .u2) (s .s2) k .1) ∙ not-not (u .u1) ∙ ap not (sym (h .other1)) in
+    let e : s .s1 ⊕ s .s3 ≡ not (t .u1) = sym (forced-obeys (u .u0) (s .s0) (u .u1) (s .s1 ⊕ s .s3) (u .u2) (s .s2) k .1) ∙ sym (not-not (u .u1)) ∙ ap not (sym (h .other1)) in
     rw (e, same-not (t .u1)) (and-false (same (t .u0) (s .s0)) (same (t .u2) (s .s2)))
 
-next-other : (s : TrellisState) (u t : Word) → Turned u t → nextOf s t .s0 ≡ not (nextOf s u .s0)
+next-other : (s : TrellisState) (u t : Word) → OtherU1 u t → nextOf s t .s0 ≡ not (nextOf s u .s0)
 next-other s u t h = rw (h .other1) (xor-not (s .s1 ⊕ s .s3) (u .u1))
 
 module _ (turn : Turn) (flips : turn .flips ≡ true) where
@@ -50,11 +42,11 @@ module _ (turn : Turn) (flips : turn .flips ≡ true) where
   flipped : (a : Bool) → a ⊕ turn .flips ≡ not a
   flipped a = ap (λ (f : Bool). a ⊕ f) flips ∙ xor-true a
 
-  both-turned : (v w : List Bool) → 2 ≤ length v → 2 ≤ length w → Turned (implied v w) (implied (word v) (word w))
+  both-turned : (v w : List Bool) → 2 ≤ length v → 2 ≤ length w → OtherU1 (implied v w) (implied (word v) (word w))
   both-turned v w h k = record { same0 = both-u0 turn v w h k; other1 = turned-parity turn v h ∙ flipped (bit v 0 ⊕ bit v 1) }
 
   lone-turned : (w : List Bool) → 2 ≤ length w → implied [] w .u0 ≡ not (implied [] (word w) .u0)
-  lone-turned w h = not-not (implied [] w .u0) ∙ ap not (sym (lone-u0 turn w h ∙ flipped (implied [] w .u0)))
+  lone-turned w h = sym (not-not (implied [] w .u0)) ∙ ap not (sym (lone-u0 turn w h ∙ flipped (implied [] w .u0)))
 
   -- ---- where the code breaks
 
@@ -72,12 +64,12 @@ module _ (turn : Turn) (flips : turn .flips ≡ true) where
       → readPairs s (p ∷ q ∷ ps) (turnedBits word (p ∷ q ∷ ps) d) ≡ breaks (cond (eqb (length (p ∷ q ∷ ps)) 2) 0 1)
   breaks-full p q [] s d f h l e =
       let c : FirstRead p (q ∷ []) s d f = first-read p (q ∷ []) s d f e in
-      let t = both-at turn p (q ∷ []) d (omega arith) Turned both-turned (h .0) (h .1) in
+      let t = both-at turn p (q ∷ []) d (omega arith) OtherU1 both-turned (h .0) (h .1) in
       read-stop p (q ∷ []) s (turnedBits word (p ∷ q ∷ []) d) (forced-breaks s (decodedAt p d) (decodedAt p (turnedBits word (p ∷ q ∷ []) d)) t (c .obeys))
   breaks-full p q (m ∷ ms) s d f h l e =
       let c : FirstRead p (q ∷ m ∷ ms) s d f = first-read p (q ∷ m ∷ ms) s d f e in
       let u : Word = decodedAt p (turnedBits word (p ∷ q ∷ m ∷ ms) d) in
-      let t : Turned (decodedAt p d) u = both-at turn p (q ∷ m ∷ ms) d (omega arith) Turned both-turned (h .0) (h .1) in
+      let t : OtherU1 (decodedAt p d) u = both-at turn p (q ∷ m ∷ ms) d (omega arith) OtherU1 both-turned (h .0) (h .1) in
       let k : obeysCode false s u ≡ true = rw (t .same0) (c .obeys) in
       let n : eqb (length (p ∷ q ∷ m ∷ ms)) 2 ≡ false = ne-eqb (length (p ∷ q ∷ m ∷ ms)) 2 (λ h. omega arith) in
       turned-on turn p (q ∷ m ∷ ms) d (omega arith) s k

@@ -1,6 +1,6 @@
--- Points turned by quarters to the left. Of the coordinates' bits, those of Y come to X complemented, and those of X to Y. Of a label's, in
--- every two, lowest first, the upper one comes to the lower one's place, and the lower one's complement to the upper one's; the top bit of
--- an odd number stays. Half a turn is two quarters, a quarter to the right is three.
+-- Points turned by quarters to the left. Of the coordinates' bits, those of Y come to X complemented, and those of X to Y. Of a label's, from
+-- 2 bits on, in every two, lowest first, the upper one comes to the lower one's place, and the lower one's complement to the upper one's; the
+-- top bit of an odd number stays. Half a turn is two quarters, a quarter to the right is three.
 use Prim.Native.Nat.{ℕ, zero, suc, _≤_}
 use mathlib.Core.Bool.{Bool, true, false, not, _&&_}
 use mathlib.Core.List.{List, [], _∷_, map}
@@ -11,7 +11,7 @@ use lib.ListN.{length}
 use Rattle.g9932.specs.Bits.{_⊕_, bit, weight, num, odd, bits}
 use Rattle.g9932.specs.Points.{pointOf, turnedLeft, quarters, lowQuarters, seek, labelOf}
 use Rattle.g9932.specs.Trellis.{same}
-use Rattle.g9932.proofs.Identities.{bits-agree, words-agree, xor-false}
+use Rattle.g9932.proofs.Identities.{bits-agree, words-agree, xor-false, xor-not}
 use Rattle.g9932.proofs.Coordinates.{Axes, axes, axes-path, push, three, five, coords, coords-length, axisBits-pos}
 use Rattle.g9932.proofs.Constellations.{axesPoint, point-coords}
 use Rattle.g9932.proofs.Turns.{Turn}
@@ -67,7 +67,7 @@ abbrev quarterLabels : ℕ → List Bool → List Bool
 quarterLabels zero l = l
 quarterLabels (suc n) l = quarterLabels n (quarterLabel l)
 
--- the label of a point so turned; of 1 bit it is the other one after half a turn, and there is none after a quarter
+-- the label of a point so turned; of 1 bit it says so for half a turn alone, by which it is the other one
 abbrev pub turnedLabel : ℕ → List Bool → List Bool
 turnedLabel n [] = []
 turnedLabel n (a ∷ []) = not a ∷ []
@@ -147,6 +147,9 @@ other-parity = bits-agree 3 (λ f a b. b ⊕ not a ⊕ f) (λ f a b. a ⊕ b ⊕
 pub parity-turned : (n : ℕ) (a b : Bool) → lowQuarters n a b .0 ⊕ lowQuarters n a b .1 ≡ a ⊕ b ⊕ oddly n
 parity-turned zero a b = sym (xor-false (a ⊕ b))
 parity-turned (suc n) a b = parity-turned n b (not a) ∙ other-parity (oddly n) a b
+
+pub each-quarter : (n : ℕ) (a b : Bool) → lowQuarters (suc n) a b .0 ⊕ lowQuarters (suc n) a b .1 ≡ not (lowQuarters n a b .0 ⊕ lowQuarters n a b .1)
+each-quarter n a b = parity-turned (suc n) a b ∙ xor-not (a ⊕ b) (oddly n) ∙ ap not (sym (parity-turned n a b))
 
 -- a turn by n quarters, where they move the two lowest bits
 abbrev pub turnBy : (n : ℕ) → ((a b : Bool) → same (lowQuarters n a b .0) a && same (lowQuarters n a b .1) b ≡ false) → Turn

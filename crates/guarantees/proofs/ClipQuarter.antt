@@ -1,5 +1,5 @@
--- The clip check says neither of a written symbol that is turned by a quarter, either way: of the four points that filler bits give, the
--- tone's own, the opposite one and the two quarter turns are four.
+-- The clip check says neither of a written symbol that is turned by a quarter, either way: the tone's own point, the opposite one and the two
+-- quarter turns are four different points.
 use Prim.Native.Nat.{ℕ}
 use mathlib.Core.Bool.{Bool, true≢false}
 use mathlib.Core.List.{List, map}
@@ -44,7 +44,7 @@ module _ (T : Tables) (r k : ℕ) where
     right : RightLength T X Y
     right = written-right T ok r X Y w
 
-    -- lists that hold the symbol turned by n quarters
+    -- lists of the right length whose point there is the tone's, turned by n quarters
     neither : (n : ℕ) (X′ Y′ : List ℤ) → RightLength T X′ Y′ → getD (points X′ Y′) k origin ≡ quarters n filler → quarters n filler ≢ filler → quarters n filler ≢ negated filler
         → clipCheck T X′ Y′ r ≡ record { number = 0; place = 0; clip = some Neither; register = r }
     neither n X′ Y′ lengths there other opposite =

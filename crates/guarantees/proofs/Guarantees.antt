@@ -1,9 +1,9 @@
--- The promises over the definitions of document 01: demand 3, in full; of demand 2, how many bits go on the tones, and which go where;
--- what else is shown of the definitions; request R-14, quarter turns, beside half a turn; of request R-13, nearest reading, by itself and against exact reading; and of request R-10, the clip
--- check, by itself and against two readings. That the code gives what they say is the `ensures` of each operation. Each proof cites the
--- part that shows it. The words are those of specs/Words.antt and of crate g9932. Request R-12, the pair report, has a page of its own:
--- crates/tally/proofs/Theorems.antt.
-use Prim.Native.Nat.{ℕ, _+_, _-_, _*_, _/_, _%_, _^_, _≤_, _<_}
+-- The promises over the definitions of document 01: demand 3, in full; of request R-14, quarter turns, beside half a turn; of demand 2, how
+-- many bits go on the tones, and which go where; what else is shown of the definitions; of request R-13, nearest reading, by itself and
+-- against exact reading; and of request R-10, the clip check, by itself and against two readings. That the code gives what they say is the
+-- `ensures` of each operation. Each proof cites the part that shows it. The words are those of specs/Words.antt and of crate g9932. Request
+-- R-12, the pair report, has a page of its own: crates/tally/proofs/Theorems.antt.
+use Prim.Native.Nat.{ℕ, suc, _+_, _-_, _*_, _/_, _%_, _^_, _≤_, _<_}
 use mathlib.Core.Bool.{Bool, true, false, cond, not}
 use mathlib.Core.List.{List, [], _∷_, map}
 use mathlib.Core.Logic.{_↔_, _≢_, _⊎_}
@@ -34,6 +34,7 @@ use Rattle.g9932.specs.declared.Refusal.{Refusal}
 use Rattle.g9932.proofs.Aligned as Aligned
 use Rattle.g9932.proofs.Figures as Figures
 use Rattle.g9932.proofs.Packed as Packed
+use Rattle.g9932.proofs.Quarters as Quarters
 use Rattle.g9932.proofs.Reordering as Reordering
 use Rattle.g9932.proofs.Verdicts as Verdicts
 use Rattle.guarantees.specs.Words.{Bytes, AcceptedTables, AcceptedFrame, ValidRegister, RightLength, Ready, nonZero, pairAt, wordsIn, stateAfter, labelsOf, lowest, lowestAt, oneBitTones, firstOfTwo, sharedEntry, table10-2, bitOne, zeroBitTones, fillerBit, turned, firstOneBit, quarterVerdict, SameUnloaded, SameLoaded, WrittenSymbol, TurnedSymbol, fullWay}
@@ -108,7 +109,7 @@ module _ (T : Tables) (r start : ℕ) (xs ys : List ℤ) (f₀ : List ℕ) (read
       → turnedRead f .report .verdict ≡ refused 15 (cond (eqb (length (pairsIn T)) 3) 1 2)
   half-turn-odd = HalfTurn.half-turn-odd T r start xs ys f₀ ready
 
-  -- Where N is odd, it is never read, whatever is monitored: with no register s, from no start, into no buffer.
+  -- Where N is odd it is never read, whatever is monitored, and whatever the register s, the start and the buffer that it is read with.
   pub half-turn-any-register : T .mode ≡ Coded → (f : List ℕ) → AcceptedFrame T start f → nonZero T % 2 ≡ 1 → (s start′ : ℕ) (f′ : List ℕ)
       → readAt T (turned (encodeAt T start f r xs ys .xs)) (turned (encodeAt T start f r xs ys .ys)) s start′ f′ .report .verdict .number ≢ 0
   half-turn-any-register = HalfTurn.half-turn-any-register T r start xs ys f₀ ready
@@ -122,18 +123,19 @@ module _ (T : Tables) (r start : ℕ) (xs ys : List ℤ) (f₀ : List ℕ) (read
   abbrev rightRead : List ℕ → Read
   rightRead f = readAt T (encodeAt T start f r xs ys .ys) (turned (encodeAt T start f r xs ys .xs)) r start f₀
 
-  -- it is always refused;
+  -- it is always refused,
   pub quarter-turn-refused : T .mode ≡ Coded → (f : List ℕ) → AcceptedFrame T start f
       → (leftRead f .report .verdict .number ≢ 0) × (rightRead f .report .verdict .number ≢ 0)
   quarter-turn-refused m f ok = QuarterTurn.quarter-any-register T r start xs ys f₀ ready m f ok r start f₀
 
-  -- the verdict is one, whatever the frame and the register (`quarter-refusals`), and register and buffer come back as they were.
+  -- with a verdict that the tables alone give (`quarter-refusals` opens it), the same either way and for every frame, and with the register
+  -- and the buffer as they came.
   pub quarter-turn : T .mode ≡ Coded → (f : List ℕ) → AcceptedFrame T start f
       → (leftRead f ≡ record { report = record { verdict = quarterVerdict T; register = r }; frame = f₀ })
       × (rightRead f ≡ record { report = record { verdict = quarterVerdict T; register = r }; frame = f₀ })
   quarter-turn = QuarterTurn.quarter-turn T r start xs ys f₀ ready
 
-  -- Nor is it ever read with another register s, from another start, or into another buffer.
+  -- It is never read, whatever the register s, the start and the buffer that it is read with.
   pub quarter-any-register : T .mode ≡ Coded → (f : List ℕ) → AcceptedFrame T start f → (s start′ : ℕ) (f′ : List ℕ)
       → (readAt T (turned (encodeAt T start f r xs ys .ys)) (encodeAt T start f r xs ys .xs) s start′ f′ .report .verdict .number ≢ 0)
       × (readAt T (encodeAt T start f r xs ys .ys) (turned (encodeAt T start f r xs ys .xs)) s start′ f′ .report .verdict .number ≢ 0)
@@ -148,7 +150,8 @@ pub quarter-refusals : (T : Tables)
     × (firstOneBit T ≡ Nothing → firstMonitored T ≡ Nothing → nonZero T % 2 ≡ 0 → nonZero T ≢ 4 → quarterVerdict T ≡ refused 15 1)
 quarter-refusals = QuarterTurn.quarter-refusals
 
--- Coded, any 1-bit tone that is present is found: 1-bit tones stand last in t'.
+-- Coded, where 1-bit tones are present the first of them is at place NSC − (their number), for they stand last in t'; where none is, none is
+-- found.
 pub first-one-bit : (T : Tables) → T .mode ≡ Coded
     → (0 < oneBitTones T → firstOneBit T ≡ At (length (T .tones) - oneBitTones T)) × (oneBitTones T ≡ 0 → firstOneBit T ≡ Nothing)
 first-one-bit = QuarterTurn.first-one-bit
@@ -347,12 +350,24 @@ pub low-bits : (b l : ℕ) (p : Point) → 2 ≤ b → mapLabel b l ≡ toneDone
     → (bitOne (p .px) ≡ bit (bits b l) 1) × (bitOne (p .py) ≡ bit (bits b l) 0)
 low-bits = Mapping.low-bits
 
--- From 2 bits on a point turned by n quarters to the left has a label, and of that v0 and v1 are what n quarters make of them, v1 and the
--- complement of v0 with each: so every quarter makes v0 xor v1 the other bit.
+-- From 2 bits on a point turned by n quarters to the left has a label, and its two lowest bits are what n quarters make of v0 and v1: each
+-- puts v1 for v0, and the complement of v0 for v1.
 pub turned-lowest : (n b l : ℕ) (p : Point) → 2 ≤ b → mapLabel b l ≡ toneDone p
     → (m : ℕ) × (readPoint b (quarters n p) ≡ toneDone m)
     × (bit (bits b m) 0 ≡ lowQuarters n (bit (bits b l) 0) (bit (bits b l) 1) .0) × (bit (bits b m) 1 ≡ lowQuarters n (bit (bits b l) 0) (bit (bits b l) 1) .1)
 turned-lowest = Mapping.turned-lowest
+
+-- So every quarter makes v0 xor v1 the other bit.
+pub each-quarter : (n : ℕ) (v0 v1 : Bool)
+    → lowQuarters (suc n) v0 v1 .0 ⊕ lowQuarters (suc n) v0 v1 .1 ≡ not (lowQuarters n v0 v1 .0 ⊕ lowQuarters n v0 v1 .1)
+each-quarter = Quarters.each-quarter
+
+-- The lists of a turned symbol hold the points turned by so many quarters: one to the left, two by half a turn, three to the right.
+pub turned-points : (q : List Point)
+    → (points (turned (map (λ p. p .py) q)) (map (λ p. p .px) q) ≡ map (quarters 1) q)
+    × (points (turned (map (λ p. p .px) q)) (turned (map (λ p. p .py) q)) ≡ map (quarters 2) q)
+    × (points (map (λ p. p .py) q) (turned (map (λ p. p .px) q)) ≡ map (quarters 3) q)
+turned-points q = (QuarterTurn.points-left q, HalfTurn.points-turned q, QuarterTurn.points-right q)
 
 -- Two quarters are half a turn, which gives the opposite point: both bits are complemented.
 pub opposite : (b l : ℕ) (p : Point) → 2 ≤ b → mapLabel b l ≡ toneDone p

@@ -17,7 +17,7 @@ use Rattle.g9932.specs.Points.{signBit, twosComplement, pointOf, labelOf, negat
 use Rattle.g9932.specs.Answers.{OneTone, toneRefused, toneDone, mapLabel, labelFound, readPoint}
 use Rattle.g9932.proofs.Constellations.{axesPoint, point-coords}
 use Rattle.g9932.proofs.Coordinates.{coords, coords-low}
-use Rattle.g9932.proofs.Identities.{or-false}
+use Rattle.g9932.proofs.Identities.{or-false, not-not}
 use Rattle.g9932.proofs.Labels.{point-label, label-point}
 use Rattle.g9932.proofs.Quarters.{turnedLabel, length-turned, point-turned, point-opposite, one-left, one-right, lowest-turned}
 use Rattle.g9932.proofs.TwosComplement.{num-not}
@@ -101,10 +101,6 @@ second-neg zero l x h = absurd (omega arith)
 second-neg (suc n) l x h =
     let e : n ≡ weight false + 2 * (weight x + 2 * num l) = omega arith in
     rw (e, half-weight false (weight x + 2 * num l), odd-weight x (num l))
-
-not-not : (a : Bool) → not (not a) ≡ a
-not-not true = refl
-not-not false = refl
 
 twos-second : (x : Bool) (l : List Bool) → bitOne (twosComplement (true ∷ x ∷ l)) ≡ x
 unfolding twosComplement

@@ -11,10 +11,10 @@ use borrow.Author.Tests.{eqb-true, eqb-false, eq-eqb, ne-eqb, le-ltb}
 use lib.Dec.{ltb, eqb}
 use lib.IntN.{ℤ, negℤ, negℤ-negℤ}
 use lib.ListN.{length, getD, length-map}
-use Rattle.g9932.specs.Bits.{weight}
+use Rattle.g9932.specs.Bits.{first}
 use Rattle.g9932.specs.Sizes.{Tables, entry, classBy, classOf, frameBits, Point, point, points}
 use Rattle.g9932.specs.Refusals.{Verdict, refused, accepted, refuseAt}
-use Rattle.g9932.specs.Order.{count, isOne, oneBit, ones}
+use Rattle.g9932.specs.Order.{isOne, oneBit, ones, reorderedTones}
 use Rattle.g9932.specs.Points.{pointOf, quarters, labelOf}
 use Rattle.g9932.specs.Symbol.{classesBy, reorderedTonesOf, classesOf, firstMonitored, pairsIn, sizeOf, writtenPoints, offgridTest, readingIn}
 use Rattle.g9932.specs.Trellis.{breaks}
@@ -27,8 +27,8 @@ use Rattle.g9932.proofs.Accepted.{Accepted, accepted-tables}
 use Rattle.g9932.proofs.Counts.{two-loaded, two-not-one}
 use Rattle.g9932.proofs.QuarterPairs.{turned-breaks}
 use Rattle.g9932.proofs.Quarters.{quarterLeft, quarterRight, point-turned, one-left, one-right}
-use Rattle.g9932.proofs.Reordering.{length-order, count-order, first-single}
-use Rattle.g9932.proofs.Search.{first-no, first-all, first-found, first-ext}
+use Rattle.g9932.proofs.Reordering.{first-single, no-single}
+use Rattle.g9932.proofs.Search.{found-not, first-no, first-found, first-ext}
 use Rattle.g9932.proofs.Sent.{length-classes}
 use Rattle.guarantees.specs.Words.{AcceptedFrame, RightLength, Ready, nonZero, oneBitTones, turned, firstOneBit, quarterPair, quarterVerdict}
 use Rattle.guarantees.proofs.Operations.{not-broken, read-points}
@@ -58,25 +58,13 @@ two-four n p h e = go (eqb n 4) refl
     go true s = let i = eqb-true n 4 s in eq-eqb p 2 (omega arith)
     go false s = ne-eqb p 2 (λ i. eqb-false n 4 s (omega arith))
 
--- no tone of 1 bit among some tones, none counted
-none-counted : (b t : List ℕ) → ((k : ℕ) → k < length t → oneBit b (entry t k) ≡ false) → count (oneBit b) t ≡ 0
-unfolding weight
-none-counted b [] h = refl
-none-counted b (j ∷ t) h = rw (h 0 (omega arith)) (omega (arith, none-counted b t (λ k l. h (suc k) (omega arith))))
-
-none-there : (b t : List ℕ) → count (oneBit b) t ≡ 0 → (k : ℕ) → k < length t → oneBit b (entry t k) ≡ false
-unfolding weight
-none-there b [] z k h = absurd (omega arith)
-none-there b (j ∷ t) z zero h = go (oneBit b j) refl
+-- where no 1-bit tone is found in t', none is counted
+none-counted : (b t : List ℕ) → first (λ k. oneBit b (entry (reorderedTones Coded b t) k)) (length t) ≡ Nothing → ones b t ≡ 0
+none-counted b t e = go (ones b t) refl
   where
-    go : (s : Bool) → oneBit b j ≡ s → s ≡ false
-    go false e = refl
-    go true e = absurd (omega (arith, rw e at z))
-none-there b (j ∷ t) z (suc k) h = none-there b t (omega arith) k (omega arith)
-
-ones-counted : (b t : List ℕ) → ones b t ≡ count (oneBit b) t
-ones-counted b [] = refl
-ones-counted b (j ∷ t) = ap (λ (n : ℕ). weight (oneBit b j) + n) (ones-counted b t)
+    go : (n : ℕ) → ones b t ≡ n → n ≡ 0
+    go zero h = refl
+    go (suc n) h = absurd (found-not (sym (first-single b t (omega arith)) ∙ e))
 
 -- ---- a turn that takes 1-bit points off their constellation, and makes v0 xor v1 of every longer label the other bit
 
@@ -112,9 +100,7 @@ module _ (turn : PointTurn) (two : turn .least ≡ 2) (flips : turn .labels .fli
       broken e =
           let c = a .coded m in
           let no : (k : ℕ) → k < length (T .tones) → oneBit (T .bits) (entry (reorderedTonesOf T) k) ≡ false = first-no _ (length (T .tones)) e in
-          let z : ones (T .bits) (T .tones) ≡ 0 =
-          ones-counted (T .bits) (T .tones) ∙ sym (count-order (T .bits) (T .tones) (T .mode) (oneBit (T .bits)))
-          ∙ none-counted (T .bits) (reorderedTonesOf T) (λ k h. no k (omega (arith, a .orderLength))) in
+          let z : ones (T .bits) (T .tones) ≡ 0 = none-counted (T .bits) (T .tones) (rw m at e) in
           let p = two-four (nonZero T) (length (pairsIn T)) (rw (is-N T a m) (c .enoughEntries))
           (c .pairsLength ∙ ap (λ (n : ℕ). (n + 1) / 2) (sym (c .entriesLength) ∙ sym (is-N T a m))) in
           turned-reading turn T a m r start f ok
@@ -122,7 +108,7 @@ module _ (turn : PointTurn) (two : turn .least ≡ 2) (flips : turn .labels .fli
           (λ d l. rw z)
           ∙ rw p at (turned-breaks (turn .labels) flips (isOne (nonZero T % 2)) (pairsIn T) (frameBits start (sizeOf T) f) (formed-as T a m _ refl) (taken-bits T a m start f ok))
 
-      pub points-refused : pointsVerdict T q r ≡ quarterVerdict T
+      points-refused : pointsVerdict T q r ≡ quarterVerdict T
       unfolding refuseAt
       points-refused = verdict-turned turn T a m r start f ok ∙ rw is-13 (go (firstOneBit T) refl)
         where
@@ -133,7 +119,7 @@ module _ (turn : PointTurn) (two : turn .least ≡ 2) (flips : turn .labels .fli
           go Nothing e = rw (broken e)
 
       -- no register reads the points
-      pub never-read : (X Y : List ℤ) → points X Y ≡ q → (s start′ : ℕ) (f′ : List ℕ) → readAt T X Y s start′ f′ .report .verdict .number ≢ 0
+      never-read : (X Y : List ℤ) → points X Y ≡ q → (s start′ : ℕ) (f′ : List ℕ) → readAt T X Y s start′ f′ .report .verdict .number ≢ 0
       never-read X Y are s start′ f′ h = go (firstOneBit T) refl
         where
           go : (o : Found) → firstOneBit T ≡ o → ⊥
@@ -183,11 +169,10 @@ module _ (T : Tables) where
   pub first-one-bit : T .mode ≡ Coded → (0 < oneBitTones T → firstOneBit T ≡ At (length (T .tones) - oneBitTones T)) × (oneBitTones T ≡ 0 → firstOneBit T ≡ Nothing)
   first-one-bit m = (
     λ h. rw m (first-single (T .bits) (T .tones) h),
-    λ z. first-all _ (length (T .tones)) (λ k h. none-there (T .bits) (reorderedTonesOf T) (count-order (T .bits) (T .tones) (T .mode) (oneBit (T .bits)) ∙ sym (ones-counted (T .bits) (T .tones)) ∙ z) k
-        (omega (arith, length-order (T .bits) (T .tones) (T .mode)))),
+    λ z. rw m (no-single (T .bits) (T .tones) z),
   )
 
-pub quarter-number : (T : Tables) → quarterVerdict T .number ≢ 0
+quarter-number : (T : Tables) → quarterVerdict T .number ≢ 0
 unfolding refuseAt
 quarter-number T = go (firstOneBit T) (firstMonitored T)
   where

@@ -49,26 +49,26 @@ pub record Ready (T : Tables) (r start : ℕ) (xs ys : List ℤ) (f : List ℕ) 
 abbrev pub nonZero : Tables → ℕ
 nonZero T = count (ltb 0) (reorderedBitsOf T)
 
--- Half a turn puts (−X, −Y) for (X, Y) at every place in t', whatever the tone's class: on each of the two lists.
+-- Half a turn puts (−X, −Y) for (X, Y) at every place in t', whatever the tone's class: on each of the two lists it changes the signs.
 abbrev pub turned : List ℤ → List ℤ
 turned xs = map negℤ xs
 
 -- ---- a quarter turn (request R-14)
 
--- A quarter turn puts (−Y, X) for (X, Y) at every place in t', to the left, or (Y, −X), to the right: the lists are exchanged, and one of
--- them is `turned`.
+-- A quarter turn puts (−Y, X) for (X, Y) at every place in t', to the left, or (Y, −X), to the right. So of the lists X and Y the first
+-- makes `turned Y` and X, the second Y and `turned X`: `turned` changes the signs of one list.
 
 -- the first 1-bit tone, in t' order
 abbrev pub firstOneBit : Tables → Found
 firstOneBit T = first (λ k. oneBit (T .bits) (entry (reorderedTonesOf T) k)) (length (T .tones))
 
--- the pair that breaks the code: pair 0 where N is odd, by its u0, or where N is 4, so that it is one of the last two, by its u1; else
--- pair 1, by its u0
+-- the pair that breaks the code where no 1-bit tone is: pair 0 if N is odd, by its u0, or if N is 4, so that it is one of the last two, by
+-- its u1; else pair 1, by its u0
 abbrev pub quarterPair : Tables → ℕ
 quarterPair T = cond (isOne (nonZero T % 2) || eqb (nonZero T) 4) 0 1
 
 -- The verdict on a written symbol that is turned by a quarter, either way, in coded mode: OFFGRID at the first 1-bit tone; if there is none,
--- MONITOR at the first monitored one; if there is neither, TRELLIS.
+-- MONITOR at the first monitored one; if there is neither, TRELLIS at that pair.
 abbrev pub quarterVerdict : Tables → Verdict
 quarterVerdict T =
     refuseAt 13 (firstOneBit T)

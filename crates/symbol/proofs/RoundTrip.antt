@@ -4,7 +4,7 @@
 use Prim.Native.Nat.{ℕ, _%_, _<_}
 use mathlib.Core.Bool.{false, cond, true≢false}
 use mathlib.Core.List.{List, map}
-use mathlib.Core.Logic.{_↔_, _≢_, _⊎_, inl, inr}
+use mathlib.Core.Logic.{_↔_, _≢_, _⊎_, ⊎-elim}
 use mathlib.Core.Path.{_≡_, refl, sym, ap, ap₂, _∙_, subst}
 use lib.Dec.{eqb}
 use lib.IntN.{ℤ}
@@ -123,10 +123,17 @@ module _ (T : Tables) (start : ℕ) (f : List ℕ) (r : ℕ) (xs ys : List ℤ) 
     pub read-back : Reads T X Y r start f₀ a g → (a ≡ Done l s) × (g ≡ f)
     read-back h = let w = if T r start xs ys f₀ ready X Y a g h f (Done l s) ok e in (w .0 ∙ sym answer-is, w .1)
 
-    quarter-answer : (A B : List ℤ) → Reads T A B r start f₀ a g
-        → readAt T A B r start f₀ ≡ record { report = record { verdict = quarterVerdict T; register = r }; frame = f₀ }
-        → (reportOf a ≡ record { verdict = quarterVerdict T; register = r }) × (g ≡ f₀)
-    quarter-answer A B h is = (h .answer ∙ ap (λ (x : Read). x .report) is, h .frameHolds ∙ ap (λ (x : Read). x .frame) is)
+    -- where reading is refused, the answer is a refusal, with the register and the buffer as they came
+    unchanged : (A B : List ℤ) → Reads T A B r start f₀ a g → readAt T A B r start f₀ .report .verdict .number ≢ 0
+        → (x : Refusal) × (a ≡ NotDone x r) × (g ≡ f₀)
+    unchanged A B h some = go a (h .answer)
+      where
+        kept : (readAt T A B r start f₀ .report .register ≡ r) × (readAt T A B r start f₀ .frame ≡ f₀) × (readAt T A B r start f₀ .report .verdict .size ≡ 0)
+        kept = Guarantees.refused-reading T A B r start f₀ some
+
+        go : (b : Answer) → reportOf b ≡ readAt T A B r start f₀ .report → (x : Refusal) × (b ≡ NotDone x r) × (g ≡ f₀)
+        go (Done k n) is = absurd (some (ap (λ (p : Report). p .verdict .number) (sym is)))
+        go (NotDone x n) is = (x, ap (NotDone x) (ap (λ (p : Report). p .register) is ∙ kept .0), h .frameHolds ∙ kept .1)
 
     -- Coded, of the lists turned by half a turn:
     module _ (coded : T .mode ≡ Coded) (h : Reads T (turned X) (turned Y) r start f₀ a g) where
@@ -153,17 +160,11 @@ module _ (T : Tables) (start : ℕ) (f : List ℕ) (r : ℕ) (xs ys : List ℤ) 
           let q = only T r start xs ys f₀ ready _ _ a g here (HalfTurn.right T r start xs ys f₀ ready coded f ok) (number-is ∙ w .0) in
           (if T r start xs ys f₀ ready _ _ a g here g a (q .0) (q .1) .0 ∙ sym answer-is, q .0, λ same. w .2 (sym (here .frameHolds) ∙ same))
 
-      unchanged : (b : Answer) → reportOf b ≡ read .report → read .report .verdict .number ≢ 0 → (x : Refusal) × (b ≡ NotDone x r) × (g ≡ f₀)
-      unchanged (Done k n) is some = absurd (some (ap (λ (p : Report). p .verdict .number) (sym is)))
-      unchanged (NotDone x n) is some =
-          let k = Guarantees.refused-reading T _ _ r start f₀ some in
-          (x, ap (NotDone x) (ap (λ (p : Report). p .register) is ∙ k .0), here .frameHolds ∙ k .1)
-
       -- it is read, as another frame, exactly when no tone is monitored and the count of non-zero re-ordered entries is even;
       -- otherwise it is refused, with the register and the buffer as they came:
       pub turned-read : (((a ≡ Done l s) × AcceptedFrame T start g × (g ≢ f)) ↔ ((firstMonitored T ≡ Nothing) × (nonZero T % 2 ≡ 0)))
           × (((firstMonitored T ≡ Nothing) × (nonZero T % 2 ≡ 0) → ⊥) → (x : Refusal) × (a ≡ NotDone x r) × (g ≡ f₀))
-      turned-read = ((even, another), λ other. unchanged a (here .answer) (Guarantees.half-turn-refused T r start xs ys f₀ ready coded f ok other))
+      turned-read = ((even, another), λ other. unchanged _ _ here (Guarantees.half-turn-refused T r start xs ys f₀ ready coded f ok other))
 
       as-refused : (n k : ℕ) → eqb n 0 ≡ false → read .report .verdict ≡ refused n k
           → (reportOf a ≡ record { verdict = refused n k; register = r }) × (g ≡ f₀)
@@ -181,12 +182,24 @@ module _ (T : Tables) (start : ℕ) (f : List ℕ) (r : ℕ) (xs ys : List ℤ) 
       turned-odd m n =
           as-refused 15 (cond (eqb (length (pairsIn T)) 3) 1 2) refl (Guarantees.half-turn-odd T r start xs ys f₀ ready coded f ok m n)
 
-    -- Coded, of the lists turned by a quarter, to the left or to the right, it is always refused, with the register and the buffer as they
-    -- came: OFFGRID at the first 1-bit tone, or else MONITOR at the first monitored one, or else TRELLIS at pair 0 or 1.
+    -- Coded, of the lists turned by a quarter, (−Y, X) or (Y, −X) for every (X, Y), it is always refused, with the register and the buffer as
+    -- they came: OFFGRID at the first 1-bit tone, or else MONITOR at the first monitored one, or else TRELLIS at pair 0 or 1
+    -- (`quarter-refusals` on the page of guarantees says which).
     pub quarter-refused : T .mode ≡ Coded → Reads T (turned Y) X r start f₀ a g ⊎ Reads T Y (turned X) r start f₀ a g
-        → (reportOf a ≡ record { verdict = quarterVerdict T; register = r }) × (g ≡ f₀)
-    quarter-refused coded (inl h) = quarter-answer (turned Y) X h (rw (e .xsHold, e .ysHold) (Guarantees.quarter-turn T r start xs ys f₀ ready coded f ok .0))
-    quarter-refused coded (inr h) = quarter-answer Y (turned X) h (rw (e .xsHold, e .ysHold) (Guarantees.quarter-turn T r start xs ys f₀ ready coded f ok .1))
+        → (reportOf a ≡ record { verdict = quarterVerdict T; register = r }) × (x : Refusal) × (a ≡ NotDone x r) × (g ≡ f₀)
+    quarter-refused coded = ⊎-elim (answer (turned Y) X (both .0) (no .0)) (answer Y (turned X) (both .1) (no .1))
+      where
+        both : (readAt T (turned Y) X r start f₀ ≡ record { report = record { verdict = quarterVerdict T; register = r }; frame = f₀ })
+            × (readAt T Y (turned X) r start f₀ ≡ record { report = record { verdict = quarterVerdict T; register = r }; frame = f₀ })
+        both = rw (e .xsHold, e .ysHold) (Guarantees.quarter-turn T r start xs ys f₀ ready coded f ok)
+
+        no : (readAt T (turned Y) X r start f₀ .report .verdict .number ≢ 0) × (readAt T Y (turned X) r start f₀ .report .verdict .number ≢ 0)
+        no = rw (e .xsHold, e .ysHold) (Guarantees.quarter-turn-refused T r start xs ys f₀ ready coded f ok)
+
+        answer : (A B : List ℤ) → readAt T A B r start f₀ ≡ record { report = record { verdict = quarterVerdict T; register = r }; frame = f₀ }
+            → readAt T A B r start f₀ .report .verdict .number ≢ 0 → Reads T A B r start f₀ a g
+            → (reportOf a ≡ record { verdict = quarterVerdict T; register = r }) × (x : Refusal) × (a ≡ NotDone x r) × (g ≡ f₀)
+        answer A B is some h = let u = unchanged A B h some in (h .answer ∙ ap (λ (x : Read). x .report) is, u .0, u .1, u .2)
 
 -- Two accepted frames encoded with the same tables, register and start, in any lent lists, give the same X and Y exactly when they are
 -- the same frame.
