@@ -11,12 +11,17 @@ mod distance_words;
 mod encode;
 mod figures;
 mod first_tone;
+mod ground_fields;
 mod judge;
+mod judged_report;
 mod nearest;
 mod pages;
 mod picture;
+mod quarter_words;
 mod read;
 mod reading;
+mod readings;
+mod register_words;
 mod report;
 mod tables;
 mod tone;
@@ -24,8 +29,10 @@ mod tone_words;
 mod totals;
 mod turn;
 mod verdict;
+mod verdict_theorems;
 mod verdict_totals;
 mod verdict_words;
+mod whole;
 
 use crate::call::{Command, Operand};
 use crate::options::{

@@ -1,0 +1,56 @@
+//! A quarter turn whose side is not told, in one sentence for the jointer.
+
+use super::reading::Tables;
+use super::register_words::register_words;
+use super::tone_words::{enough, too_few};
+use super::verdict::{Ground, Verdict};
+use super::verdict_theorems::theorems_of_readings;
+use super::verdict_words::{even, only_with, NO_TONE, SPARE};
+use crate::theorems::named;
+use crate::way::Way;
+
+/// Of a symbol for which the two quarter turns say so, which is none that is sure.
+pub fn quarter_sentence(seen: Verdict, tables: &Tables, ground: &Ground) -> String {
+    let theorems = theorems_of_readings(Verdict::Quarter, ground, tables.set.coded);
+    format!(
+        "Turned by a quarter: every (X, Y) came as (-Y, X), to the left, or every one as (Y, -X), to the \
+         right, so look at the hybrid; {}; swapping the clips does not mend it, for it only makes it a \
+         quarter to the other side, and that it is a quarter turn holds whatever the register{}.",
+        side(seen, tables, ground),
+        named(&theorems)
+    )
+}
+
+/// What speaks for a side, or why nothing does, and what would tell it.
+fn side(seen: Verdict, tables: &Tables, ground: &Ground) -> String {
+    let told = match (seen, ground) {
+        (Verdict::Perhaps(way), _) => {
+            let side = match way {
+                Way::QuarterRight => "right",
+                _ => "left",
+            };
+            let only = only_with(ground);
+            format!("perhaps it is to the {side}, for the points are read so and not the other way, {only}")
+        }
+        (_, Ground::Tones(known)) => format!(
+            "the side is not told, for with {} the points are refused both ways",
+            register_words(known)
+        ),
+        (_, Ground::TooFew(reach)) => format!(
+            "the side is not told, for the points are read both ways: {}",
+            too_few(*reach, "the 23 bits of the register")
+        ),
+        _ => {
+            let even = even(tables.order.loaded());
+            return format!(
+                "nothing can tell the side, for the points are read both ways, because {NO_TONE} and \
+                 {even}; {SPARE} would tell it"
+            );
+        }
+    };
+    format!(
+        "{told}; the writer's register (--register N) would settle the side, and so would --register \
+         find from {}",
+        enough(tables)
+    )
+}
