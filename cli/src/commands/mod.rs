@@ -89,7 +89,7 @@ pub const COMMANDS: [Command; 13] = [
         name: "turn",
         operands: &[TABLES, POINTS],
         options: &[&REGISTER_OR_FIND, &START, &SVG, &STOP, &JSON],
-        about: "tell whether the clips are the wrong way round",
+        about: "tell whether the clips are the wrong way round, or points turned by a quarter",
         details: details::TURN,
         run: turn::turn,
     },

@@ -24,27 +24,20 @@ pub fn quarter_sentence(seen: Verdict, tables: &Tables, ground: &Ground) -> Stri
 /// What speaks for a side, or why nothing does, and what would tell it.
 fn side(seen: Verdict, tables: &Tables, ground: &Ground) -> String {
     let told = match (seen, ground) {
-        (Verdict::Perhaps(way), _) => {
-            let side = match way {
-                Way::QuarterRight => "right",
-                _ => "left",
-            };
-            let only = only_with(ground);
-            format!("perhaps it is to the {side}, for the points are read so and not the other way, {only}")
-        }
+        (Verdict::Perhaps(way), _) => perhaps(way, ground),
         (_, Ground::Tones(known)) => format!(
-            "the side is not told, for with {} the points are refused both ways",
-            register_words(known)
+            "the side is not told, for the points are refused as turned to either with {}",
+            register_words(known).trim_end_matches(',')
         ),
         (_, Ground::TooFew(reach)) => format!(
-            "the side is not told, for the points are read both ways: {}",
+            "the side is not told, for the points are read as turned to either: {}",
             too_few(*reach, "the 23 bits of the register")
         ),
         _ => {
             let even = even(tables.order.loaded());
             return format!(
-                "nothing can tell the side, for the points are read both ways, because {NO_TONE} and \
-                 {even}; {SPARE} would tell it"
+                "nothing can tell the side, for the points are read as turned to either, because \
+                 {NO_TONE} and {even}; {SPARE} would tell it"
             );
         }
     };
@@ -52,5 +45,17 @@ fn side(seen: Verdict, tables: &Tables, ground: &Ground) -> String {
         "{told}; the writer's register (--register N) would settle the side, and so would --register \
          find from {}",
         enough(tables)
+    )
+}
+
+fn perhaps(way: Way, ground: &Ground) -> String {
+    let (side, other) = match way {
+        Way::QuarterRight => ("right", "left"),
+        _ => ("left", "right"),
+    };
+    format!(
+        "perhaps it is to the {side}, for the points are read as turned to the {side} and not as turned \
+         to the {other}, {}",
+        only_with(ground)
     )
 }
