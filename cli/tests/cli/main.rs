@@ -17,6 +17,7 @@ mod nearest_svg;
 mod output;
 mod pages;
 mod quarter;
+mod quarter_rests;
 mod quarter_uncoded;
 mod random_set;
 mod readme;

@@ -1,7 +1,6 @@
 //! `turn` on points that are turned by a quarter: to which side, on what that rests, and where it is
 //! open.
 
-use crate::json::{inner, list, object, text, Value};
 use crate::run::{
     equal, example, find, quarter_left, quarter_right, run, run_with, tables, turned, written, Ran,
 };
@@ -210,162 +209,25 @@ fn the_examples() {
         let points = format!("examples/{points}-quarter.csv");
         told(&run(&[&["turn", set, &points], words].concat()), begins);
     }
-    // What the files say of themselves.
-    let same = |one: &str, other: &str| {
+}
+
+/// What the files say of themselves.
+#[test]
+fn the_examples_are_turned_from_others() {
+    let same = |name: &str, other: String| {
         let bare = |text: &str| -> Vec<String> {
             let points = text
                 .lines()
                 .filter(|line| line.contains(',') && !line.contains(['#', 'x']));
             points.map(str::to_string).collect()
         };
-        assert_eq!(bare(one), bare(other));
+        assert_eq!(bare(&example(&format!("{name}-quarter.csv"))), bare(&other));
     };
-    same(
-        &example("bench-a-quarter.csv"),
-        &quarter_left(&example("bench-a.csv")),
-    );
-    same(
-        &example("cannot-tell-quarter.csv"),
-        &quarter_left(&example("cannot-tell.csv")),
-    );
-    same(
-        &example("clip-quarter.csv"),
-        &quarter_left(&example("clip-straight.csv")),
-    );
+    same("bench-a", quarter_left(&example("bench-a.csv")));
+    same("cannot-tell", quarter_left(&example("cannot-tell.csv")));
+    same("clip", quarter_left(&example("clip-straight.csv")));
     let straight = turned(&example("twelve-monitored-turned.csv"));
-    same(
-        &example("twelve-monitored-quarter.csv"),
-        &quarter_left(&straight),
-    );
+    same("twelve-monitored", quarter_left(&straight));
     let straight = turned(&example("five-twos-turned.csv"));
-    same(&example("five-twos-quarter.csv"), &quarter_right(&straight));
-}
-
-#[test]
-fn json() {
-    let theorems = |names: &[&str]| Value::List(names.iter().map(|name| text(name)).collect());
-    for (words, verdict, condition, names) in [
-        (
-            &["--register=8388607"] as &[&str],
-            "quarter left",
-            text("the register that was given is the writer's"),
-            &["half-turn-monitored", "quarter-any-register"] as &[&str],
-        ),
-        (&[], "quarter", Value::Null, &["quarter-any-register"]),
-        (
-            &["--register=1"],
-            "quarter",
-            Value::Null,
-            &["quarter-any-register"],
-        ),
-    ] {
-        let call = ["turn", A, "examples/bench-a-quarter.csv", "--json"];
-        let ran = run(&[&call, words].concat());
-        let json = object(&ran);
-        assert_eq!((ran.status, &json["verdict"]), (37, &text(verdict)));
-        assert_eq!(json["sure"], Value::Flag(true));
-        let ground = inner(&json, "rests_on");
-        assert_eq!(
-            (&ground["holds_if"], &ground["theorems"]),
-            (&condition, &theorems(names))
-        );
-        assert_eq!(json["name"], text("OFFGRID"));
-        assert_eq!(inner(&json, "turned")["name"], text("OFFGRID"));
-        let read = inner(&json, "quarter_left");
-        let frame = if words == ["--register=1"] {
-            Value::Null
-        } else {
-            text("15")
-        };
-        assert_eq!(read["frame"], frame, "{}", ran.out);
-        assert_eq!(inner(&json, "quarter_right")["name"], text("MONITOR"));
-    }
-}
-
-/// The ways without a quarter turn name their theorems too.
-#[test]
-fn theorems_of_the_other_verdicts() {
-    let half = "examples/bench-a-turned.csv";
-    for (set, points, words, names) in [
-        (
-            A,
-            half,
-            "--register=8388607",
-            "theorems half-turn-monitored, quarter-any-register",
-        ),
-        (
-            ODD,
-            "examples/five-twos-turned.csv",
-            "--start=0",
-            "theorems half-turn-any-register, quarter-any-register",
-        ),
-        (
-            TWELVE,
-            "examples/twelve-monitored-turned.csv",
-            "--register=find",
-            "theorems half-turn-monitored, quarter-any-register",
-        ),
-        (
-            EVEN,
-            "examples/cannot-tell.csv",
-            "--start=0",
-            "theorems half-turn, quarter-any-register",
-        ),
-        (A, half, "--register=find", "theorem quarter-any-register"),
-    ] {
-        let ran = run(&["turn", set, points, words]);
-        assert!(
-            ran.line(0).ends_with(&format!(" ({names}).")),
-            "{}",
-            ran.out
-        );
-        let json = object(&run(&["turn", set, points, words, "--json"]));
-        let listed = inner(&json, "rests_on")["theorems"].clone();
-        let names = names.split_once(' ').unwrap().1;
-        let names = names.split(", ").map(text).collect();
-        assert_eq!(listed, Value::List(names));
-    }
-    // Where nothing is sure, there is none.
-    for points in [half, "examples/clip-neither.csv"] {
-        let set = if points == half {
-            A
-        } else {
-            "examples/clip.txt"
-        };
-        let json = object(&run(&["turn", set, points, "--json"]));
-        assert_eq!(inner(&json, "rests_on")["theorems"], Value::List(vec![]));
-        assert!(!run(&["turn", set, points]).line(0).contains("theorem"));
-    }
-}
-
-#[test]
-fn no_way_at_all_is_read() {
-    for points in [
-        "2,2\n".repeat(6),
-        "-32768,-32768\n".repeat(6),
-        "-99999,99999\n".repeat(6),
-    ] {
-        let ran = turn(A, &points, &["--register=8388607"]);
-        assert_eq!(ran.status, 34, "{}", ran.out);
-        let words =
-            "Neither: the points are refused all four ways whatever the register, so look for";
-        assert!(ran.line(0).starts_with(words), "{}", ran.out);
-        assert!((1..5).all(|line| ran.line(line).contains("refused, 13 OFFGRID at place 0")));
-        assert_eq!(ran.out.lines().count(), 5);
-    }
-    // The symbol of another register: another one reads it, and that one does not.
-    let points = written(A, "15", 1);
-    let ran = turn(A, &points, &["--register=8388607"]);
-    let words =
-        "Neither: the points are refused all four ways with register 8388607, which was given, so";
-    assert!(
-        ran.status == 34 && ran.line(0).starts_with(words),
-        "{}",
-        ran.out
-    );
-    let json = object(&turn(A, &points, &["--register=8388607", "--json"]));
-    assert!(["turned", "quarter_left", "quarter_right"]
-        .iter()
-        .all(|key| { inner(&json, key)["number"] != Value::Number(0) }));
-    assert!(list(&inner(&json, "rests_on")["theorems"]).is_empty());
+    same("five-twos", quarter_right(&straight));
 }

@@ -141,6 +141,11 @@ fn refusals_of_read_name_a_quarter_turn() {
         let words = "and whether all points are turned by a quarter (see `turn`).";
         assert!(ran.line(2).ends_with(words), "{}", ran.out);
     }
+}
+
+/// Uncoded, `turn` is no help.
+#[test]
+fn refusals_of_uncoded_points_do_not_name_turn() {
     let set = tables(
         "quarter-read.txt",
         "uncoded",
