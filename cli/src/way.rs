@@ -67,3 +67,38 @@ impl Way {
         }
     }
 }
+
+#[cfg(test)]
+mod tests {
+    use super::{Family, Way};
+
+    /// What the turn does, and that it is undone.
+    #[test]
+    fn each_turn_is_undone() {
+        for (x, y) in [(1, 1), (-3, 5), (0, 0), (191, -7)] {
+            for (way, came) in [
+                (Way::Straight, (x, y)),
+                (Way::Turned, (-x, -y)),
+                (Way::QuarterLeft, (-y, x)),
+                (Way::QuarterRight, (y, -x)),
+            ] {
+                assert_eq!(way.undone(came, |number: i16| -number), (x, y));
+            }
+        }
+    }
+
+    /// The ways of a family are half a turn apart.
+    #[test]
+    fn families_are_half_a_turn_apart() {
+        let opposite = |number: i16| -number;
+        for family in [Family::Halves, Family::Quarters] {
+            let [first, other] = family.ways();
+            let half = Way::Turned.undone((3, -5), opposite);
+            assert_eq!(
+                first.undone(half, opposite),
+                other.undone((3, -5), opposite)
+            );
+            assert!(first.family() == family && other.family() == family);
+        }
+    }
+}

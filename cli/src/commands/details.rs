@@ -83,14 +83,14 @@ examples
 
 pub const TURN: &str = "\
 Reads the points as they came and turned by half a turn (every x,y as -x,-y), of coded tables turned
-by a quarter too (every x,y as -y,x to the left, as y,-x to the right), and says in one sentence what
-to tell the jointer, and what that rests on. A line that begins with quarter left is of the points as
-they were if they have come turned to the left, and the others alike.
+by a quarter too (every x,y as -y,x to the left, as y,-x to the right), and says in one sentence
+what to tell the jointer, and what that rests on. The line quarter left says how the points are read
+if that is how they came, and the other lines alike.
 
-Coded, whether it is a quarter turn is sure whatever the register: a symbol that was written and
-turned by a quarter is never read, with no register (theorem quarter-any-register). Swapping the
-clips does not mend it. To which side it is, is told as straight is told from turned. Uncoded,
-quarter turns are not told, and what is sure whatever the register holds if there is none.
+Coded, whether it is a quarter turn is sure: a symbol that was written and turned by a quarter is
+never read, whatever the register (theorem quarter-any-register). Swapping the clips does not mend
+it. To which side it is turned is told as straight is told from turned. Uncoded, quarter turns are
+not told, and what is sure whatever the register holds if there is none.
 
 Without --register the value at reset is assumed; then the verdict is only perhaps so, unless 12
 monitored tones of one symbol agree, or 32 of several. With --register N it holds if N is the

@@ -5,7 +5,7 @@ use super::register_words::register_words;
 use super::tone_words::{enough, too_few};
 use super::verdict::{Ground, Verdict};
 use super::verdict_theorems::theorems_of_readings;
-use super::verdict_words::{even, only_with, NO_TONE, SPARE};
+use super::verdict_words::{even, only_with, NO_TONE, QUARTER_SURE, SPARE};
 use crate::theorems::named;
 use crate::way::Way;
 
@@ -15,7 +15,7 @@ pub fn quarter_sentence(seen: Verdict, tables: &Tables, ground: &Ground) -> Stri
     format!(
         "Turned by a quarter: every (X, Y) came as (-Y, X), to the left, or every one as (Y, -X), to the \
          right, so look at the hybrid; {}; swapping the clips does not mend it, for it only makes it a \
-         quarter to the other side, and that it is a quarter turn holds whatever the register{}.",
+         quarter to the other side{QUARTER_SURE}{}.",
         side(seen, tables, ground),
         named(&theorems)
     )

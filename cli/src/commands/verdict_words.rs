@@ -15,6 +15,11 @@ pub const SPARE: &str = "a spare tone with 0 bits and a gain";
 
 pub const NO_TONE: &str = "this table set monitors no tone";
 
+/// What is sure of every quarter turn that is told.
+pub const QUARTER_SURE: &str =
+    ", and of points that came as they were written but for a turn it is a \
+                                quarter turn whatever the register";
+
 /// What is told of the clips, where it is.
 pub fn told(way: Way) -> &'static str {
     match way {
@@ -95,7 +100,7 @@ fn sure_sentence(way: Way, tables: &Tables, ground: &Ground) -> String {
 /// What is sure of a quarter turn, where the theorems are not of the way alone.
 fn quarter_or_not(way: Way, theorems: &[&str]) -> &'static str {
     match (way.family(), theorems) {
-        (Family::Quarters, _) => ", and that it is a quarter turn holds whatever the register",
+        (Family::Quarters, _) => QUARTER_SURE,
         (Family::Halves, [QUARTER_ANY]) => "; nor is it a quarter turn",
         (Family::Halves, _) => "",
     }

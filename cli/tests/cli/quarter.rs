@@ -13,7 +13,10 @@ const RESET: u32 = 8_388_607;
 
 /// What every quarter turn says at its end, with the theorems.
 fn surely(theorems: &str) -> String {
-    format!(", and that it is a quarter turn holds whatever the register ({theorems}).")
+    format!(
+        ", and of points that came as they were written but for a turn it is a quarter turn whatever the \
+         register ({theorems})."
+    )
 }
 
 fn turn(set: &str, points: &str, words: &[&str]) -> Ran {
