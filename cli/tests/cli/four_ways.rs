@@ -2,7 +2,7 @@
 //! turn is never taken for another way, and with the writer's register `turn` and `clip` say the
 //! same way where a tone is monitored.
 
-use crate::json::{inner, object, text, Value};
+use crate::json::{inner, parsed, text, Value};
 use crate::random_set::Set;
 use crate::run::{numbers, quarter_left, quarter_right, run_with, turned};
 
@@ -20,7 +20,7 @@ fn ways(points: &str) -> [(String, &'static str, bool); 4] {
 fn asked(command: &str, set: &str, points: &str, words: &[&str]) -> (i32, Value) {
     let words = [&[command, set, "-", "--json"], words].concat();
     let ran = run_with(points.as_bytes(), &words);
-    (ran.status, object(&ran)["verdict"].clone())
+    (ran.status, parsed(&ran)["verdict"].clone())
 }
 
 fn status(way: &str) -> i32 {
@@ -80,7 +80,7 @@ fn whatever_the_register_a_quarter_turn_is_told_from_the_others() {
                 let words = [&["turn", name.as_str(), "-", "--json"], words].concat();
                 let ran = run_with(points.as_bytes(), &words);
                 assert_eq!(ran.status == 37, quarter, "{way} {words:?}: {}", ran.out);
-                let json = object(&ran);
+                let json = parsed(&ran);
                 let ground = inner(&json, "rests_on");
                 let told = json["sure"] == Value::Flag(true) && ground["holds_if"] == Value::Null;
                 if told && json["verdict"] != text("quarter") {
@@ -91,4 +91,32 @@ fn whatever_the_register_a_quarter_turn_is_told_from_the_others() {
         }
     }
     assert!(sides > 50, "{sides}");
+}
+
+/// The one refusal of a written symbol turned by a quarter, whatever the frame.
+#[test]
+fn exact_reading_has_one_answer_to_a_quarter_turn() {
+    let mut random = numbers(16);
+    let mut counts = [0; 3];
+    for number in 0..90 {
+        let set = Set::random(&mut random, [0, 0, 1][number % 3]);
+        let name = set.write("four-ways-answer.txt");
+        let register = 1 + random(8_388_607) as u32;
+        let points = set.symbol(&mut random, register);
+        let pair = usize::from(!(set.is_odd() || set.loaded() == 4));
+        let (refusal, place) = match (set.first_place(1), set.first_place(0)) {
+            (Some(one), _) => (13, one),
+            (None, Some(monitored)) => (14, monitored),
+            (None, None) => (15, pair),
+        };
+        for points in [quarter_left(&points), quarter_right(&points)] {
+            let register = register.to_string();
+            let words = ["read", &name, "-", "--json", "--register", &register];
+            let ran = run_with(points.as_bytes(), &words);
+            let told = parsed(&ran)["place"].clone();
+            assert_eq!((ran.status, told), (refusal, Value::Number(place as i64)));
+        }
+        counts[refusal as usize - 13] += 1;
+    }
+    assert!(counts.iter().all(|&count| count > 5), "{counts:?}");
 }

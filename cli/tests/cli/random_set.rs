@@ -1,7 +1,7 @@
 //! Small coded table sets that look random, and their symbols.
 
 use crate::run::file;
-use clevisroot_sys::{check, encode, Tables};
+use clevisroot_sys::{check, encode, reorder, Tables};
 
 /// A small coded table set: bits and gains by sub-carrier, and t.
 pub struct Set {
@@ -51,11 +51,25 @@ impl Set {
         file(name, text)
     }
 
-    /// Whether the count of non-zero re-ordered entries is odd.
-    pub fn is_odd(&self) -> bool {
+    /// The count of non-zero re-ordered entries.
+    pub fn loaded(&self) -> usize {
         let count = |of: fn(&&u8) -> bool| self.bits.iter().filter(of).count();
-        let entries = count(|bits| **bits > 1) + count(|bits| **bits == 1) / 2;
-        entries % 2 == 1
+        count(|bits| **bits > 1) + count(|bits| **bits == 1) / 2
+    }
+
+    pub fn is_odd(&self) -> bool {
+        self.loaded() % 2 == 1
+    }
+
+    /// The first place in t' of a tone with these bits and, if it has 0, a gain.
+    pub fn first_place(&self, bits: u8) -> Option<usize> {
+        let (mut tones, mut entries) = (self.tones.clone(), vec![0; self.tones.len()]);
+        assert_eq!(reorder(self.lent(), &mut tones, &mut entries).number, 0);
+        let is = |tone: &u16| {
+            let tone = usize::from(*tone);
+            self.bits[tone] == bits && self.gains[tone] > 0
+        };
+        tones.iter().position(is)
     }
 
     /// The points of a frame as it falls.
