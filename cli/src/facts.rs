@@ -4,6 +4,7 @@ use crate::ask::{self, trellis_tells};
 use crate::files::{Class, TableSet};
 use crate::json::{Fields, Json};
 use crate::register::{Reach, Reaches, ENOUGH_TONES, UNSEEN};
+use crate::theorems::{named, QUARTER_ANY};
 use crate::words::mode_word;
 use clevisroot_sys::refusals::{FEW, MONITOR, SIZE, TRELLIS};
 
@@ -109,6 +110,30 @@ impl Facts {
         }
     }
 
+    /// Tones that a quarter turn takes off their constellation, coded or not.
+    fn ones(&self) -> usize {
+        self.by_bits.first().copied().unwrap_or(0)
+    }
+
+    /// Whether points turned by a quarter show, and by what. Of uncoded tables nothing is proved.
+    pub fn quarter_words(&self) -> String {
+        let reason = match (self.ones(), self.monitored()) {
+            _ if self.coded => {
+                return format!("show whatever the register{}", named(&[QUARTER_ANY]))
+            }
+            (0, 0) => {
+                return "do not show, because no tone has 1 bit and none is monitored".to_string()
+            }
+            (0, _) => format!(
+                "if the register is known, because {}",
+                self.monitored_words()
+            ),
+            (1, _) => "whatever the register, because 1 tone has 1 bit".to_string(),
+            (ones, _) => format!("whatever the register, because {ones} tones have 1 bit"),
+        };
+        format!("show {reason}; uncoded, this is not proved")
+    }
+
     /// "1 tone is monitored"
     pub fn monitored_words(&self) -> String {
         match self.monitored() {
@@ -140,6 +165,7 @@ impl Facts {
         let number = |number: usize| Json::Number(number as i64);
         let by_bits = self.by_bits.iter().map(|&tones| number(tones)).collect();
         let always = self.trellis || self.reach.tells_way;
+        let quarter = self.coded || self.ones() > 0;
         vec![
             ("mode", Json::text(mode_word(self.coded))),
             ("sub_carriers", number(self.carriers)),
@@ -151,6 +177,11 @@ impl Facts {
             ("non_zero_entries", number(self.loaded)),
             ("turned_shows", Json::Flag(self.shows_turned())),
             ("turned_shows_without_register", Json::Flag(always)),
+            (
+                "quarter_turn_shows",
+                Json::Flag(quarter || self.monitored() > 0),
+            ),
+            ("quarter_turn_shows_without_register", Json::Flag(quarter)),
         ]
     }
 }

@@ -28,7 +28,7 @@ files (# begins a comment; - is standard input, for one of the files)
            one that was read, or the word refused and a number
 ";
 
-const STATUS: [(&str, &str); 10] = [
+const STATUS: [(&str, &str); 11] = [
     ("0", "done; of turn and clip: straight"),
     ("1 to 8, 10 to 16, 22, 23", "the refusal's number"),
     ("32", "turn, clip: turned"),
@@ -36,9 +36,16 @@ const STATUS: [(&str, &str); 10] = [
         "33",
         "turn, clip: cannot tell; read: the register cannot be found",
     ),
-    ("34", "turn: neither way is read; clip: neither"),
+    ("34", "turn: no way is read; clip: neither"),
     ("35", "figures: one does not agree"),
-    ("36", "turn, clip: perhaps straight or perhaps turned"),
+    (
+        "36",
+        "turn, clip: perhaps straight or turned; clip: perhaps by a quarter",
+    ),
+    (
+        "37",
+        "turn, clip: turned by a quarter; turn: also where its side is open",
+    ),
     ("64", "the call is wrong"),
     (
         "65",

@@ -21,6 +21,8 @@ mod report;
 mod span;
 mod stream;
 mod svg;
+mod theorems;
+mod way;
 mod words;
 
 use arguments::{parse, Request};

@@ -4,10 +4,11 @@
 use super::clip_said::Said;
 use super::clip_words::sentence;
 use super::first_tone::FirstTone;
+use super::ground_fields::ground_fields;
 use super::reading::Tables;
 use super::verdict::Known;
+use super::verdict_theorems::theorems_of_one_tone;
 use super::verdict_totals::VerdictTotals;
-use super::verdict_words::ground_fields;
 use crate::ask;
 use crate::call::Call;
 use crate::fault::Fault;
@@ -18,6 +19,8 @@ use crate::refusal::Question;
 use crate::register::after_draws;
 use crate::report::{clip_fields, Report};
 use crate::stream::{self, Reports, Task};
+use crate::way::{Family, Way};
+use clevisroot_sys::clips;
 use clevisroot_sys::refusals::DONE;
 use clevisroot_sys::{self as library, Answer};
 
@@ -92,15 +95,18 @@ impl Clip {
     fn judged(&mut self, points: &PointList, answer: &library::Clip) -> (Report, Known) {
         let register = self.known.register;
         let tone = self.first.map(|first| first.in_symbol(points, register));
-        let said = Said::of(answer.clip, self.known, tone.as_ref());
+        let said = Said::of(answer.clip, self.quarter(points, answer), self.known);
         let (verdict, ground) = (said.verdict(), said.ground());
-        self.totals.add(verdict, ground.is_conditional());
+        let theorems = theorems_of_one_tone(verdict);
+        let rests_on = ground_fields(verdict, &ground, true, &theorems);
+        // One tone makes no family sure.
+        self.totals.add(verdict, None, ground.is_conditional());
         let sentence = sentence(&said, &self.tables);
         let mut json = clip_fields("clip", answer);
         json.extend([
             ("verdict", Json::text(verdict.word())),
             ("sure", Json::Flag(verdict.is_sure())),
-            ("rests_on", Json::Object(ground_fields(verdict, &ground))),
+            ("rests_on", Json::Object(rests_on)),
             ("tone", tone.as_ref().map_or(Json::Null, |tone| tone.json())),
             ("sentence", Json::text(sentence.clone())),
         ]);
@@ -108,6 +114,19 @@ impl Clip {
         summary.extend(tone.map(|tone| format!("looked at: {}", tone.words())));
         let report = Report::new(verdict.status(), summary, json);
         (report, said.known_after(self.known))
+    }
+
+    /// The quarter turn after which the tone has the point that its filler bits give. The library knows
+    /// none: it is asked again for the points turned back.
+    fn quarter(&self, points: &PointList, answer: &library::Clip) -> Option<Way> {
+        let is_straight = |way: &Way| {
+            let points = points.undone(*way);
+            let lists = (points.x.as_slice(), points.y.as_slice());
+            ask::clip(&self.tables.set, lists, self.known.register).clip == clips::STRAIGHT
+        };
+        let ways = Family::Quarters.ways().into_iter();
+        ways.filter(|_| answer.clip == clips::NEITHER)
+            .find(is_straight)
     }
 
     /// Tables, points or register are refused, so that there is no verdict.

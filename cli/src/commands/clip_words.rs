@@ -1,83 +1,93 @@
 //! What the first monitored tone tells, in one sentence for the jointer.
 
 use super::clip_said::Said;
+use super::ground_fields::ONE_POINT;
 use super::reading::Tables;
+use super::register_words::register_words;
 use super::tone_words::{alike_one_in, enough};
-use super::verdict::{Known, Origin, Way};
-use super::verdict_words::{
-    even, odd, register_words, NO_TONE, ONE_POINT, SPARE, STRAIGHT, TURNED,
-};
+use super::verdict::{Known, Origin, Verdict};
+use super::verdict_theorems::theorems_of_one_tone;
+use super::verdict_words::{even, no_cure, odd, told, NO_TONE, SPARE};
 use crate::ask::trellis_tells;
+use crate::theorems::named;
+use crate::way::{Family, Way};
 
 const THE_TONE: &str = "the first monitored tone, the only one that was looked at, has";
-const ITS_OWN: &str = "the point that its filler bits give";
-const OPPOSITE: &str = "the opposite of the point that its filler bits give";
 
-/// What to do where a register that was given does not fit.
-const LOOK_FOR: &str =
-    "look for noise, other tables or another register (--register N) before you swap the clips";
+/// What the whole symbol tells of a quarter turn.
+const TURN_TELLS_QUARTERS: &str =
+    "`turn` reads the whole symbol and tells a quarter turn from the other \
+                                   ways, whatever the register (theorem quarter-any-register)";
+
+/// What else may look like a quarter turn.
+const OTHER_CAUSES: &str =
+    "if the hybrid cannot turn points by a quarter, another register or other tables are likelier";
 
 /// What the jointer should be told, in one sentence.
 pub fn sentence(said: &Said, tables: &Tables) -> String {
     match said {
         Said::Way(way, known) if said.verdict().is_sure() => sure_sentence(*way, tables, known),
         Said::Way(way, known) => perhaps_sentence(*way, tables, known),
-        Said::Neither(known) => neither_sentence(tables, known),
-        Said::NoRegister => format!(
+        Said::Neither => format!(
             "Neither: {THE_TONE} a point that filler bits never give, whatever the register, so look \
              for noise or other tables before you swap the clips; `turn` too refuses such a symbol \
-             both ways."
+             all four ways."
         ),
         Said::Nothing => cannot_tell_sentence(tables),
     }
 }
 
+/// What the tone has, if the points came so.
+fn point(way: Way) -> &'static str {
+    match way {
+        Way::Straight => "the point that its filler bits give",
+        Way::Turned => "the opposite of the point that its filler bits give",
+        Way::QuarterLeft => "the point that its filler bits give, turned by a quarter to the left,",
+        Way::QuarterRight => {
+            "the point that its filler bits give, turned by a quarter to the right,"
+        }
+    }
+}
+
 fn sure_sentence(way: Way, tables: &Tables, known: &Known) -> String {
-    let (clips, point) = match way {
-        Way::Straight => (STRAIGHT, ITS_OWN),
-        Way::Turned => (TURNED, OPPOSITE),
+    let turn = match (way.family(), whatever_the_register(tables)) {
+        (Family::Quarters, _) => format!("{}; {OTHER_CAUSES}; {TURN_TELLS_QUARTERS}", no_cure(way)),
+        (Family::Halves, Some((turn, reason))) => {
+            format!("; {turn} tells it whatever the register{reason}")
+        }
+        (Family::Halves, None) => String::new(),
     };
-    let turn = whatever_the_register(tables).map_or(String::new(), |(turn, reason)| {
-        format!("; {turn} tells it whatever the register{reason}")
-    });
+    let point = point(way).trim_end_matches(',');
     format!(
-        "{clips}, if the tables and {} are the writer's and {ONE_POINT}: the first monitored tone has {point}, as it \
-         would with a wrong register about one time in {}{turn}.",
+        "{}, if the tables and {} are the writer's and {ONE_POINT}: the first monitored tone has {point}, as it \
+         would with a wrong register about one time in {}{}{turn}.",
+        told(way),
         register_words(known),
-        alike_one_in(known.agreed)
+        alike_one_in(known.agreed),
+        named(&theorems_of_one_tone(Verdict::Sure(way)))
     )
 }
 
 fn perhaps_sentence(way: Way, tables: &Tables, known: &Known) -> String {
-    let (advice, point) = match way {
-        Way::Straight => ("straight, so do not rely on it yet", ITS_OWN),
-        Way::Turned => ("turned, so do not swap the clips yet", OPPOSITE),
+    let advice = match way {
+        Way::Straight => "straight, so do not rely on it yet",
+        Way::Turned => "turned, so do not swap the clips yet",
+        Way::QuarterLeft => "turned by a quarter to the left, so do not rely on it yet",
+        Way::QuarterRight => "turned by a quarter to the right, so do not rely on it yet",
     };
-    format!(
-        "Perhaps {advice}: {THE_TONE} {point} with {} and about one wrong register in {} would look \
-         the same; {} would settle it, and so would {}.",
-        register_words(known),
-        alike_one_in(known.agreed),
-        writers_register(known),
-        settled_by_turn(tables)
-    )
-}
-
-/// Of the four points that filler bits give, two are neither: the assumed register, if it is wrong, looks
-/// like this for one symbol in two.
-fn neither_sentence(tables: &Tables, known: &Known) -> String {
-    let advice = match known.origin {
-        Origin::Given => LOOK_FOR.to_string(),
-        _ => format!(
-            "do not swap the clips yet: give {} first, for a wrong one looks like this about one \
-             time in 2, and only then look for noise or other tables",
-            writers_register(known)
+    let quarter = match way.family() {
+        Family::Halves => String::new(),
+        Family::Quarters => format!(
+            "; swapping the clips would not mend it, and {OTHER_CAUSES}; {TURN_TELLS_QUARTERS}"
         ),
     };
     format!(
-        "Neither: {THE_TONE} neither {ITS_OWN} with {} nor the opposite one, so {advice}; if only the \
-         register is wrong, what would tell is {}.",
+        "Perhaps {advice}: {THE_TONE} {} with {} and about one wrong register in {} would look \
+         the same; {} would settle it, and so would {}{quarter}.",
+        point(way),
         register_words(known),
+        alike_one_in(known.agreed),
+        writers_register(known),
         settled_by_turn(tables)
     )
 }
@@ -86,11 +96,13 @@ fn cannot_tell_sentence(tables: &Tables) -> String {
     let rest = match trellis_tells(&tables.set, &tables.order) {
         true => format!(
             ", and `clip` looks at monitored tones only; `turn` reads the whole symbol and can tell, whatever the \
-             register, because {}; for `clip` to tell, it takes {SPARE}",
+             register, because {}, and quarter turns too (theorems half-turn-any-register, \
+             quarter-any-register); for `clip` to tell, it takes {SPARE}",
             odd(tables.order.loaded())
         ),
         false => format!(
-            "; nor can `turn` tell a written symbol from a turned one, because {}; {SPARE} would tell",
+            "; nor can `turn` tell a written symbol from one turned by half, because {}, but it tells a \
+             quarter turn, whatever the register (theorem quarter-any-register); {SPARE} would tell",
             even(tables.order.loaded())
         ),
     };

@@ -2,7 +2,8 @@
 
 pub const CHECK: &str = "\
 Checks the table set and tells L, the bits of a frame; also how the tones are loaded, and
-whether a clip that is the wrong way round would show. Refusals are 1 to 8.
+whether a clip that is the wrong way round would show, or points that are turned by a quarter.
+Refusals are 1 to 8.
 
 example
   clevisroot check examples/bench-a.txt
@@ -81,8 +82,15 @@ examples
 ";
 
 pub const TURN: &str = "\
-Reads the points as they came and turned by half a turn (every x,y as -x,-y), and says in one
-sentence what to tell the jointer, and what that rests on.
+Reads the points as they came and turned by half a turn (every x,y as -x,-y), of coded tables turned
+by a quarter too (every x,y as -y,x to the left, as y,-x to the right), and says in one sentence
+what to tell the jointer, and what that rests on. The line quarter left says how the points are read
+if that is how they came, and the other lines alike.
+
+Coded, whether it is a quarter turn is sure: a symbol that was written and turned by a quarter is
+never read, whatever the register (theorem quarter-any-register). Swapping the clips does not mend
+it. To which side it is turned is told as straight is told from turned. Uncoded, quarter turns are
+not told, and what is sure whatever the register holds if there is none.
 
 Without --register the value at reset is assumed; then the verdict is only perhaps so, unless 12
 monitored tones of one symbol agree, or 32 of several. With --register N it holds if N is the
@@ -93,41 +101,45 @@ with an odd count of non-zero re-ordered entries, the trellis code tells without
 docs/FIND-THE-REGISTER.md has the reasons. --start N is the start of the frames that are shown, as
 for read; no verdict depends on it.
 
-Exit status: 0 straight, 32 turned, 36 perhaps (straight or turned), 33 cannot tell, 34 neither
-way is read; 1 to 8 and 10 to 12 if the tables, the count of points, the start or the register are
-refused. A file may hold many symbols, as for read; the status is then that of all of them together.
+Exit status: 0 straight, 32 turned, 37 turned by a quarter, its side told or not, 36 perhaps
+(straight or turned), 33 cannot tell, 34 no way is read; 1 to 8 and 10 to 12 if the tables, the
+count of points, the start or the register are refused. A file may hold many symbols, as for read;
+the status is then that of all of them together.
 
 examples
   clevisroot turn examples/bench-a.txt examples/bench-a-turned.csv --register 8388607
   clevisroot turn examples/vdsl2-4096.txt points.csv --register find
   clevisroot turn examples/five-twos.txt examples/five-twos-turned.csv --start 6
+  clevisroot turn examples/bench-a.txt examples/bench-a-quarter.csv --register 8388607
 ";
 
 pub const CLIP: &str = "\
 Asks the first monitored tone in t', and no other, whether the clips are the wrong way round, before
 the whole symbol is read: straight if its point is the one that its filler bits give, turned if it
-is the opposite one, else neither. Says so in one sentence, and what that rests on. Where no tone is
-monitored it cannot tell. Where one is, turn says the same way of every symbol that was written with
-these coded tables and this register, turned or not.
+is the opposite one, a quarter left or right if it is that one turned by a quarter, else neither:
+filler bits give four points, and each of them is one of the four. Says so in one sentence, and what
+that rests on. Where no tone is monitored it cannot tell. Where one is, turn says the same way of
+every symbol that was written with these coded tables and this register, turned or not.
 
 The register must be the one that the symbol was written with: with a wrong one the tone looks
-straight about one time in 4, turned about one time in 4, and neither about one time in 2. Without
---register the value at reset is assumed, and straight and turned are only perhaps so; with
---register N they hold if the tables and N are the writer's and this one point came as it was written.
-The register is not found here (see turn --register find). All other points may be anything, 0,0 for
-instance, but there must be one for each tone.
+like each of the four ways about one time in 4. Without --register the value at reset is assumed,
+and the way is only perhaps so; with --register N it holds if the tables and N are the writer's and
+this one point came as it was written. The register is not found here (see turn --register find);
+turn tells a quarter turn from the other ways whatever the register. All other points may be
+anything, 0,0 for instance, but there must be one for each tone.
 
-Exit status: 0 straight, 32 turned, 36 perhaps (straight or turned), 33 cannot tell, 34 neither;
-1 to 8, 10 and 12 if the tables, the count of points or the register are refused; 65 if the tables
-are uncoded, because the promise on turned symbols is of coded ones.
+Exit status: 0 straight, 32 turned, 37 turned by a quarter, 36 perhaps one of them, 33 cannot tell,
+34 neither; 1 to 8, 10 and 12 if the tables, the count of points or the register are refused; 65 if
+the tables are uncoded, because the promise on turned symbols is of coded ones.
 
 A file may hold many symbols, as for read. The register goes on by two draws for each tone with 0
-bits, whatever the answer; after a symbol that is refused or neither, what is told by a register that
-was given is only perhaps so. The status is that of all of them together, as for turn. --stop ends at
-a symbol that is refused, not at neither.
+bits, whatever the answer; after a symbol that is refused or neither, or another way round than those
+before it, what is told by a register that was given is only perhaps so. The status is that of all of
+them together, as for turn. --stop ends at a symbol that is refused, not at neither.
 
 examples
   clevisroot clip examples/clip.txt examples/clip-turned.csv --register 4711
+  clevisroot clip examples/clip.txt examples/clip-quarter.csv --register 4711
   clevisroot clip examples/bench-a.txt examples/bench-a-turned.csv
 ";
 

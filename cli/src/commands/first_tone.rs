@@ -6,8 +6,6 @@ use crate::files::{Class, PointList};
 use crate::index::{Place, Subcarrier};
 use crate::json::Json;
 use crate::register::{after_draws, filler_point};
-use clevisroot_sys as library;
-use clevisroot_sys::refusals::DONE;
 
 /// Where it stands.
 #[derive(Clone, Copy)]
@@ -49,12 +47,6 @@ impl FirstTone {
 }
 
 impl LookedAt<'_> {
-    /// Whether some filler bits give its point: one of the four that a tone with 2 bits has.
-    pub fn may_be_filler(&self) -> bool {
-        let point = self.points.at(self.first.place);
-        point.is_some_and(|(x, y)| library::read_point(2, x, y).number == DONE)
-    }
-
     /// "place 3 in t', sub-carrier 4, line 6 of points.csv: the point is (1, 1), and ..."
     pub fn words(&self) -> String {
         let (FirstTone { place, tone, .. }, points) = (self.first, self.points);

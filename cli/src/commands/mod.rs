@@ -11,12 +11,17 @@ mod distance_words;
 mod encode;
 mod figures;
 mod first_tone;
+mod ground_fields;
 mod judge;
+mod judged_report;
 mod nearest;
 mod pages;
 mod picture;
+mod quarter_words;
 mod read;
 mod reading;
+mod readings;
+mod register_words;
 mod report;
 mod tables;
 mod tone;
@@ -24,8 +29,10 @@ mod tone_words;
 mod totals;
 mod turn;
 mod verdict;
+mod verdict_theorems;
 mod verdict_totals;
 mod verdict_words;
+mod whole;
 
 use crate::call::{Command, Operand};
 use crate::options::{
@@ -82,7 +89,7 @@ pub const COMMANDS: [Command; 13] = [
         name: "turn",
         operands: &[TABLES, POINTS],
         options: &[&REGISTER_OR_FIND, &START, &SVG, &STOP, &JSON],
-        about: "tell whether the clips are the wrong way round",
+        about: "tell whether the clips are the wrong way round, or points turned by a quarter",
         details: details::TURN,
         run: turn::turn,
     },

@@ -2,9 +2,9 @@
 
 use super::picture::Picture;
 use super::reading::{Reading, Tables};
+use super::register_words::{not_checked_sentence, not_found_sentence};
 use super::totals::Totals;
 use super::verdict::CANNOT_TELL;
-use super::verdict_words::{not_checked_sentence, not_found_sentence};
 use crate::call::{Asked, Call};
 use crate::fault::Fault;
 use crate::files::{hex_lines, PointList};
@@ -13,6 +13,7 @@ use crate::output::Output;
 use crate::register::{Finder, FoundRegister, Settled};
 use crate::report::{done_words, fields, start_field, symbol_fields, Report, Written};
 use crate::stream::{self, Reports, Task};
+use crate::way::Family;
 use clevisroot_sys::refusals::MONITOR;
 use clevisroot_sys::RESET;
 
@@ -32,7 +33,7 @@ pub fn read(call: &Call) -> Result<u8, Fault> {
         tables: Tables::of(call)?,
         find,
         register: (!find).then(|| call.register.value()),
-        finder: Finder::new(),
+        finder: Finder::new(Family::Halves),
         totals: Totals::default(),
     };
     stream::run(call, task)

@@ -33,6 +33,7 @@ fn accepted(set: &TableSet, answer: &Answer, mut json: Fields) -> Report {
         facts.class_words(),
         format!("tones by bits: {}", facts.loading_words()),
         format!("a turned clip {}", facts.turned_words()),
+        format!("points turned by a quarter {}", facts.quarter_words()),
     ];
     json.extend(facts.fields());
     Report::new(0, summary, json)

@@ -1,8 +1,10 @@
-//! `turn`: reads the points as they came and turned by half a turn, and tells the jointer.
+//! `turn`: reads the points as they came and turned, by half a turn and of coded tables by a quarter
+//! too, and tells the jointer.
 
 use super::judge::Judged;
 use super::picture::{titled, Picture};
 use super::reading::Tables;
+use super::readings::Readings;
 use super::verdict::{Known, Origin};
 use super::verdict_totals::VerdictTotals;
 use crate::call::{Asked, Call};
@@ -14,6 +16,7 @@ use crate::refusal::Refusal;
 use crate::register::{Finder, FoundRegister, Settled};
 use crate::report::{symbol_fields, Report};
 use crate::stream::{self, Reports, Task};
+use crate::way::Family;
 use clevisroot_sys::RESET;
 
 struct Turn {
@@ -28,12 +31,13 @@ struct Turn {
 
 pub fn turn(call: &Call) -> Result<u8, Fault> {
     let find = call.register == Asked::Find;
+    let tables = Tables::of(call)?;
     let task = Turn {
-        tables: Tables::of(call)?,
         find,
         known: (!find).then(|| Known::asked(&call.register)),
-        finder: Finder::new(),
-        totals: VerdictTotals::of_readings(),
+        finder: Finder::new(Family::Halves),
+        totals: VerdictTotals::of_readings(tables.set.coded),
+        tables,
     };
     stream::run(call, task)
 }
@@ -59,9 +63,11 @@ impl Task for Turn {
             }
             self.known = None;
         }
+        let mut reports = self.follow(&points, output);
         let Tables { set, order, .. } = &self.tables;
         let settled = self.finder.push(set, order, (number, points));
-        self.settle(settled, output)
+        reports.extend(self.settle(settled, output));
+        reports
     }
 
     fn finish(&mut self, output: &Output) -> Reports {
@@ -79,6 +85,21 @@ impl Task for Turn {
 }
 
 impl Turn {
+    /// Takes the points that wait for a register in the family of these. Those of another family are
+    /// no neighbours of theirs: they wait no longer.
+    fn follow(&mut self, points: &PointList, output: &Output) -> Reports {
+        let family = Readings::fitted(&self.tables, points).family();
+        match family {
+            Some(family) if family != self.finder.family => {
+                let reports = self.finish(output);
+                self.finder = Finder::new(family);
+                self.known = None;
+                reports
+            }
+            _ => Vec::new(),
+        }
+    }
+
     fn settle(&mut self, settled: Vec<Settled>, output: &Output) -> Reports {
         let mut reports = Vec::new();
         for Settled { symbol, found } in settled {
@@ -107,8 +128,8 @@ impl Turn {
         output: &Output,
     ) -> Report {
         self.known = self.carried(judged);
-        self.totals
-            .add(judged.verdict, judged.ground.is_conditional());
+        let conditional = judged.ground.is_conditional();
+        self.totals.add(judged.seen, judged.family, conditional);
         let mut report = judged.report(&self.tables);
         if output.wants_picture(report.refused) {
             report.picture = Some(self.picture(number, points, judged));
@@ -120,10 +141,9 @@ impl Turn {
     /// is handed back.
     fn carried(&self, judged: &Judged) -> Option<Known> {
         let known = judged.known?;
-        let read = judged.readings.iter().find(|reading| reading.is_done());
-        match read {
+        match judged.readings.read() {
             Some(read) => {
-                let known = match judged.only_way() {
+                let known = match judged.readings.only_way() {
                     Some(way) => known.reading(way, &self.tables.reaches),
                     None => known,
                 };
@@ -143,7 +163,7 @@ impl Turn {
     }
 
     fn picture(&self, number: usize, points: &PointList, judged: &Judged) -> String {
-        let [straight, _] = &judged.readings;
+        let straight = judged.readings.straight();
         let picture = Picture {
             tables: &self.tables,
             x: &points.x,
@@ -155,7 +175,7 @@ impl Turn {
             let (title, spot) = (refusal.title(), &refusal.spot);
             format!("; as they came refused, {title} {spot}")
         });
-        let word = judged.verdict.word();
+        let word = judged.verdict().word();
         picture.draw(format!("{}: {word}{refused}", titled("turn", number)))
     }
 }

@@ -2,22 +2,20 @@
 
 use crate::call::Asked;
 use crate::register::{Reach, Reaches};
+use crate::way::{Family, Way};
 
 /// The exit status where nothing can be told.
 pub const CANNOT_TELL: u8 = 33;
 
-#[derive(Clone, Copy, Debug, PartialEq, Eq)]
-pub enum Way {
-    Straight,
-    Turned,
-}
+/// The exit status of a quarter turn, whether its side is told or not.
+const QUARTER: u8 = 37;
 
 #[derive(Clone, Copy, Debug, PartialEq, Eq, PartialOrd, Ord)]
 pub enum Verdict {
-    Straight,
-    Turned,
-    PerhapsStraight,
-    PerhapsTurned,
+    Sure(Way),
+    /// Sure that it is a quarter turn, and not to which side.
+    Quarter,
+    Perhaps(Way),
     CannotTell,
     Neither,
 }
@@ -34,7 +32,7 @@ pub enum Origin {
     FoundAcross(usize),
     /// A symbol before was refused and handed it back, so that it may be out of step.
     HandedBack,
-    /// Symbols before were the other way round with it, so that one may be missing.
+    /// Symbols before were another way round with it, so that one may be missing.
     Contradicted,
     /// It was drawn on past a symbol that was refused or was neither way round with it, so that it may
     /// be out of step.
@@ -80,7 +78,7 @@ impl Known {
         matches!(self.origin, Origin::Found(_) | Origin::FoundAcross(_))
     }
 
-    /// Whether a symbol before was the other way round with it.
+    /// Whether a symbol before was another way round with it.
     pub fn is_against(self, way: Way) -> bool {
         self.way.is_some_and(|before| before != way)
     }
@@ -145,44 +143,44 @@ pub enum Ground {
 }
 
 impl Verdict {
-    pub fn sure(way: Way) -> Verdict {
-        match way {
-            Way::Straight => Verdict::Straight,
-            Way::Turned => Verdict::Turned,
-        }
-    }
-
-    pub fn perhaps(way: Way) -> Verdict {
-        match way {
-            Way::Straight => Verdict::PerhapsStraight,
-            Way::Turned => Verdict::PerhapsTurned,
+    /// What is told of a symbol of this family, of which its two ways say so: that it is a quarter turn
+    /// is sure, whatever they leave open.
+    pub fn of_family(self, family: Option<Family>) -> Verdict {
+        match (family, self) {
+            (Some(Family::Quarters), Verdict::Sure(way)) => Verdict::Sure(way),
+            (Some(Family::Quarters), _) => Verdict::Quarter,
+            (_, verdict) => verdict,
         }
     }
 
     /// The exit status: none that a refusal or a fault has.
     pub fn status(self) -> u8 {
         match self {
-            Verdict::Straight => 0,
-            Verdict::Turned => 32,
+            Verdict::Sure(Way::Straight) => 0,
+            Verdict::Sure(Way::Turned) => 32,
+            Verdict::Sure(Way::QuarterLeft | Way::QuarterRight) | Verdict::Quarter => QUARTER,
             Verdict::CannotTell => CANNOT_TELL,
             Verdict::Neither => 34,
-            Verdict::PerhapsStraight | Verdict::PerhapsTurned => 36,
+            Verdict::Perhaps(_) => 36,
         }
     }
 
     pub fn word(self) -> &'static str {
         match self {
-            Verdict::Straight => "straight",
-            Verdict::Turned => "turned",
-            Verdict::PerhapsStraight => "perhaps straight",
-            Verdict::PerhapsTurned => "perhaps turned",
+            Verdict::Sure(way) => way.word(),
+            Verdict::Quarter => "quarter",
+            Verdict::Perhaps(Way::Straight) => "perhaps straight",
+            Verdict::Perhaps(Way::Turned) => "perhaps turned",
+            Verdict::Perhaps(Way::QuarterLeft) => "perhaps quarter left",
+            Verdict::Perhaps(Way::QuarterRight) => "perhaps quarter right",
             Verdict::CannotTell => "cannot tell",
             Verdict::Neither => "neither",
         }
     }
 
+    /// Whether it holds, if its condition does.
     pub fn is_sure(self) -> bool {
-        matches!(self, Verdict::Straight | Verdict::Turned)
+        matches!(self, Verdict::Sure(_) | Verdict::Quarter)
     }
 }
 

@@ -1,17 +1,24 @@
 //! The totals of a stream of `turn` or `clip`: the clips are the same for all of its symbols.
 
+use super::ground_fields::{IF_BOTH, IF_GIVEN, NO_QUARTER, POINTS};
 use super::verdict::{Verdict, CANNOT_TELL};
-use super::verdict_words::{IF_BOTH, IF_GIVEN, POINTS};
+use super::whole::Whole;
 use crate::json::Json;
 use crate::report::Report;
+use crate::way::{Family, Way};
 use crate::words::count;
 use std::collections::BTreeMap;
 
-const ALL: [Verdict; 6] = [
-    Verdict::Straight,
-    Verdict::Turned,
-    Verdict::PerhapsStraight,
-    Verdict::PerhapsTurned,
+const ALL: [Verdict; 11] = [
+    Verdict::Sure(Way::Straight),
+    Verdict::Sure(Way::Turned),
+    Verdict::Sure(Way::QuarterLeft),
+    Verdict::Sure(Way::QuarterRight),
+    Verdict::Quarter,
+    Verdict::Perhaps(Way::Straight),
+    Verdict::Perhaps(Way::Turned),
+    Verdict::Perhaps(Way::QuarterLeft),
+    Verdict::Perhaps(Way::QuarterRight),
     Verdict::CannotTell,
     Verdict::Neither,
 ];
@@ -19,9 +26,10 @@ const ALL: [Verdict; 6] = [
 pub struct VerdictTotals {
     /// What has to be so where a verdict is on a condition.
     condition: String,
+    /// What has to be so all the same where it is on none.
+    always: Option<&'static str>,
     verdicts: BTreeMap<Verdict, usize>,
-    /// Some verdict holds whatever register was given: straight, turned.
-    unconditional: [bool; 2],
+    whole: Whole,
     /// Symbols refused before a point was looked at.
     refused: usize,
     /// The exit status of the first of them.
@@ -30,8 +38,11 @@ pub struct VerdictTotals {
 
 impl VerdictTotals {
     /// Of verdicts on whole symbols, which were read.
-    pub fn of_readings() -> VerdictTotals {
-        VerdictTotals::new(IF_GIVEN.to_string())
+    pub fn of_readings(coded: bool) -> VerdictTotals {
+        VerdictTotals {
+            always: (!coded).then_some(NO_QUARTER),
+            ..VerdictTotals::new(IF_GIVEN.to_string())
+        }
     }
 
     /// Of verdicts on one tone of each symbol.
@@ -42,20 +53,19 @@ impl VerdictTotals {
     fn new(condition: String) -> VerdictTotals {
         VerdictTotals {
             condition,
+            always: None,
             verdicts: BTreeMap::new(),
-            unconditional: [false; 2],
+            whole: Whole::default(),
             refused: 0,
             first: None,
         }
     }
 
-    pub fn add(&mut self, verdict: Verdict, conditional: bool) {
-        *self.verdicts.entry(verdict).or_default() += 1;
-        match verdict {
-            Verdict::Straight => self.unconditional[0] |= !conditional,
-            Verdict::Turned => self.unconditional[1] |= !conditional,
-            _ => {}
-        }
+    /// Adds what the ways of a family say of a symbol; no family where that is not sure.
+    pub fn add(&mut self, seen: Verdict, family: Option<Family>, conditional: bool) {
+        let told = seen.of_family(family);
+        *self.verdicts.entry(told).or_default() += 1;
+        self.whole.add(seen, family, conditional);
     }
 
     pub fn add_refused(&mut self, status: u8) {
@@ -67,50 +77,18 @@ impl VerdictTotals {
         self.verdicts.get(&verdict).copied().unwrap_or(0)
     }
 
-    fn has(&self, verdict: Verdict) -> bool {
-        self.of(verdict) > 0
-    }
-
-    /// The clips are the same for all symbols. What holds whatever register was given decides; what
-    /// holds only if that is the writer's decides if no symbol speaks against it; then comes what is
-    /// perhaps so. Symbols that say nothing do not count against one that does.
-    fn whole(&self) -> Option<Verdict> {
-        let [straight, turned] = [Verdict::Straight, Verdict::Turned].map(|way| self.has(way));
-        let perhaps = [Verdict::PerhapsStraight, Verdict::PerhapsTurned].map(|way| self.has(way));
-        let refused = self.has(Verdict::Neither);
-        match (self.unconditional, [straight, turned], perhaps) {
-            ([true, true], ..) | ([false, false], [true, true], _) => Some(Verdict::CannotTell),
-            ([true, false], ..) => Some(Verdict::Straight),
-            ([false, true], ..) => Some(Verdict::Turned),
-            (_, [true, false], [_, false]) if !refused => Some(Verdict::Straight),
-            (_, [false, true], [false, _]) if !refused => Some(Verdict::Turned),
-            (_, [false, _], [false, true]) | (_, [false, true], [false, false]) => {
-                Some(Verdict::PerhapsTurned)
-            }
-            (_, [_, false], [true, false]) | (_, [true, false], [false, false]) => {
-                Some(Verdict::PerhapsStraight)
-            }
-            (_, [false, false], [false, false]) => {
-                ALL.into_iter().find(|&verdict| self.has(verdict))
-            }
-            _ => Some(Verdict::CannotTell),
-        }
-    }
-
     /// What the verdict on all of them holds under, if every symbol that says so does.
     fn condition(&self, whole: Option<Verdict>) -> Option<&str> {
-        let [straight, turned] = self.unconditional;
-        let conditional = match whole {
-            Some(Verdict::Straight) => !straight,
-            Some(Verdict::Turned) => !turned,
-            _ => false,
-        };
-        conditional.then_some(self.condition.as_str())
+        match whole {
+            Some(Verdict::Sure(way)) if self.whole.holds_always(way) => self.always,
+            Some(Verdict::Sure(_)) => Some(&self.condition),
+            _ => None,
+        }
     }
 
     pub fn report(&self) -> Report {
         let symbols = self.verdicts.values().sum::<usize>() + self.refused;
-        let whole = self.whole();
+        let whole = self.whole.verdict();
         let condition = self.condition(whole);
         let mut words: Vec<String> = Vec::new();
         let mut counts = Vec::new();

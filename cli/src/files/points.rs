@@ -4,6 +4,7 @@ use super::numbers::signed;
 use super::source::quoted;
 use super::symbols::SymbolText;
 use crate::index::Place;
+use crate::way::Way;
 use std::collections::BTreeMap;
 
 /// More places than any tone table has: beyond, points are only counted.
@@ -85,25 +86,34 @@ impl PointList {
         })
     }
 
-    /// The same places, turned by half a turn. What the type cannot hold stays on no constellation.
-    pub fn turned(&self) -> PointList {
-        let turn = |list: &[i16]| list.iter().map(|&c| c.saturating_neg()).collect();
-        let mut beyond = BTreeMap::new();
-        for (place, (&x, &y)) in self.x.iter().zip(&self.y).enumerate() {
-            let typed = self.beyond.get(&place);
-            if typed.is_some() || x == i16::MIN || y == i16::MIN {
-                let (x, y) = typed.cloned().unwrap_or((x.to_string(), y.to_string()));
-                beyond.insert(place, (opposite(&x), opposite(&y)));
-            }
-        }
+    /// The points that were written, if these came this way. What the type cannot hold stays on no
+    /// constellation.
+    pub fn undone(&self, way: Way) -> PointList {
+        let points = self.x.iter().copied().zip(self.y.iter().copied());
+        let turned = points.map(|point| way.undone(point, i16::saturating_neg));
+        let (x, y) = turned.unzip();
+        let beyond = self.beyond_undone(way);
         PointList {
-            x: turn(&self.x),
-            y: turn(&self.y),
+            x,
+            y,
             name: self.name.clone(),
             count: self.count,
             lines: self.lines.clone(),
             beyond,
         }
+    }
+
+    /// The words of the points that the lists cannot hold, or cannot hold turned.
+    fn beyond_undone(&self, way: Way) -> BTreeMap<usize, (String, String)> {
+        let mut beyond = BTreeMap::new();
+        for (place, (&x, &y)) in self.x.iter().zip(&self.y).enumerate() {
+            let typed = self.beyond.get(&place);
+            if typed.is_some() || x == i16::MIN || y == i16::MIN {
+                let words = typed.cloned().unwrap_or((x.to_string(), y.to_string()));
+                beyond.insert(place, way.undone(words, |word| opposite(&word)));
+            }
+        }
+        beyond
     }
 
     pub fn line_of(&self, place: Place) -> Option<usize> {

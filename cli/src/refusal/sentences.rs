@@ -7,6 +7,7 @@ use crate::files::{Class, TableSet};
 use crate::index::Place;
 use crate::register::{or_a_few_more, ENOUGH_TONES};
 use crate::span::LAST_START;
+use crate::way::Way;
 use crate::words::{count, shown};
 use clevisroot_sys::refusals::{
     BITS, FEW, FRAME, GAIN, MONITOR, ODD, OFFGRID, RANGE, ROOM, SEED, SIZE, STRAY, TONE, TRELLIS,
@@ -36,8 +37,8 @@ pub fn sentence(question: &Question, answer: &Answer) -> String {
         OFFGRID => offgrid(question, place_of(answer)),
         MONITOR => monitor(question, place_of(answer)),
         TRELLIS => "Its points break the trellis code: a point here or before was changed, these \
-                    are not the tables it was written with, or the clips are the wrong way round \
-                    (see `turn`)."
+                    are not the tables it was written with, or the points are turned, by clips that \
+                    are the wrong way round or by a quarter (see `turn`)."
             .to_string(),
         RANGE => range(question, place_of(answer)),
         _ => "The library refuses this with a number that this tool does not know.".to_string(),
@@ -161,13 +162,26 @@ fn offgrid(question: &Question, place: Place) -> String {
             format!("{point} is not (0, 0), the only point of a silent tone.")
         }
         Some(Class::Data(bits)) => format!(
-            "{point} is none of the {} points of a tone with {}: only exact points are read (see `nearest`).",
+            "{point} is none of the {} points of a tone with {}: {}only exact points are read (see `nearest`).",
             1u32 << bits.min(15),
-            count(bits, "bit")
+            count(bits, "bit"),
+            quarter_of_one_bit(question, place, bits)
         ),
         _ => format!(
             "{point} is none of the 4 points of a monitored tone: only exact points are read (see `nearest`)."
         ),
+    }
+}
+
+/// From 2 bits on a quarter turn stays within the constellation.
+fn quarter_of_one_bit(question: &Question, place: Place, bits: u8) -> &'static str {
+    let point = question.points.and_then(|points| points.typed_at(place));
+    match (bits, point) {
+        (1, Some((1, -1) | (-1, 1))) if question.set.coded => {
+            "a quarter turn makes such points (see `turn`); "
+        }
+        (1, Some((1, -1) | (-1, 1))) => "a quarter turn makes such points; ",
+        _ => "",
     }
 }
 
@@ -181,24 +195,41 @@ fn monitor(question: &Question, place: Place) -> String {
     } = *question;
     let zeros = vec![0; ask::frame_bytes(set, start)];
     let (_, right) = ask::encode(set, &zeros, start, register);
-    let (x, y) = (
-        right.x.get(place.0).copied().unwrap_or(0),
-        right.y.get(place.0).copied().unwrap_or(0),
-    );
+    let (x, y) = right.at(place).unwrap_or((0, 0));
     let point = point_words(question, place);
-    let opposite = question.points.and_then(|points| points.at(place))
-        == Some((x.saturating_neg(), y.saturating_neg()));
-    let advice = if opposite {
-        "it is the opposite one, so the clips may be the wrong way round (see `turn`)".to_string()
-    } else {
-        format!(
-            "see whether the register is the writer's (`--register find` finds it from \
-             {ENOUGH_TONES} monitored tones{})",
-            or_a_few_more(set)
-        )
-    };
+    let came = question.points.and_then(|points| points.at(place));
+    let is = |way: &Way| came.map(|came| way.undone(came, i16::saturating_neg)) == Some((x, y));
+    let advice = monitor_advice(set, TURNS.into_iter().find(is));
     format!(
         "{point} is not ({x}, {y}), which the filler bits of register {register} give: {advice}."
+    )
+}
+
+const TURNS: [Way; 3] = [Way::Turned, Way::QuarterLeft, Way::QuarterRight];
+
+/// What a point that is the right one turned this way, or none of its turns, makes likely.
+fn monitor_advice(set: &TableSet, way: Option<Way>) -> String {
+    let register = format!(
+        "see whether the register is the writer's (`--register find` finds it from {ENOUGH_TONES} \
+         monitored tones{})",
+        or_a_few_more(set)
+    );
+    let side = match way {
+        Some(Way::Turned) => {
+            return "it is the opposite one, so the clips may be the wrong way round (see `turn`)"
+                .to_string()
+        }
+        Some(Way::QuarterLeft) => "left",
+        Some(Way::QuarterRight) => "right",
+        _ => return register,
+    };
+    let turn = match set.coded {
+        true => " (see `turn`)",
+        false => ", which `turn` tells of coded tables only",
+    };
+    format!(
+        "it is that one turned by a quarter to the {side}, so {register}, and whether all points are \
+         turned by a quarter{turn}"
     )
 }
 

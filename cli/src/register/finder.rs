@@ -6,6 +6,7 @@ use super::reach::{Reach, TONES_OF_STREAM};
 use super::search::{Found, Search};
 use crate::ask::Order;
 use crate::files::{PointList, TableSet};
+use crate::way::Family;
 use std::collections::VecDeque;
 
 /// A symbol with its number.
@@ -30,6 +31,8 @@ pub struct Settled {
 }
 
 pub struct Finder {
+    /// The family of the ways that the symbols are taken in.
+    pub family: Family,
     search: Search,
     waiting: VecDeque<Numbered>,
     /// Some symbols since the start did not fit together.
@@ -37,9 +40,10 @@ pub struct Finder {
 }
 
 impl Finder {
-    pub fn new() -> Finder {
+    pub fn new(family: Family) -> Finder {
         Finder {
-            search: Search::new(),
+            family,
+            search: Search::new(family),
             waiting: VecDeque::new(),
             contradicted: false,
         }
@@ -47,7 +51,7 @@ impl Finder {
 
     /// Takes the next symbol; tells what is settled.
     pub fn push(&mut self, set: &TableSet, order: &Order, symbol: Numbered) -> Vec<Settled> {
-        let mut own = Search::new();
+        let mut own = Search::new(self.family);
         own.add(set, order, &symbol.1);
         // If its own tones settle it, it needs no other, and without any none helps it.
         if own.reach().tones == 0 || own.reach().settles() {
@@ -72,7 +76,7 @@ impl Finder {
             true => self.waiting.drain(..).map(alone).collect(),
             false => self.settle(whole),
         };
-        *self = Finder::new();
+        *self = Finder::new(self.family);
         settled
     }
 
@@ -80,10 +84,10 @@ impl Finder {
     fn settle(&mut self, checked: bool) -> Vec<Settled> {
         let (reach, found) = (self.search.reach(), self.search.found());
         let draws = self.search.draws() / self.waiting.len().max(1);
-        self.search = Search::new();
+        self.search = Search::new(self.family);
         let symbols = self.waiting.drain(..);
         match found {
-            Found::Straight(register) | Found::Turned(register) => symbols
+            Found::First(register) | Found::Other(register) => symbols
                 .scan(register, |next, symbol| {
                     let register = *next;
                     *next = after_draws(register, draws);
@@ -111,9 +115,18 @@ impl Finder {
             };
             dropped.push(alone(oldest));
             self.contradicted = true;
-            self.search = search_of(set, order, &self.waiting);
+            self.search = self.search_again(set, order);
         }
         dropped
+    }
+
+    /// The search of those that wait.
+    fn search_again(&self, set: &TableSet, order: &Order) -> Search {
+        let mut search = Search::new(self.family);
+        for (_, points) in &self.waiting {
+            search.add(set, order, points);
+        }
+        search
     }
 }
 
@@ -122,12 +135,4 @@ fn alone(symbol: Numbered) -> Settled {
         symbol,
         found: None,
     }
-}
-
-fn search_of(set: &TableSet, order: &Order, symbols: &VecDeque<Numbered>) -> Search {
-    let mut search = Search::new();
-    for (_, points) in symbols {
-        search.add(set, order, points);
-    }
-    search
 }

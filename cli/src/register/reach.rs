@@ -43,13 +43,6 @@ impl Reach {
         tells_way: false,
     };
 
-    /// Of one that a register does not give: it speaks for no register.
-    pub const ONE_AGAINST: Reach = Reach {
-        tones: 1,
-        rank: 0,
-        tells_way: false,
-    };
-
     pub fn fixes_register(self) -> bool {
         self.rank == BITS
     }

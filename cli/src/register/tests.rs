@@ -6,6 +6,7 @@ use super::search::{Found, Search};
 use crate::ask::{self, Order};
 use crate::files::{Class, Entry, PointList, SymbolText, TableSet};
 use crate::index::Subcarrier;
+use crate::way::{Family, Way};
 use clevisroot_sys::{draw, read_point, RESET};
 use Class::{Data, Monitored, Silent};
 
@@ -89,7 +90,7 @@ fn written(set: &TableSet, register: u32) -> (PointList, u32) {
 }
 
 fn search_of(set: &TableSet, order: &Order, points: &PointList) -> Found {
-    let mut search = Search::new();
+    let mut search = Search::new(Family::Halves);
     search.add(set, order, points);
     search.found()
 }
@@ -214,8 +215,8 @@ fn the_register_is_found_among_silent_tones() {
         let (set, order) = tables_of(&classes);
         let (points, _) = written(&set, register);
         let straight = search_of(&set, &order, &points);
-        let turned = search_of(&set, &order, &points.turned());
-        let told = (Found::Straight(register), Found::Turned(register));
+        let turned = search_of(&set, &order, &points.undone(Way::Turned));
+        let told = (Found::First(register), Found::Other(register));
         match reach_of(&classes, 1).settles() {
             true => assert_eq!((straight, turned), told),
             false => assert_eq!((straight, turned), (Found::Open, Found::Open)),
@@ -236,11 +237,14 @@ fn many_tones_may_settle_nothing() {
         let (points, _) = written(&set, register);
         let (other, _) = written(&set, register ^ apart);
         assert_eq!(
-            (other.turned().x, other.turned().y),
+            (other.undone(Way::Turned).x, other.undone(Way::Turned).y),
             (points.x.clone(), points.y.clone())
         );
         assert_eq!(search_of(&set, &order, &points), Found::Open);
-        assert_eq!(search_of(&set, &order, &points.turned()), Found::Open);
+        assert_eq!(
+            search_of(&set, &order, &points.undone(Way::Turned)),
+            Found::Open
+        );
     }
 }
 

@@ -1,4 +1,4 @@
-//! `clip` on one symbol: the four answers from files that a person can edit, and what they rest on.
+//! `clip` on one symbol: the answers from files that a person can edit, and what they rest on.
 
 use crate::run::{equal, example, run, run_with, tables, Ran};
 
@@ -44,10 +44,11 @@ fn edited(text: &str, number: usize, line: &str) -> String {
 }
 
 #[test]
-fn the_four_answers_from_files() {
+fn the_answers_from_files() {
     let calls = [
         ("straight", 0, "Straight: "),
         ("turned", 32, "Turned: "),
+        ("quarter", 37, "Turned by a quarter to the left: "),
         ("neither", 34, "Neither: "),
     ];
     for (name, status, word) in calls {
@@ -69,13 +70,13 @@ fn the_four_answers_from_files() {
 /// What the examples' comments say to try, and all else: only the first monitored tone counts.
 #[test]
 fn a_person_edits_the_files() {
-    for name in ["clip-straight.csv", "clip-turned.csv", "clip-neither.csv"] {
-        let points = example(name);
+    for name in ["straight", "turned", "quarter", "neither"] {
+        let points = example(&format!("clip-{name}.csv"));
         for (line, status, word) in [
             ("1,-1", 0, "Straight"),
             ("-1,1", 32, "Turned"),
-            ("1,1", 34, "Neither"),
-            ("-1,-1", 34, "Neither"),
+            ("1,1", 37, "Turned by a quarter to the left"),
+            ("-1,-1", 37, "Turned by a quarter to the right"),
             ("3,-3", 34, "Neither"),
             ("0,0", 34, "Neither"),
             ("-99999,99999", 34, "Neither"),
@@ -129,31 +130,62 @@ fn it_says_what_it_rests_on() {
     let words = "Turned: the clips are the wrong way round, so swap them, if the tables and \
                  register 4711, which was given, are the writer's and the one point that was looked at came as it was written: \
                  the first monitored tone has the opposite of the point that its filler bits give, as \
-                 it would with a wrong register about one time in 4.";
+                 it would with a wrong register about one time in 4 (theorem clip-of-turned).";
     assert_eq!(ran.line(0), words);
 }
 
-/// What to look for first depends on whether the register was given.
+/// What else may be the cause, what is no cure, and what the whole symbol tells.
 #[test]
-fn neither_says_what_to_look_for() {
-    let turn =
-        "; if only the register is wrong, what would tell is `turn --register find` from 12 \
-                monitored tones in one symbol, or 32 in several that follow each other";
-    let given = given(&example("clip-neither.csv"));
-    let words =
-        "with register 4711, which was given, nor the opposite one, so look for noise, other \
-                 tables or another register (--register N) before you swap the clips";
-    assert!(given.line(0).contains(words), "{}", given.out);
-    assert!(given.line(0).contains(turn), "{}", given.out);
+fn a_quarter_turn_says_what_else_it_may_be() {
+    let whole =
+        "`turn` reads the whole symbol and tells a quarter turn from the other ways, whatever the \
+                 register (theorem quarter-any-register).";
+    let likelier =
+        "if the hybrid cannot turn points by a quarter, another register or other tables are \
+                    likelier; ";
+    let ran = given(&example("clip-quarter.csv"));
+    let words = format!(
+        "Turned by a quarter to the left: every (X, Y) came as (-Y, X), so look at the hybrid, if the \
+         tables and register 4711, which was given, are the writer's and the one point that was looked at \
+         came as it was written: the first monitored tone has the point that its filler bits give, turned \
+         by a quarter to the left, as it would with a wrong register about one time in 4 (theorem \
+         clip-of-quarter); swapping the clips does not mend it, for it only makes it a quarter to the \
+         right; {likelier}{whole}"
+    );
+    assert_eq!(ran.line(0), words);
     // The examples of `clip` were written with another register than the one at reset.
     let assumed = clip(SET, &example("clip-straight.csv"), &[]);
-    told(&assumed, 34, "Neither", 1);
-    let words = "with register 8388607, which is the value at reset, assumed because none was given, \
-                 nor the opposite one, so do not swap the clips yet: give the writer's register \
-                 (--register N) first, for a wrong one looks like this about one time in 2, and only \
-                 then look for noise or other tables";
-    assert!(assumed.line(0).contains(words), "{}", assumed.out);
-    assert!(assumed.line(0).contains(turn), "{}", assumed.out);
+    let perhaps = "Perhaps turned by a quarter to the left, so do not rely on it yet";
+    told(&assumed, 36, perhaps, 1);
+    for words in [
+        "has the point that its filler bits give, turned by a quarter to the left, with register 8388607, \
+         which is the value at reset, assumed because none was given, and about one wrong register in 4 \
+         would look the same; the writer's register (--register N) would settle it, and so would `turn \
+         --register find` from 12 monitored tones in one symbol, or 32 in several that follow each other",
+        "; swapping the clips would not mend it, and if the hybrid cannot turn points by a quarter, ",
+        whole,
+    ] {
+        assert!(assumed.line(0).contains(words), "{}", assumed.out);
+    }
+}
+
+/// With a wrong register one tone looks like each of the four ways, about one time in 4.
+#[test]
+fn a_wrong_register_looks_like_each_way() {
+    let points = example("clip-straight.csv");
+    let mut counts = [0; 4];
+    for register in (1..=120).map(|number| (number * 69_901).to_string()) {
+        let ran = clip(SET, &points, &["--register", &register]);
+        let ways = [
+            "Straight: ",
+            "Turned: ",
+            "Turned by a quarter to the left: ",
+        ];
+        let way = ways.iter().position(|word| ran.line(0).starts_with(word));
+        counts[way.unwrap_or(3)] += 1;
+        assert!(matches!(ran.status, 0 | 32 | 37), "{}", ran.out);
+    }
+    assert!(counts.iter().all(|&count| count > 15), "{counts:?}");
 }
 
 /// No register helps where the point is none of the four.
@@ -166,14 +198,14 @@ fn a_point_that_no_register_gives_is_neither_for_all() {
             told(&ran, 34, "Neither", 1);
             let words = "has a point that filler bits never give, whatever the register, so look for \
                          noise or other tables before you swap the clips; `turn` too refuses such a \
-                         symbol both ways.";
+                         symbol all four ways.";
             assert!(ran.line(0).ends_with(words), "{}", ran.out);
         }
         for register in ["4711", "find"] {
             let words = ["turn", SET, "-", "--register", register];
             let turn = run_with(points.as_bytes(), &words);
             assert_eq!(turn.status, 34, "{}", turn.out);
-            let words = "refused both ways whatever the register";
+            let words = "refused all four ways whatever the register";
             assert!(turn.line(0).contains(words), "{}", turn.out);
         }
     }
@@ -205,18 +237,18 @@ fn what_is_not_sure_points_to_turn() {
     let odd = tables("clip-odd.txt", "coded", 8, &tones);
     let trellis =
         "`turn`, whatever the register, because N, the count of non-zero re-ordered entries, \
-                   is odd (5).";
-    let find = "`turn --register find`, whatever the register.";
+                   is odd (5)";
+    let find = "`turn --register find`, whatever the register";
     // The one at reset draws two ones: (-1, -1).
     for (set, places, turn) in [(odd.as_str(), 6, trellis), (TWELVE, 16, find)] {
-        for (point, status, words) in [
-            ("-1,-1\n", 36, "so would "),
-            ("1,-1\n", 34, "would tell is "),
+        for (point, after) in [
+            ("-1,-1\n", "."),
+            ("1,-1\n", "; swapping the clips would not mend it"),
         ] {
             let ran = clip(set, &point.repeat(places), &[]);
-            assert_eq!(ran.status, status, "{}", ran.out);
-            let words = format!("{words}{turn}");
-            assert!(ran.line(0).ends_with(&words), "{}", ran.out);
+            assert_eq!(ran.status, 36, "{}", ran.out);
+            let words = format!("would settle it, and so would {turn}{after}");
+            assert!(ran.line(0).contains(&words), "{}", ran.out);
         }
     }
 }
@@ -225,12 +257,14 @@ fn what_is_not_sure_points_to_turn() {
 fn without_a_monitored_tone_it_says_whether_turn_can_tell() {
     let odd = "Cannot tell: this table set monitors no tone, and `clip` looks at monitored tones only; `turn` reads the \
                whole symbol and can tell, whatever the register, because N, the count of non-zero \
-               re-ordered entries, is odd (5); for `clip` to tell, it takes a spare tone with 0 bits \
-               and a gain.";
+               re-ordered entries, is odd (5), and quarter turns too (theorems \
+               half-turn-any-register, quarter-any-register); for `clip` to tell, it takes a spare tone \
+               with 0 bits and a gain.";
     let even =
         "Cannot tell: this table set monitors no tone; nor can `turn` tell a written symbol from \
-                a turned one, because N, its count of non-zero re-ordered entries, is even (4); a \
-                spare tone with 0 bits and a gain would tell.";
+                one turned by half, because N, its count of non-zero re-ordered entries, is even (4), but \
+                it tells a quarter turn, whatever the register (theorem quarter-any-register); a spare \
+                tone with 0 bits and a gain would tell.";
     for (set, points, words, turn) in [
         (ODD, "five-twos-turned.csv", odd, 32),
         (EVEN, "cannot-tell.csv", even, 33),

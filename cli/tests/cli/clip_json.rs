@@ -14,7 +14,12 @@ fn json(set: &str, points: &str, words: &[&str]) -> BTreeMap<String, Value> {
 
 #[test]
 fn each_answer() {
-    for (name, sure) in [("straight", true), ("turned", true), ("neither", false)] {
+    for (name, verdict, sure) in [
+        ("straight", "straight", true),
+        ("turned", "turned", true),
+        ("quarter", "quarter left", true),
+        ("neither", "neither", false),
+    ] {
         let json = json(SET, &example(&format!("clip-{name}.csv")), &REGISTER);
         let [number, place, register] = [0, 0, 4711].map(Value::Number);
         assert_eq!(
@@ -22,7 +27,7 @@ fn each_answer() {
             [number, text("DONE"), place, Value::Null, register]
         );
         assert_eq!(json["command"], text("clip"));
-        assert_eq!(json["verdict"], text(name));
+        assert_eq!(json["verdict"], text(verdict));
         assert_eq!(json["sure"], Value::Flag(sure));
     }
 }
@@ -31,15 +36,16 @@ fn each_answer() {
 #[test]
 fn the_sentence_and_the_status() {
     const A: &str = "examples/bench-a.txt";
-    let [straight, turned, neither] =
-        ["straight", "turned", "neither"].map(|name| example(&format!("clip-{name}.csv")));
+    let [straight, turned, quarter, neither] = ["straight", "turned", "quarter", "neither"]
+        .map(|name| example(&format!("clip-{name}.csv")));
     let (even, odd) = (example("cannot-tell.csv"), example("five-twos-turned.csv"));
     let (given, none): (&[&str], &[&str]) = (&REGISTER, &[]);
     for (set, points, words, status) in [
         (SET, straight.as_str(), given, 0),
         (SET, &turned, given, 32),
+        (SET, &quarter, given, 37),
         (SET, &neither, given, 34),
-        (SET, &straight, none, 34),
+        (SET, &straight, none, 36),
         (SET, &"0,0\n".repeat(8), given, 34),
         (A, &example("bench-a.csv"), none, 36),
         (A, &example("bench-a-turned.csv"), none, 36),
@@ -68,24 +74,35 @@ fn what_it_rests_on() {
         "the tables and the register that were given are the writer's and the one point that was looked at \
                      came as it was written";
     let condition = text(condition);
-    for (name, holds_if, alike) in [
-        ("straight", condition.clone(), Value::Number(4)),
-        ("turned", condition, Value::Number(4)),
-        ("neither", Value::Null, Value::Null),
+    for (name, theorem) in [
+        ("straight", "clip-of-written"),
+        ("turned", "clip-of-turned"),
+        ("quarter", "clip-of-quarter"),
     ] {
         let json = json(SET, &example(&format!("clip-{name}.csv")), &REGISTER);
         let ground = inner(&json, "rests_on");
-        assert_eq!(ground["holds_if"], holds_if);
+        assert_eq!(ground["holds_if"], condition);
+        assert_eq!(ground["theorems"], Value::List(vec![text(theorem)]));
         assert_eq!(ground["register"], Value::Number(4711));
         assert_eq!(ground["register_is"], text("given"));
         assert_eq!(ground["monitored_tones"], Value::Number(1));
-        assert_eq!(ground["wrong_register_alike_one_in"], alike);
+        assert_eq!(ground["wrong_register_alike_one_in"], Value::Number(4));
     }
+    let neither = inner(
+        &json(SET, &example("clip-neither.csv"), &REGISTER),
+        "rests_on",
+    );
+    assert_eq!(neither["register_is"], text("none fits"));
+    assert_eq!(
+        [&neither["holds_if"], &neither["register"]],
+        [&Value::Null, &Value::Null]
+    );
     let perhaps = json("examples/bench-a.txt", &example("bench-a-turned.csv"), &[]);
     assert_eq!(perhaps["verdict"], text("perhaps turned"));
     let ground = inner(&perhaps, "rests_on");
     assert_eq!(ground["register_is"], text("reset value, assumed"));
     assert_eq!(ground["holds_if"], Value::Null);
+    assert_eq!(ground["theorems"], Value::List(vec![]));
 }
 
 #[test]
@@ -93,7 +110,8 @@ fn the_tone() {
     for (name, [x, y]) in [
         ("straight", [1, -1]),
         ("turned", [-1, 1]),
-        ("neither", [1, 1]),
+        ("quarter", [1, 1]),
+        ("neither", [3, -3]),
     ] {
         let json = json(SET, &example(&format!("clip-{name}.csv")), &REGISTER);
         let tone = inner(&json, "tone");
@@ -134,7 +152,7 @@ fn a_point_beyond_16_bits() {
             [Some(32_767), Some(-32_768)],
         ),
     ] {
-        let points = points.replacen("\n1,1\n", &format!("\n{point}\n"), 1);
+        let points = points.replacen("\n3,-3\n", &format!("\n{point}\n"), 1);
         let words = [&["clip", SET, "-"], REGISTER.as_slice()].concat();
         let plain = run_with(points.as_bytes(), &words);
         let words = format!("the point is {typed}, and the filler bits give (1, -1)");

@@ -30,7 +30,8 @@ fn check_tells_size_and_loading() {
          L = 5 bits in 1 byte\n\
          coded, G = 8, NSC = 6: 5 with data, 1 monitored, 0 silent\n\
          tones by bits: 2 of 1 bit, 1 of 2 bits, 1 of 3 bits, 1 of 4 bits\n\
-         a turned clip shows if the register is known, because 1 tone is monitored\n"
+         a turned clip shows if the register is known, because 1 tone is monitored\n\
+         points turned by a quarter show whatever the register (theorem quarter-any-register)\n"
     );
 }
 

@@ -104,6 +104,11 @@ impl Checker<'_> {
 /// The object that a call printed.
 pub fn object(ran: &Ran) -> BTreeMap<String, Value> {
     python_agrees(&ran.out);
+    parsed(ran)
+}
+
+/// The same by this reader alone, for tests of many calls.
+pub fn parsed(ran: &Ran) -> BTreeMap<String, Value> {
     let mut checker = Checker { rest: &ran.out };
     let value = checker.value();
     assert_eq!(checker.rest, "\n");

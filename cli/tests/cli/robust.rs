@@ -7,7 +7,7 @@ use std::process::Stdio;
 
 /// Every status that the tool documents.
 fn is_documented(status: i32) -> bool {
-    matches!(status, 0..=8 | 10..=16 | 22 | 23 | 32..=34 | 36 | 64..=66)
+    matches!(status, 0..=8 | 10..=16 | 22 | 23 | 32..=34 | 36 | 37 | 64..=66)
 }
 
 /// Numbers that look random and are the same in each run.

@@ -92,15 +92,32 @@ pub fn equal(count: usize, bits: usize) -> Vec<(usize, usize, usize)> {
 
 /// The same points turned by half a turn.
 pub fn turned(points: &str) -> String {
-    let negative = |number: &str| (-number.trim().parse::<i16>().unwrap()).to_string();
-    let turn = |line: &str| {
+    moved(points, |(x, y)| (-x, -y))
+}
+
+/// The same points turned by a quarter to the left, counter-clockwise.
+pub fn quarter_left(points: &str) -> String {
+    moved(points, |(x, y)| (-y, x))
+}
+
+/// The same points turned by a quarter to the right.
+pub fn quarter_right(points: &str) -> String {
+    moved(points, |(x, y)| (y, -x))
+}
+
+fn moved(points: &str, to: impl Fn((i16, i16)) -> (i16, i16)) -> String {
+    let number = |word: &str| word.trim().parse::<i16>().unwrap();
+    let line = |line: &str| {
         let point = line.split('#').next().unwrap();
         match point.split_once(',') {
-            Some((x, y)) if x != "x" => format!("{},{}\n", negative(x), negative(y)),
+            Some((x, y)) if x != "x" => {
+                let (x, y) = to((number(x), number(y)));
+                format!("{x},{y}\n")
+            }
             _ => "\n".to_string(),
         }
     };
-    points.lines().map(turn).collect()
+    points.lines().map(line).collect()
 }
 
 /// What `encode` prints for a frame and a register.

@@ -106,7 +106,8 @@ fn some_tones_tell_the_clip_and_not_the_register() {
     let points = turned(&written(&set, "02", 4711));
     let words = "Turned: the clips are the wrong way round, so swap them, whatever the register: \
                  the 12 monitored tones tell, because no register gives their points the other \
-                 way round (24 filler bits, where 2 check the others).";
+                 way round (24 filler bits, where 2 check the others); nor is it a quarter turn \
+                 (theorem quarter-any-register).";
     let found = find("turn", &set, &points);
     assert_eq!((found.status, found.line(0)), (32, words));
     assert!(found.line(2).ends_with("register not known"));

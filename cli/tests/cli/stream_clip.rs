@@ -162,7 +162,7 @@ fn symbols_of_both_ways_cannot_tell() {
     assert_eq!(ran.status, 33);
     assert!(last(&ran).ends_with("; in all: cannot tell"), "{}", ran.out);
     for words in [
-        "which had a symbol before the other way round and so may be out of step",
+        "which had a symbol before another way round and so may be out of step",
         "; the writer's register before this symbol (--register N, with this symbol first) would settle it",
     ] {
         assert_eq!(ran.out.matches(words).count(), 2, "{}", ran.out);

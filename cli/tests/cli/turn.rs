@@ -27,8 +27,13 @@ fn turn_assumed(set: &str, points: &str) -> Ran {
     run_with(points.as_bytes(), &["turn", set, "-"])
 }
 
-/// One sentence first: it begins with this word and is the only one.
+/// One sentence first, and a line for each way that is shown: all four where none is read.
 fn told(ran: &Ran, status: i32, word: &str) {
+    told_in_lines(ran, status, word, if status == 34 { 5 } else { 3 });
+}
+
+/// The sentence begins with this word and is the only one; so many lines in all.
+fn told_in_lines(ran: &Ran, status: i32, word: &str, lines: usize) {
     assert_eq!((ran.status, ran.err.as_str()), (status, ""), "{}", ran.out);
     let sentence = ran.line(0);
     assert!(
@@ -36,7 +41,7 @@ fn told(ran: &Ran, status: i32, word: &str) {
         "{sentence}"
     );
     assert_eq!(sentence.matches('.').count(), 1, "{sentence}");
-    assert_eq!(ran.out.lines().count(), 3);
+    assert_eq!(ran.out.lines().count(), lines);
 }
 
 #[test]

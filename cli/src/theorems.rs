@@ -1,0 +1,30 @@
+//! Theorems that answers name, as `crates/guarantees/proofs/Guarantees.antt` has them. All of them are of
+//! coded tables.
+
+/// Whatever register it is read with, a written symbol turned by a quarter, either way, is never read.
+pub const QUARTER_ANY: &str = "quarter-any-register";
+
+/// If N is odd, a written symbol turned by half a turn is never read, whatever register it is read
+/// with.
+pub const HALF_ANY: &str = "half-turn-any-register";
+
+/// With the writer's register, the first monitored tone refuses a written symbol turned by half a turn.
+pub const HALF_MONITORED: &str = "half-turn-monitored";
+
+/// With the writer's register, a written symbol turned by half a turn is read if and only if no tone is
+/// monitored and N is even.
+pub const HALF: &str = "half-turn";
+
+/// The clip check of a written symbol, of one turned by half a turn, and of one turned by a quarter.
+pub const CLIP_WRITTEN: &str = "clip-of-written";
+pub const CLIP_TURNED: &str = "clip-of-turned";
+pub const CLIP_QUARTER: &str = "clip-of-quarter";
+
+/// " (theorems half-turn, quarter-any-register)"
+pub fn named(theorems: &[&str]) -> String {
+    match theorems {
+        [] => String::new(),
+        [theorem] => format!(" (theorem {theorem})"),
+        _ => format!(" (theorems {})", theorems.join(", ")),
+    }
+}
