@@ -28,3 +28,31 @@ pub fn named(theorems: &[&str]) -> String {
         _ => format!(" (theorems {})", theorems.join(", ")),
     }
 }
+
+#[cfg(test)]
+mod tests {
+    use super::*;
+
+    /// Every name is that of a theorem on the page.
+    #[test]
+    fn the_page_has_them() {
+        let page = concat!(
+            env!("CARGO_MANIFEST_DIR"),
+            "/../crates/guarantees/proofs/Guarantees.antt"
+        );
+        let page = std::fs::read_to_string(page).expect("the page of theorems");
+        for name in [
+            QUARTER_ANY,
+            HALF_ANY,
+            HALF_MONITORED,
+            HALF,
+            CLIP_WRITTEN,
+            CLIP_TURNED,
+            CLIP_QUARTER,
+        ] {
+            let stated = format!("pub {name} : ");
+            let mut lines = page.lines().map(str::trim_start);
+            assert!(lines.any(|line| line.starts_with(&stated)), "{name}");
+        }
+    }
+}
