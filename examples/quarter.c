@@ -2,10 +2,10 @@
  * Which way are the points turned? A hybrid may turn all points of a symbol by one, two or three quarters,
  * (X, Y) to (-Y, X) each. Reading turns them back each way and sees which is accepted.
  *
- * With coded tables a symbol that is turned by a quarter is never read (proved: quarter-turn in
- * crates/guarantees/proofs/Guarantees.antt), so reading always tells a quarter from none. It tells one way
- * alone if a tone is monitored or N, the count of non-zero entries in b', is odd. Else two ways are read,
- * half a turn apart, as two frames.
+ * With coded tables a symbol that is turned by a quarter is never read, whatever the register (proved:
+ * quarter-any-register in crates/guarantees/proofs/Guarantees.antt). So with the writer's register reading
+ * always tells a quarter from none. It tells one way alone if a tone is monitored or N, the count of
+ * non-zero entries in b', is odd. Else two ways are read, half a turn apart, as two frames.
  *
  *   gcc -Wall -Wextra -Werror -std=c11 -Iinclude examples/quarter.c \
  *       target/staticlib/libclevisroot.a -o quarter

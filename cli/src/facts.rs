@@ -117,21 +117,17 @@ impl Facts {
 
     /// Whether points turned by a quarter show, and by what. Of uncoded tables nothing is proved.
     pub fn quarter_words(&self) -> String {
-        let reason = match (self.ones(), self.monitored()) {
-            _ if self.coded => {
-                return format!("show whatever the register{}", named(&[QUARTER_ANY]))
+        const UNPROVED: &str = "; uncoded, this is not proved";
+        let tones = self.monitored_words();
+        match (self.ones(), self.monitored()) {
+            _ if self.coded => format!("show whatever the register{}", named(&[QUARTER_ANY])),
+            (0, 0) => "do not show, because no tone has 1 bit and none is monitored".to_string(),
+            (0, _) => format!("show if the register is known, because {tones}{UNPROVED}"),
+            (1, _) => format!("show whatever the register, because 1 tone has 1 bit{UNPROVED}"),
+            (ones, _) => {
+                format!("show whatever the register, because {ones} tones have 1 bit{UNPROVED}")
             }
-            (0, 0) => {
-                return "do not show, because no tone has 1 bit and none is monitored".to_string()
-            }
-            (0, _) => format!(
-                "if the register is known, because {}",
-                self.monitored_words()
-            ),
-            (1, _) => "whatever the register, because 1 tone has 1 bit".to_string(),
-            (ones, _) => format!("whatever the register, because {ones} tones have 1 bit"),
-        };
-        format!("show {reason}; uncoded, this is not proved")
+        }
     }
 
     /// "1 tone is monitored"

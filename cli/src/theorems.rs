@@ -33,6 +33,16 @@ pub fn named(theorems: &[&str]) -> String {
 mod tests {
     use super::*;
 
+    const ALL: [&str; 7] = [
+        QUARTER_ANY,
+        HALF_ANY,
+        HALF_MONITORED,
+        HALF,
+        CLIP_WRITTEN,
+        CLIP_TURNED,
+        CLIP_QUARTER,
+    ];
+
     /// Every name is that of a theorem on the page.
     #[test]
     fn the_page_has_them() {
@@ -41,18 +51,19 @@ mod tests {
             "/../crates/guarantees/proofs/Guarantees.antt"
         );
         let page = std::fs::read_to_string(page).expect("the page of theorems");
-        for name in [
-            QUARTER_ANY,
-            HALF_ANY,
-            HALF_MONITORED,
-            HALF,
-            CLIP_WRITTEN,
-            CLIP_TURNED,
-            CLIP_QUARTER,
-        ] {
+        for name in ALL {
             let stated = format!("pub {name} : ");
             let mut lines = page.lines().map(str::trim_start);
             assert!(lines.any(|line| line.starts_with(&stated)), "{name}");
         }
+    }
+
+    /// The help, which is typed, names no other.
+    #[test]
+    fn the_help_names_no_other() {
+        let help = include_str!("commands/details.rs");
+        let mut named = help.split("(theorem ").skip(1);
+        assert!(named.all(|rest| ALL.iter().any(|name| rest.starts_with(&format!("{name})")))));
+        assert!(!help.contains("(theorems "));
     }
 }

@@ -66,6 +66,26 @@ impl Way {
             Way::QuarterRight => "quarter right",
         }
     }
+
+    /// By what the points are turned.
+    pub fn turn_words(self) -> &'static str {
+        match self {
+            Way::Straight => "not at all",
+            Way::Turned => "by half a turn",
+            Way::QuarterLeft => "by a quarter to the left",
+            Way::QuarterRight => "by a quarter to the right",
+        }
+    }
+
+    /// What (X, Y) came as.
+    pub fn image(self) -> &'static str {
+        match self {
+            Way::Straight => "(X, Y)",
+            Way::Turned => "(-X, -Y)",
+            Way::QuarterLeft => "(-Y, X)",
+            Way::QuarterRight => "(Y, -X)",
+        }
+    }
 }
 
 #[cfg(test)]

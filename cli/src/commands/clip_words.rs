@@ -7,21 +7,20 @@ use super::register_words::register_words;
 use super::tone_words::{alike_one_in, enough};
 use super::verdict::{Known, Origin, Verdict};
 use super::verdict_theorems::theorems_of_one_tone;
-use super::verdict_words::{even, no_cure, odd, told, NO_TONE, SPARE};
+use super::verdict_words::{even, odd, NO_TONE, SPARE, STRAIGHT, TURNED};
 use crate::ask::trellis_tells;
-use crate::theorems::named;
+use crate::theorems::{named, HALF_ANY, QUARTER_ANY};
 use crate::way::{Family, Way};
 
 const THE_TONE: &str = "the first monitored tone, the only one that was looked at, has";
 
 /// What the whole symbol tells of a quarter turn.
-const TURN_TELLS_QUARTERS: &str =
-    "`turn` reads the whole symbol and tells a quarter turn from the other \
-                                   ways, whatever the register (theorem quarter-any-register)";
-
-/// What else may look like a quarter turn.
-const OTHER_CAUSES: &str =
-    "if the hybrid cannot turn points by a quarter, another register or other tables are likelier";
+fn turn_tells_quarters() -> String {
+    format!(
+        "`turn` reads the whole symbol and tells a quarter turn whatever the register{}",
+        named(&[QUARTER_ANY])
+    )
+}
 
 /// What the jointer should be told, in one sentence.
 pub fn sentence(said: &Said, tables: &Tables) -> String {
@@ -42,43 +41,58 @@ fn point(way: Way) -> &'static str {
     match way {
         Way::Straight => "the point that its filler bits give",
         Way::Turned => "the opposite of the point that its filler bits give",
-        Way::QuarterLeft => "the point that its filler bits give, turned by a quarter to the left,",
-        Way::QuarterRight => {
-            "the point that its filler bits give, turned by a quarter to the right,"
+        Way::QuarterLeft | Way::QuarterRight => "the point that its filler bits give, turned so,",
+    }
+}
+
+fn told(way: Way) -> String {
+    match way {
+        Way::Straight => STRAIGHT.to_string(),
+        Way::Turned => TURNED.to_string(),
+        Way::QuarterLeft | Way::QuarterRight => {
+            let (by, image) = (way.turn_words(), way.image());
+            format!("Turned {by}: every (X, Y) came as {image}")
         }
     }
 }
 
 fn sure_sentence(way: Way, tables: &Tables, known: &Known) -> String {
-    let turn = match (way.family(), whatever_the_register(tables)) {
-        (Family::Quarters, _) => format!("{}; {OTHER_CAUSES}; {TURN_TELLS_QUARTERS}", no_cure(way)),
+    let theorems = named(&theorems_of_one_tone(Verdict::Sure(way)));
+    let rest = match (way.family(), whatever_the_register(tables)) {
+        (Family::Quarters, _) => format!(
+            ", so check register and tables first, then the hybrid, and leave the clips, for swapping \
+             them only changes the side{theorems}; {}",
+            turn_tells_quarters()
+        ),
         (Family::Halves, Some((turn, reason))) => {
-            format!("; {turn} tells it whatever the register{reason}")
+            format!("{theorems}; {turn} tells it whatever the register{reason}")
         }
-        (Family::Halves, None) => String::new(),
+        (Family::Halves, None) => theorems,
     };
     let point = point(way).trim_end_matches(',');
     format!(
         "{}, if the tables and {} are the writer's and {ONE_POINT}: the first monitored tone has {point}, as it \
-         would with a wrong register about one time in {}{}{turn}.",
+         would with a wrong register about one time in {}{rest}.",
         told(way),
         register_words(known),
-        alike_one_in(known.agreed),
-        named(&theorems_of_one_tone(Verdict::Sure(way)))
+        alike_one_in(known.agreed)
     )
 }
 
 fn perhaps_sentence(way: Way, tables: &Tables, known: &Known) -> String {
     let advice = match way {
-        Way::Straight => "straight, so do not rely on it yet",
-        Way::Turned => "turned, so do not swap the clips yet",
-        Way::QuarterLeft => "turned by a quarter to the left, so do not rely on it yet",
-        Way::QuarterRight => "turned by a quarter to the right, so do not rely on it yet",
+        Way::Straight => "straight, so do not rely on it yet".to_string(),
+        Way::Turned => "turned, so do not swap the clips yet".to_string(),
+        Way::QuarterLeft | Way::QuarterRight => {
+            format!("turned {}, so do not rely on it yet", way.turn_words())
+        }
     };
     let quarter = match way.family() {
         Family::Halves => String::new(),
         Family::Quarters => format!(
-            "; swapping the clips would not mend it, and {OTHER_CAUSES}; {TURN_TELLS_QUARTERS}"
+            "; a wrong register is likelier unless the hybrid turns points, and swapping the clips \
+             would mend neither; {}",
+            turn_tells_quarters()
         ),
     };
     format!(
@@ -96,14 +110,15 @@ fn cannot_tell_sentence(tables: &Tables) -> String {
     let rest = match trellis_tells(&tables.set, &tables.order) {
         true => format!(
             ", and `clip` looks at monitored tones only; `turn` reads the whole symbol and can tell, whatever the \
-             register, because {}, and quarter turns too (theorems half-turn-any-register, \
-             quarter-any-register); for `clip` to tell, it takes {SPARE}",
-            odd(tables.order.loaded())
+             register, because {}, and quarter turns too{}; for `clip` to tell, it takes {SPARE}",
+            odd(tables.order.loaded()),
+            named(&[HALF_ANY, QUARTER_ANY])
         ),
         false => format!(
             "; nor can `turn` tell a written symbol from one turned by half, because {}, but it tells a \
-             quarter turn, whatever the register (theorem quarter-any-register); {SPARE} would tell",
-            even(tables.order.loaded())
+             quarter turn, whatever the register{}; {SPARE} would tell",
+            even(tables.order.loaded()),
+            named(&[QUARTER_ANY])
         ),
     };
     format!("Cannot tell: {NO_TONE}{rest}.")

@@ -42,9 +42,9 @@ pub const READ: &str = "\
 Reads exact points back to the frame, hex, 32 bytes a line. What it prints is a FRAME file. The
 register must be the one the points were written with; --register find works it out from the
 monitored tones, 12 of one symbol or 32 of several that follow each other, or a few more where
-silent tones stand between them; where it cannot, there is no frame and the status is 33. Refusals
-are 1 to 8 and 10 to 15; with 13, 14 and 15 the picture of --svg is drawn too and shows what was
-refused.
+silent tones stand between them; where it cannot, there is no frame and the status is 33. Uncoded,
+the one it finds is the writer's if the points are not turned by a quarter. Refusals are 1 to 8 and
+10 to 15; with 13, 14 and 15 the picture of --svg is drawn too and shows what was refused.
 
 With --start N, 0 to 7, the frame starts at bit N of its first byte, as encode takes it, with zeros
 before it and after it. The points do not tell the start. Refusal 11 is a start above 7.
@@ -102,8 +102,8 @@ docs/FIND-THE-REGISTER.md has the reasons. --start N is the start of the frames 
 for read; no verdict depends on it.
 
 Exit status: 0 straight, 32 turned, 37 turned by a quarter, its side told or not, 36 perhaps
-(straight or turned), 33 cannot tell, 34 no way is read; 1 to 8 and 10 to 12 if the tables, the
-count of points, the start or the register are refused. A file may hold many symbols, as for read;
+(straight or turned), 33 cannot tell, 34 neither; 1 to 8 and 10 to 12 if the tables, the count of
+points, the start or the register are refused. A file may hold many symbols, as for read;
 the status is then that of all of them together.
 
 examples
@@ -124,7 +124,7 @@ every symbol that was written with these coded tables and this register, turned 
 The register must be the one that the symbol was written with: with a wrong one the tone looks
 like each of the four ways about one time in 4. Without --register the value at reset is assumed,
 and the way is only perhaps so; with --register N it holds if the tables and N are the writer's and
-this one point came as it was written. The register is not found here (see turn --register find);
+this one point came as it was written but for a turn. The register is not found here (see turn --register find);
 turn tells a quarter turn from the other ways whatever the register. All other points may be
 anything, 0,0 for instance, but there must be one for each tone.
 
@@ -185,7 +185,8 @@ example
 ";
 
 pub const FIGURES: &str = "\
-Works out the bench figures of document 01, as amended, and prints each beside the page's value.
+Works out the bench figures of document 01, as amended, and prints each beside the page's value; then
+what refuses a symbol that is turned by a quarter, either way, for each kind of coded tables.
 The ones with a * are the page's small set. Exit status: 0 if all agree, else 35.
 
 example

@@ -1,5 +1,5 @@
-//! `figures`: document 01's bench figures, as amended, worked out now, each beside the
-//! page's value.
+//! `figures`: document 01's bench figures, as amended, and what refuses a quarter turn of each kind of
+//! tables, worked out now, each beside the page's value.
 
 use crate::ask;
 use crate::call::Call;
@@ -34,6 +34,7 @@ fn figures_report() -> Report {
     figures.extend(small_table_figures());
     figures.extend(point_figures());
     figures.extend(large_table_figures());
+    figures.extend(quarter_turn_figures());
     let agree = figures.iter().filter(|figure| figure.agrees()).count();
     let status = if agree == figures.len() { 0 } else { DISAGREE };
     let mut summary = vec![row("agree", "", "figure (* the small set)", "page", "now")];
@@ -90,7 +91,12 @@ fn unmarked(what: &str, page: &'static str, now: String) -> Figure {
 
 /// Bench table A, with the gain of tone 4 as given.
 fn table_a(gain_of_4: u16) -> TableSet {
-    let tones = [(7, 4), (3, 1), (5, 2), (2, 3), (6, 1), (4, 0)];
+    table_a_with(1, gain_of_4)
+}
+
+/// The same, with so many bits of tones 3 and 6.
+fn table_a_with(ones: u8, gain_of_4: u16) -> TableSet {
+    let tones = [(7, 4), (3, ones), (5, 2), (2, 3), (6, ones), (4, 0)];
     let mut set = TableSet::new(true, 8);
     for (tone, bits) in tones {
         let gain = if tone == 4 { gain_of_4 } else { 512 };
@@ -189,6 +195,35 @@ fn large_table_figures() -> Vec<Figure> {
         unmarked("4096 tones of 15 bits, coded: L", "59388", large(true)),
         unmarked("4096 tones of 15 bits, uncoded: L", "61440", large(false)),
     ]
+}
+
+/// A table of each kind: by it goes what refuses a quarter turn, and where.
+fn quarter_turn_figures() -> Vec<Figure> {
+    let twos = |tones| quarter_turns(&equal_tones(true, tones, 2));
+    let a = |ones| quarter_turns(&table_a_with(ones, 512));
+    vec![
+        unmarked("A, quarter turn", "13 OFFGRID at 4", a(1)),
+        unmarked("A, 2 bits on 3 and 6: the same", "14 MONITOR at 5", a(2)),
+        unmarked("5 tones of 2 bits: the same", "15 TRELLIS at 0", twos(5)),
+        unmarked("4 tones of 2 bits: the same", "15 TRELLIS at 0", twos(4)),
+        unmarked("6 tones of 2 bits: the same", "15 TRELLIS at 1", twos(6)),
+    ]
+}
+
+/// What frame byte 0 is read as, turned by a quarter to the left and to the right.
+fn quarter_turns(set: &TableSet) -> String {
+    let (_, points) = ask::encode(set, &[0], 0, RESET);
+    let opposite = |list: &[i16]| list.iter().map(|number| -number).collect::<Vec<_>>();
+    let read = |x: &[i16], y: &[i16]| {
+        let (answer, _) = ask::read(set, (x, y), RESET, 0);
+        format!("{} at {}", title(answer.number), answer.place)
+    };
+    let left = read(&opposite(&points.y), &points.x);
+    let right = read(&points.y, &opposite(&points.x));
+    match left == right {
+        true => left,
+        false => format!("left {left}, right {right}"),
+    }
 }
 
 fn size(set: &TableSet) -> String {

@@ -39,8 +39,9 @@ pub const IF_GIVEN: &str = "the register that was given is the writer's";
 
 /// And of one that rests on one tone, which nothing else bears out: no reading speaks for the tables.
 pub const IF_BOTH: &str = "the tables and the register that were given are the writer's";
-pub const ONE_POINT: &str = "the one point that was looked at came as it was written";
-pub const POINTS: &str = "the points that were looked at came as they were written";
+pub const ONE_POINT: &str =
+    "the one point that was looked at came as it was written but for a turn";
+pub const POINTS: &str = "the points that were looked at came as they were written but for a turn";
 
 /// And of one that holds whatever the register, of uncoded tables: a quarter turn may look so to some
 /// register.

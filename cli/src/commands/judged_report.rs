@@ -6,7 +6,9 @@ use super::quarter_words::quarter_sentence;
 use super::reading::{Reading, Tables};
 use super::verdict::Verdict;
 use super::verdict_theorems::theorems_of_readings;
-use super::verdict_words::sentence;
+use super::verdict_words::{
+    cannot_tell_sentence, neither_sentence, perhaps_sentence, sure_sentence,
+};
 use crate::files::hex_lines;
 use crate::json::{Fields, Json};
 use crate::report::{fields, refusal_fields, start_field, Report};
@@ -36,10 +38,15 @@ impl Judged {
         report
     }
 
+    /// What the jointer should be told, in one sentence.
     fn sentence(&self, tables: &Tables) -> String {
+        let ground = &self.ground;
         match self.verdict() {
-            Verdict::Quarter => quarter_sentence(self.seen, tables, &self.ground),
-            verdict => sentence(verdict, tables, &self.ground),
+            Verdict::Sure(way) => sure_sentence(way, tables, ground),
+            Verdict::Quarter => quarter_sentence(self.seen, tables, ground),
+            Verdict::Perhaps(way) => perhaps_sentence(way, tables, ground),
+            Verdict::CannotTell => cannot_tell_sentence(tables, ground),
+            Verdict::Neither => neither_sentence(tables, ground),
         }
     }
 

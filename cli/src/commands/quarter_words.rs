@@ -5,7 +5,7 @@ use super::register_words::register_words;
 use super::tone_words::{enough, too_few};
 use super::verdict::{Ground, Verdict};
 use super::verdict_theorems::theorems_of_readings;
-use super::verdict_words::{even, only_with, NO_TONE, QUARTER_SURE, SPARE};
+use super::verdict_words::{even, only_with, NO_TONE, QUARTER_ADVICE, QUARTER_SURE, SPARE};
 use crate::theorems::named;
 use crate::way::Way;
 
@@ -13,9 +13,7 @@ use crate::way::Way;
 pub fn quarter_sentence(seen: Verdict, tables: &Tables, ground: &Ground) -> String {
     let theorems = theorems_of_readings(Verdict::Quarter, ground, tables.set.coded);
     format!(
-        "Turned by a quarter: every (X, Y) came as (-Y, X), to the left, or every one as (Y, -X), to the \
-         right, so look at the hybrid; {}; swapping the clips does not mend it, for it only makes it a \
-         quarter to the other side{QUARTER_SURE}{}.",
+        "Turned by a quarter: {QUARTER_ADVICE}; {}{QUARTER_SURE}{}.",
         side(seen, tables, ground),
         named(&theorems)
     )
@@ -26,17 +24,17 @@ fn side(seen: Verdict, tables: &Tables, ground: &Ground) -> String {
     let told = match (seen, ground) {
         (Verdict::Perhaps(way), _) => perhaps(way, ground),
         (_, Ground::Tones(known)) => format!(
-            "the side is not told, for the points are refused as turned to either with {}",
+            "the side is not told, for the points are refused either way with {}",
             register_words(known).trim_end_matches(',')
         ),
         (_, Ground::TooFew(reach)) => format!(
-            "the side is not told, for the points are read as turned to either: {}",
+            "the side is not told, for the points are read either way: {}",
             too_few(*reach, "the 23 bits of the register")
         ),
         _ => {
             let even = even(tables.order.loaded());
             return format!(
-                "nothing can tell the side, for the points are read as turned to either, because \
+                "nothing can tell the side, for the points are read either way, because \
                  {NO_TONE} and {even}; {SPARE} would tell it"
             );
         }
@@ -49,13 +47,11 @@ fn side(seen: Verdict, tables: &Tables, ground: &Ground) -> String {
 }
 
 fn perhaps(way: Way, ground: &Ground) -> String {
-    let (side, other) = match way {
-        Way::QuarterRight => ("right", "left"),
-        _ => ("left", "right"),
-    };
     format!(
-        "perhaps it is to the {side}, for the points are read as turned to the {side} and not as turned \
-         to the {other}, {}",
+        "perhaps it is {}, {} for (X, Y): the points are read so and refused as turned to the other \
+         side, {}",
+        way.turn_words(),
+        way.image(),
         only_with(ground)
     )
 }

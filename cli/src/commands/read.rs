@@ -1,5 +1,6 @@
 //! `read`: points to frames.
 
+use super::ground_fields::NO_QUARTER;
 use super::picture::Picture;
 use super::reading::{Reading, Tables};
 use super::register_words::{not_checked_sentence, not_found_sentence};
@@ -105,8 +106,11 @@ impl Read {
     ) -> (usize, Report) {
         let mut report = self.report(register, reading);
         if let Some(FoundRegister { reach, .. }) = found {
+            let condition = self
+                .condition()
+                .map_or(String::new(), |told| format!(", if {told}"));
             report.summary.push(format!(
-                "register before {register}, found from {} monitored tones",
+                "register before {register}, found from {} monitored tones{condition}",
                 reach.tones
             ));
         }
@@ -122,10 +126,17 @@ impl Read {
         (*number, report)
     }
 
+    /// What has to be so for a register that was found to be the writer's: uncoded, some register may
+    /// give the points of a symbol that is turned by a quarter.
+    fn condition(&self) -> Option<&'static str> {
+        (!self.tables.set.coded).then_some(NO_QUARTER)
+    }
+
     fn report(&self, register: u32, reading: &Reading) -> Report {
         let mut json = symbol_fields("read", &reading.answer, self.tables.named_start);
         if self.find {
             json.push(("register_before", Json::Number(register.into())));
+            json.push(("holds_if", self.condition().map_or(Json::Null, Json::text)));
         }
         if let Some(refusal) = &reading.refusal {
             return Report::refused_result(refusal, json);

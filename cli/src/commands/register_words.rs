@@ -53,9 +53,14 @@ pub fn not_found_sentence(tables: &Tables, points: &PointList) -> String {
             },
             enough(tables)
         ),
-        _ => "Cannot tell the register: none gives the points of the monitored tones, so look for \
-              noise or other tables."
-            .to_string(),
+        _ => format!(
+            "Cannot tell the register: none gives the points of the monitored tones, so look for \
+             noise, other tables or a quarter turn{}.",
+            match tables.set.coded {
+                true => " (see `turn`)",
+                false => "",
+            }
+        ),
     }
 }
 

@@ -4,7 +4,6 @@ use super::verdict::{Ground, Verdict};
 use crate::theorems::{
     CLIP_QUARTER, CLIP_TURNED, CLIP_WRITTEN, HALF, HALF_ANY, HALF_MONITORED, QUARTER_ANY,
 };
-use crate::way::Way;
 
 /// Those of a verdict on a whole symbol, which was read each way.
 pub fn theorems_of_readings(verdict: Verdict, ground: &Ground, coded: bool) -> Vec<&'static str> {
@@ -18,12 +17,11 @@ pub fn theorems_of_readings(verdict: Verdict, ground: &Ground, coded: bool) -> V
     }
 }
 
-/// Those of a verdict on one tone.
+/// Those of a verdict on one tone: each tells what the check says of a symbol that came one way, and
+/// so rules that way out where the check says otherwise.
 pub fn theorems_of_one_tone(verdict: Verdict) -> Vec<&'static str> {
     match verdict {
-        Verdict::Sure(Way::Straight) => vec![CLIP_WRITTEN],
-        Verdict::Sure(Way::Turned) => vec![CLIP_TURNED],
-        Verdict::Sure(Way::QuarterLeft | Way::QuarterRight) => vec![CLIP_QUARTER],
+        Verdict::Sure(_) => vec![CLIP_WRITTEN, CLIP_TURNED, CLIP_QUARTER],
         _ => vec![],
     }
 }

@@ -23,6 +23,9 @@ const ALL: [Verdict; 11] = [
     Verdict::Neither,
 ];
 
+/// Why nothing is told of them together.
+const BOTH: &str = ", for some symbols are turned by a quarter and some are not";
+
 pub struct VerdictTotals {
     /// What has to be so where a verdict is on a condition.
     condition: String,
@@ -106,7 +109,11 @@ impl VerdictTotals {
             "{}: {}; in all: {word}{}",
             count(symbols, "symbol"),
             words.join(", "),
-            condition.map_or(String::new(), |condition| format!(", if {condition}"))
+            match condition {
+                Some(condition) => format!(", if {condition}"),
+                None if self.whole.is_of_both_families() => BOTH.to_string(),
+                None => String::new(),
+            }
         );
         let status = whole.map_or(self.first.unwrap_or(CANNOT_TELL), Verdict::status);
         let fields = vec![

@@ -15,37 +15,29 @@ pub const SPARE: &str = "a spare tone with 0 bits and a gain";
 
 pub const NO_TONE: &str = "this table set monitors no tone";
 
-/// What is sure of every quarter turn that is told.
+/// What to do about a quarter turn.
+pub const QUARTER_ADVICE: &str =
+    "look at the hybrid and leave the clips, for swapping them only changes the side";
+
+/// What is sure of it.
 pub const QUARTER_SURE: &str =
-    ", and of points that came as they were written but for a turn it is a \
-                                quarter turn whatever the register";
+    "; that it is a quarter turn holds whatever the register, of a symbol \
+                                of these tables that came as it was written but for a turn";
 
 /// What is told of the clips, where it is.
-pub fn told(way: Way) -> &'static str {
+fn told(way: Way) -> String {
     match way {
-        Way::Straight => "Straight: the clips are the right way round",
-        Way::Turned => "Turned: the clips are the wrong way round, so swap them",
-        Way::QuarterLeft => {
-            "Turned by a quarter to the left: every (X, Y) came as (-Y, X), so look at the hybrid"
-        }
-        Way::QuarterRight => {
-            "Turned by a quarter to the right: every (X, Y) came as (Y, -X), so look at the hybrid"
+        Way::Straight => STRAIGHT.to_string(),
+        Way::Turned => TURNED.to_string(),
+        Way::QuarterLeft | Way::QuarterRight => {
+            let (by, image) = (way.turn_words(), way.image());
+            format!("Turned {by}: {QUARTER_ADVICE}; every (X, Y) came as {image}")
         }
     }
 }
 
-/// Why swapping the clips is no cure for a quarter turn.
-pub fn no_cure(way: Way) -> &'static str {
-    match way {
-        Way::Straight | Way::Turned => "",
-        Way::QuarterLeft => {
-            "; swapping the clips does not mend it, for it only makes it a quarter to the right"
-        }
-        Way::QuarterRight => {
-            "; swapping the clips does not mend it, for it only makes it a quarter to the left"
-        }
-    }
-}
+pub const STRAIGHT: &str = "Straight: the clips are the right way round";
+pub const TURNED: &str = "Turned: the clips are the wrong way round, so swap them";
 
 /// What the readings say for a way.
 fn readings(way: Way) -> &'static str {
@@ -53,40 +45,29 @@ fn readings(way: Way) -> &'static str {
         Way::Straight => "the points are read as they came and refused when turned",
         Way::Turned => "the points are refused as they came and read when turned",
         Way::QuarterLeft | Way::QuarterRight => {
-            "the points are read when turned back and refused the other three ways"
+            "the points are read so and refused the other three ways"
         }
     }
 }
 
-/// What the jointer should be told, in one sentence.
-pub fn sentence(verdict: Verdict, tables: &Tables, ground: &Ground) -> String {
-    match verdict {
-        Verdict::Sure(way) => sure_sentence(way, tables, ground),
-        Verdict::Perhaps(way) => perhaps_sentence(way, tables, ground),
-        Verdict::Neither => neither_sentence(tables, ground),
-        Verdict::CannotTell | Verdict::Quarter => {
-            format!("Cannot tell: {}.", why_not_told(tables, ground))
-        }
-    }
-}
-
-fn sure_sentence(way: Way, tables: &Tables, ground: &Ground) -> String {
+pub fn sure_sentence(way: Way, tables: &Tables, ground: &Ground) -> String {
     let coded = tables.set.coded;
     // Uncoded, a quarter turn may look so to some register.
     let clips = match !coded && !ground.is_conditional() {
         true => format!("{}, if {NO_QUARTER}", told(way)),
-        false => told(way).to_string(),
+        false => told(way),
     };
     let because = match ground {
-        Ground::Tones(known) => sure_by_register(&clips, readings(way), known),
+        Ground::Tones(known) => sure_by_register(&clips, way, known),
         Ground::Trellis(loaded) => format!(
             "{clips}, whatever the register: the trellis code tells, because {}",
             odd(*loaded)
         ),
         Ground::OneWay(reach) => format!(
-            "{clips}, whatever the register: the {} monitored tones tell, because no register gives \
-             their points the other way round ({} filler bits, where {} the others)",
+            "{clips}, whatever the register: the {} monitored tones tell, because {} no register gives \
+             their points ({} filler bits, where {} the others)",
             reach.tones,
+            other(way),
             2 * reach.tones,
             checks(2 * reach.tones - reach.rank)
         ),
@@ -94,7 +75,15 @@ fn sure_sentence(way: Way, tables: &Tables, ground: &Ground) -> String {
     };
     let theorems = theorems_of_readings(Verdict::Sure(way), ground, coded);
     let quarter = quarter_or_not(way, &theorems);
-    format!("{because}{}{quarter}{}.", no_cure(way), named(&theorems))
+    format!("{because}{quarter}{}.", named(&theorems))
+}
+
+/// The other way of the family.
+fn other(way: Way) -> &'static str {
+    match way.family() {
+        Family::Halves => "the other way round",
+        Family::Quarters => "to the other side",
+    }
 }
 
 /// What is sure of a quarter turn, where the theorems are not of the way alone.
@@ -116,10 +105,11 @@ pub fn even(loaded: usize) -> String {
     format!("N, its count of non-zero re-ordered entries, is even ({loaded})")
 }
 
-fn sure_by_register(clips: &str, readings: &str, known: &Known) -> String {
+fn sure_by_register(clips: &str, way: Way, known: &Known) -> String {
     let Known {
         register, agreed, ..
     } = known;
+    let readings = readings(way);
     match known.origin {
         Origin::Found(tones) if known.carried => format!(
             "{clips}: {readings} with register {register}, which goes on from the one that {tones} \
@@ -128,9 +118,10 @@ fn sure_by_register(clips: &str, readings: &str, known: &Known) -> String {
         Origin::Found(tones) => format!(
             "{clips}, whatever the register was: {readings} with register {register}, which \
              {tones} monitored tones give ({} filler bits, where 23 fix it and {} it), and \
-             the other way no register fits",
+             {} no register fits",
             2 * tones,
-            checks(2 * tones - 23)
+            checks(2 * tones - 23),
+            other(way)
         ),
         _ if known.enough => format!(
             "{clips}: {readings} with {} and {} monitored tones agree, as with no other register",
@@ -145,7 +136,7 @@ fn sure_by_register(clips: &str, readings: &str, known: &Known) -> String {
     }
 }
 
-fn perhaps_sentence(way: Way, tables: &Tables, ground: &Ground) -> String {
+pub fn perhaps_sentence(way: Way, tables: &Tables, ground: &Ground) -> String {
     format!(
         "Perhaps {}: {}, {}; the writer's register (--register N) would settle it, and so would \
          --register find from {}.",
@@ -175,24 +166,37 @@ pub fn only_with(ground: &Ground) -> String {
     }
 }
 
-fn neither_sentence(tables: &Tables, ground: &Ground) -> String {
-    let (ways, rest) = match tables.set.coded {
-        true => ("all four ways", ""),
-        false => ("both ways", "; quarter turns are told of coded tables only"),
+pub fn neither_sentence(tables: &Tables, ground: &Ground) -> String {
+    const QUARTER: &str = "a quarter turn (which is told of coded tables only)";
+    let (ways, quarter, or_quarter) = match tables.set.coded {
+        true => (
+            "all four ways",
+            String::new(),
+            " or other tables".to_string(),
+        ),
+        false => (
+            "both ways",
+            format!(", {QUARTER}"),
+            format!(", other tables or {QUARTER}"),
+        ),
     };
     match ground {
         Ground::Tones(known) => format!(
-            "Neither: the points are refused {ways} with {} so look for noise, other tables or \
+            "Neither: the points are refused {ways} with {} so look for noise, other tables{quarter} or \
              another register (--register N, or --register find from {ENOUGH_TONES} monitored tones \
-             on{}) before you swap the clips{rest}.",
+             on{}) before you swap the clips.",
             register_words(known),
             or_a_few_more(&tables.set)
         ),
         _ => format!(
-            "Neither: the points are refused {ways} whatever the register, so look for noise or \
-             other tables before you swap the clips{rest}."
+            "Neither: the points are refused {ways} whatever the register, so look for \
+             noise{or_quarter} before you swap the clips."
         ),
     }
+}
+
+pub fn cannot_tell_sentence(tables: &Tables, ground: &Ground) -> String {
+    format!("Cannot tell: {}.", why_not_told(tables, ground))
 }
 
 /// Why nothing can be told, what would tell, and what is sure all the same.

@@ -44,12 +44,16 @@ impl Whole {
         self.always.contains(&way)
     }
 
+    /// Some symbols are turned by a quarter and some are not, whatever register was given.
+    pub fn is_of_both_families(&self) -> bool {
+        self.families.len() > 1
+    }
+
     /// None if there was no symbol with a verdict.
     pub fn verdict(&self) -> Option<Verdict> {
-        let mut families = self.families.iter().copied();
-        match (families.next(), families.next()) {
-            (Some(_), Some(_)) => Some(Verdict::CannotTell),
-            (family, _) => Some(self.of_ways()?.of_family(family)),
+        match self.is_of_both_families() {
+            true => Some(Verdict::CannotTell),
+            false => Some(self.of_ways()?.of_family(self.families.first().copied())),
         }
     }
 

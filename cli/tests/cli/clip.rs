@@ -128,9 +128,9 @@ fn the_first_monitored_tone_is_the_one_in_t_dash() {
 fn it_says_what_it_rests_on() {
     let ran = given(&example("clip-turned.csv"));
     let words = "Turned: the clips are the wrong way round, so swap them, if the tables and \
-                 register 4711, which was given, are the writer's and the one point that was looked at came as it was written: \
+                 register 4711, which was given, are the writer's and the one point that was looked at came as it was written but for a turn: \
                  the first monitored tone has the opposite of the point that its filler bits give, as \
-                 it would with a wrong register about one time in 4 (theorem clip-of-turned).";
+                 it would with a wrong register about one time in 4 (theorems clip-of-written, clip-of-turned, clip-of-quarter).";
     assert_eq!(ran.line(0), words);
 }
 
@@ -138,19 +138,16 @@ fn it_says_what_it_rests_on() {
 #[test]
 fn a_quarter_turn_says_what_else_it_may_be() {
     let whole =
-        "`turn` reads the whole symbol and tells a quarter turn from the other ways, whatever the \
-                 register (theorem quarter-any-register).";
-    let likelier =
-        "if the hybrid cannot turn points by a quarter, another register or other tables are \
-                    likelier; ";
+        "`turn` reads the whole symbol and tells a quarter turn whatever the register (theorem \
+                 quarter-any-register).";
     let ran = given(&example("clip-quarter.csv"));
     let words = format!(
-        "Turned by a quarter to the left: every (X, Y) came as (-Y, X), so look at the hybrid, if the \
-         tables and register 4711, which was given, are the writer's and the one point that was looked at \
-         came as it was written: the first monitored tone has the point that its filler bits give, turned \
-         by a quarter to the left, as it would with a wrong register about one time in 4 (theorem \
-         clip-of-quarter); swapping the clips does not mend it, for it only makes it a quarter to the \
-         right; {likelier}{whole}"
+        "Turned by a quarter to the left: every (X, Y) came as (-Y, X), if the tables and register 4711, \
+         which was given, are the writer's and the one point that was looked at came as it was written but \
+         for a turn: the first monitored tone has the point that its filler bits give, turned so, as it \
+         would with a wrong register about one time in 4, so check register and tables first, then the \
+         hybrid, and leave the clips, for swapping them only changes the side (theorems clip-of-written, \
+         clip-of-turned, clip-of-quarter); {whole}"
     );
     assert_eq!(ran.line(0), words);
     // The examples of `clip` were written with another register than the one at reset.
@@ -158,11 +155,12 @@ fn a_quarter_turn_says_what_else_it_may_be() {
     let perhaps = "Perhaps turned by a quarter to the left, so do not rely on it yet";
     told(&assumed, 36, perhaps, 1);
     for words in [
-        "has the point that its filler bits give, turned by a quarter to the left, with register 8388607, \
+        "has the point that its filler bits give, turned so, with register 8388607, \
          which is the value at reset, assumed because none was given, and about one wrong register in 4 \
          would look the same; the writer's register (--register N) would settle it, and so would `turn \
          --register find` from 12 monitored tones in one symbol, or 32 in several that follow each other",
-        "; swapping the clips would not mend it, and if the hybrid cannot turn points by a quarter, ",
+        "; a wrong register is likelier unless the hybrid turns points, and swapping the clips would mend \
+         neither; ",
         whole,
     ] {
         assert!(assumed.line(0).contains(words), "{}", assumed.out);
@@ -243,7 +241,7 @@ fn what_is_not_sure_points_to_turn() {
     for (set, places, turn) in [(odd.as_str(), 6, trellis), (TWELVE, 16, find)] {
         for (point, after) in [
             ("-1,-1\n", "."),
-            ("1,-1\n", "; swapping the clips would not mend it"),
+            ("1,-1\n", "; a wrong register is likelier unless"),
         ] {
             let ran = clip(set, &point.repeat(places), &[]);
             assert_eq!(ran.status, 36, "{}", ran.out);

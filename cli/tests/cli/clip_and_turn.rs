@@ -71,7 +71,7 @@ fn what_a_wrong_register_tells_has_its_condition() {
         assert_eq!(given.status, 32, "{}", given.out);
         let condition = format!(
             ", if the tables and register {opposite}, which was given, are the writer's and the one point that was \
-             looked at came as it was written: "
+             looked at came as it was written but for a turn: "
         );
         assert!(given.line(0).contains(&condition), "{}", given.out);
         let turn = "; `turn` tells it whatever the register, because N, ";

@@ -72,17 +72,15 @@ fn the_sentence_and_the_status() {
 fn what_it_rests_on() {
     let condition =
         "the tables and the register that were given are the writer's and the one point that was looked at \
-                     came as it was written";
+                     came as it was written but for a turn";
     let condition = text(condition);
-    for (name, theorem) in [
-        ("straight", "clip-of-written"),
-        ("turned", "clip-of-turned"),
-        ("quarter", "clip-of-quarter"),
-    ] {
+    let theorems = ["clip-of-written", "clip-of-turned", "clip-of-quarter"];
+    let theorems = Value::List(theorems.map(text).into());
+    for name in ["straight", "turned", "quarter"] {
         let json = json(SET, &example(&format!("clip-{name}.csv")), &REGISTER);
         let ground = inner(&json, "rests_on");
         assert_eq!(ground["holds_if"], condition);
-        assert_eq!(ground["theorems"], Value::List(vec![text(theorem)]));
+        assert_eq!(ground["theorems"], theorems);
         assert_eq!(ground["register"], Value::Number(4711));
         assert_eq!(ground["register_is"], text("given"));
         assert_eq!(ground["monitored_tones"], Value::Number(1));

@@ -170,8 +170,8 @@ fn one_tone_there_and_back() {
 fn all_figures_agree() {
     let ran = run(&["figures"]);
     assert_eq!(ran.status, 0, "{}", ran.out);
-    assert_eq!(ran.out.lines().last(), Some("24 of 24 figures agree"));
-    assert_eq!(ran.out.matches("yes").count(), 24);
+    assert_eq!(ran.out.lines().last(), Some("29 of 29 figures agree"));
+    assert_eq!(ran.out.matches("yes").count(), 29);
 }
 
 #[test]

@@ -66,7 +66,7 @@ fn one_tone_and_figures() {
     );
     let figures = object(&run(&["figures", "--json"]));
     assert_eq!(figures["agree"], Value::Flag(true));
-    assert!(matches!(&figures["figures"], Value::List(list) if list.len() == 24));
+    assert!(matches!(&figures["figures"], Value::List(list) if list.len() == 29));
 }
 
 #[test]

@@ -14,8 +14,8 @@ const RESET: u32 = 8_388_607;
 /// What every quarter turn says at its end, with the theorems.
 fn surely(theorems: &str) -> String {
     format!(
-        ", and of points that came as they were written but for a turn it is a quarter turn whatever the \
-         register ({theorems})."
+        "; that it is a quarter turn holds whatever the register, of a symbol of these tables that came as \
+         it was written but for a turn ({theorems})."
     )
 }
 
@@ -41,32 +41,31 @@ fn told(ran: &Ran, begins: &str) {
     assert_eq!(ran.out.lines().count(), 5);
 }
 
-const LEFT: &str =
-    "Turned by a quarter to the left: every (X, Y) came as (-Y, X), so look at the hybrid";
+const LEFT: &str = "Turned by a quarter to the left: look at the hybrid and leave the clips, for \
+                    swapping them only changes the side; every (X, Y) came as (-Y, X)";
 const RIGHT: &str =
-    "Turned by a quarter to the right: every (X, Y) came as (Y, -X), so look at the hybrid";
+    "Turned by a quarter to the right: look at the hybrid and leave the clips, for \
+                     swapping them only changes the side; every (X, Y) came as (Y, -X)";
 const OPEN: &str =
-    "Turned by a quarter: every (X, Y) came as (-Y, X), to the left, or every one as (Y, -X), \
-                    to the right, so look at the hybrid; ";
+    "Turned by a quarter: look at the hybrid and leave the clips, for swapping them only \
+                    changes the side; ";
 
 #[test]
 fn a_monitored_tone_tells_the_side() {
     for frame in 0..32 {
         let points = written(A, &format!("{frame:02x}"), RESET);
         let given = ["--register", "8388607"];
-        for (points, begins, read, refused, other) in [
-            (quarter_left(&points), LEFT, 3, 4, "right"),
-            (quarter_right(&points), RIGHT, 4, 3, "left"),
+        for (points, begins, read, refused) in [
+            (quarter_left(&points), LEFT, 3, 4),
+            (quarter_right(&points), RIGHT, 4, 3),
         ] {
             let ran = turn(A, &points, &given);
             told(&ran, begins);
-            let words = format!(
-                "; swapping the clips does not mend it, for it only makes it a quarter to the {other}"
-            );
             let end = surely("theorems half-turn-monitored, quarter-any-register");
-            let condition = ", if register 8388607, which was given, is the writer's: the points are read \
-                             when turned back and refused the other three ways, and 1 monitored tone agrees";
-            for words in [condition, &words, &end] {
+            let condition =
+                ", if register 8388607, which was given, is the writer's: the points are read \
+                             so and refused the other three ways, and 1 monitored tone agrees";
+            for words in [condition, &end] {
                 assert!(ran.line(0).contains(words), "{}", ran.out);
             }
             let frame = format!("read, frame {frame:02x} (hex)");
@@ -111,8 +110,7 @@ fn an_even_count_and_no_monitored_tone_leave_the_side_open() {
             for words in [&[] as &[&str], &["--register=77"], &["--register=find"]] {
                 let ran = turn(EVEN, &points, words);
                 let nothing =
-                    "nothing can tell the side, for the points are read as turned to either, \
-                               because this table set monitors no tone and N, ";
+                    "nothing can tell the side, for the points are read either way, because this table set monitors no tone and N, ";
                 told(&ran, &format!("{OPEN}{nothing}"));
                 let end = surely("theorems half-turn, quarter-any-register");
                 assert!(ran.line(0).ends_with(&end), "{}", ran.out);
@@ -131,13 +129,12 @@ fn the_register_is_found_from_points_turned_by_a_quarter() {
     ] {
         let ran = find("turn", TWELVE, &points);
         let words =
-            ", whatever the register was: the points are read when turned back and refused the \
-                     other three ways with register 4711, which 12 monitored tones give ";
+            ", whatever the register was: the points are read so and refused the other three ways with register 4711, which 12 monitored tones give ";
         told(&ran, &format!("{begins}{words}"));
         // The one that is given agrees with all of them.
         let ran = turn(TWELVE, &points, &["--register=4711"]);
         told(&ran, begins);
-        let words = "12 monitored tones agree, as with no other register; swapping";
+        let words = "12 monitored tones agree, as with no other register; that it is";
         assert!(ran.line(0).contains(words), "{}", ran.out);
     }
 }
@@ -176,14 +173,13 @@ fn where_the_side_is_open_it_says_why() {
     let left = quarter_left(&written(A, "15", RESET));
     let settles = "; the writer's register (--register N) would settle the side, and so would --register \
                    find from 12 monitored tones in one symbol, or 32 in several that follow each other";
-    let assumed = "perhaps it is to the left, for the points are read as turned to the left and not as \
-                   turned to the right, but only with register 8388607, which is the value at reset, \
+    let assumed = "perhaps it is by a quarter to the left, (-Y, X) for (X, Y): the points are read so and \
+                   refused as turned to the other side, but only with register 8388607, which is the value at reset, \
                    assumed because none was given, and 1 monitored tone agrees";
     // The register 1 draws 1 0, and the one at reset 1 1.
     let refused =
-        "the side is not told, for the points are refused as turned to either with register 1, \
-                   which was given; ";
-    let few = "the side is not told, for the points are read as turned to either: 1 monitored tone gives \
+        "the side is not told, for the points are refused either way with register 1, which was given; ";
+    let few = "the side is not told, for the points are read either way: 1 monitored tone gives \
                only 2 equations for the 23 bits of the register; ";
     for (words, side) in [
         (&[] as &[&str], assumed),
@@ -193,8 +189,7 @@ fn where_the_side_is_open_it_says_why() {
         let ran = turn(A, &left, words);
         told(&ran, &format!("{OPEN}{side}"));
         assert!(ran.line(0).contains(settles), "{}", ran.out);
-        let cure = "; swapping the clips does not mend it, for it only makes it a quarter to the other side";
-        let end = format!("{cure}{}", surely("theorem quarter-any-register"));
+        let end = surely("theorem quarter-any-register");
         assert!(ran.line(0).ends_with(&end), "{}", ran.out);
     }
 }

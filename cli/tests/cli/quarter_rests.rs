@@ -1,4 +1,4 @@
-//! What verdicts rest on since quarter turns are told: their theorems, their JSON, and points that no way
+//! What verdicts on four ways rest on: their theorems, their JSON, and points that no way
 //! is read.
 
 use crate::json::{inner, list, object, text, Value};

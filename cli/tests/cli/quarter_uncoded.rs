@@ -48,6 +48,46 @@ fn what_is_sure_whatever_the_register_has_a_condition() {
     }
 }
 
+/// A register that `read` finds may be none of the writer's, if the points are turned by a quarter.
+#[test]
+fn a_register_that_is_found_has_the_condition() {
+    let set = uncoded("quarter-uncoded-find.txt", 12);
+    let points = written(&set, "2a", 4711);
+    let ran = find("read", &set, &points);
+    assert_eq!(ran.status, 0, "{}", ran.out);
+    let words = format!("register before 4711, found from 12 monitored tones, if {NO_QUARTER}");
+    assert!(ran.out.contains(&words), "{}", ran.out);
+    let words = ["read", &set, "-", "--register=find", "--json"];
+    let json = object(&run_with(points.as_bytes(), &words));
+    assert_eq!(json["holds_if"], text(NO_QUARTER));
+    // Coded, no quarter turn is read.
+    let set = "examples/twelve-monitored.txt";
+    let points = written(set, "02", 4711);
+    let ran = find("read", set, &points);
+    let words = "register before 4711, found from 12 monitored tones\n";
+    assert!(ran.out.contains(words), "{}", ran.out);
+    let words = ["read", set, "-", "--register=find", "--json"];
+    let json = object(&run_with(points.as_bytes(), &words));
+    assert_eq!(json["holds_if"], Value::Null);
+    for points in [quarter_left(&points), quarter_right(&points)] {
+        assert_ne!(find("read", set, &points).status, 0);
+    }
+}
+
+/// Where no register fits, a quarter turn is among the causes.
+#[test]
+fn a_register_that_is_not_found_may_be_a_quarter_turn() {
+    let spare: Vec<_> = (8..28).map(|tone| (tone, 0, 512)).collect();
+    for (mode, see) in [("coded", " (see `turn`)."), ("uncoded", ".")] {
+        let name = format!("quarter-not-found-{mode}.txt");
+        let set = tables(&name, mode, 64, &[equal(4, 2), spare.clone()].concat());
+        let points = quarter_left(&written(&set, "02", 4711));
+        let ran = find("read", &set, &points);
+        let words = format!("so look for noise, other tables or a quarter turn{see}");
+        assert!(ran.status == 33 && ran.out.contains(&words), "{}", ran.out);
+    }
+}
+
 /// With the writer's register a monitored tone refuses a quarter turn, so that its condition is enough.
 #[test]
 fn a_given_register_is_the_only_condition() {
@@ -63,12 +103,12 @@ fn a_given_register_is_the_only_condition() {
     for points in [quarter_left(&points), quarter_right(&points)] {
         let ran = run_with(points.as_bytes(), &given);
         assert_eq!((ran.status, ran.out.lines().count()), (34, 3));
-        let words = "; quarter turns are told of coded tables only.";
-        assert!(ran.line(0).ends_with(words), "{}", ran.out);
+        let words = "other tables, a quarter turn (which is told of coded tables only) or another register ";
+        assert!(ran.line(0).contains(words), "{}", ran.out);
     }
     let ran = run_with("2,2\n".repeat(4).as_bytes(), &given);
-    let words = "Neither: the points are refused both ways whatever the register, so look for noise or \
-                 other tables before you swap the clips; quarter turns are told of coded tables only.";
+    let words = "Neither: the points are refused both ways whatever the register, so look for noise, \
+                 other tables or a quarter turn (which is told of coded tables only) before you swap the clips.";
     assert_eq!(ran.line(0), words);
 }
 

@@ -105,8 +105,8 @@ fn some_tones_tell_the_clip_and_not_the_register() {
     let set = set_of("one-way.txt", &"ms".repeat(12));
     let points = turned(&written(&set, "02", 4711));
     let words = "Turned: the clips are the wrong way round, so swap them, whatever the register: \
-                 the 12 monitored tones tell, because no register gives their points the other \
-                 way round (24 filler bits, where 2 check the others); nor is it a quarter turn \
+                 the 12 monitored tones tell, because the other way round no register gives their \
+                 points (24 filler bits, where 2 check the others); nor is it a quarter turn \
                  (theorem quarter-any-register).";
     let found = find("turn", &set, &points);
     assert_eq!((found.status, found.line(0)), (32, words));

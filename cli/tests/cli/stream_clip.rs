@@ -10,7 +10,7 @@ const SET: &str = "examples/clip.txt";
 /// The condition of the totals.
 const IF: &str =
     "if the tables and the register that were given are the writer's and the points that were looked at came \
-                  as they were written";
+                  as they were written but for a turn";
 
 /// Symbols of the example that follow each other from register 4711 on.
 fn symbols(count: usize) -> Vec<String> {
@@ -53,7 +53,7 @@ fn the_register_is_carried() {
         assert_eq!(last(&ran), totals);
         let words =
             ", which follows from the one that was given, are the writer's and the one point that \
-                     was looked at came as it was written: ";
+                     was looked at came as it was written but for a turn: ";
         assert_eq!(ran.out.matches(words).count(), 39);
     }
 }
@@ -249,7 +249,7 @@ fn json_of_a_stream() {
     let expected = expected.map(|(word, count)| (word.to_string(), Value::Number(count)));
     assert_eq!(counts(&totals), expected);
     let condition = "the tables and the register that were given are the writer's";
-    let point = "the one point that was looked at came as it was written";
+    let point = "the one point that was looked at came as it was written but for a turn";
     let drawn_on = "drawn on past a symbol that was refused or neither";
     let expected = [
         ("given", text(&format!("{condition} and {point}"))),

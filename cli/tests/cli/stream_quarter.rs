@@ -13,6 +13,10 @@ const EVEN: &str = "examples/cannot-tell.txt";
 const LEFT: &str = "Turned by a quarter to the left";
 const OPEN: &str = "Turned by a quarter";
 
+/// The end of totals that contradict each other.
+const BOTH: &str =
+    "; in all: cannot tell, for some symbols are turned by a quarter and some are not";
+
 fn left(symbols: &[String]) -> Vec<String> {
     symbols.iter().map(|symbol| quarter_left(symbol)).collect()
 }
@@ -57,8 +61,8 @@ fn agreement_adds_up() {
     assert_eq!((ran.status, last(&ran)), (37, totals));
     let few = turn(&left(&symbols(12, "4711")), &["--register=find"]);
     assert_eq!((few.status, last(&few)), (37, totals));
-    let words = "perhaps it is to the left, for the points are read as turned to the left and not as turned \
-                 to the right, but only with register 4711, which 12 monitored tones of several symbols \
+    let words = "perhaps it is by a quarter to the left, (-Y, X) for (X, Y): the points are read so and \
+                 refused as turned to the other side, but only with register 4711, which 12 monitored tones of several symbols \
                  give if none is missing between them; ";
     assert_eq!(few.out.matches(words).count(), 1, "{}", few.out);
 }
@@ -113,11 +117,7 @@ fn a_change_of_the_family_cannot_be_told() {
         for words in ["--register=4711", "--register=find", "--register=8388607"] {
             let ran = turn(&mixed, &[words]);
             assert_eq!(ran.status, 33, "{}", last(&ran));
-            assert!(
-                last(&ran).ends_with("; in all: cannot tell"),
-                "{}",
-                last(&ran)
-            );
+            assert!(last(&ran).ends_with(BOTH), "{}", last(&ran));
             let told = verdicts(&ran);
             assert!(
                 told[..count].iter().all(|word| !word.starts_with(OPEN)),
@@ -152,10 +152,8 @@ fn each_part_gives_its_register() {
     let ran = turn(&mixed, &["--register=find"]);
     let expected = [vec![LEFT; 40], vec!["Straight"; 40]].concat();
     assert_eq!(verdicts(&ran), expected);
-    assert_eq!(
-        last(&ran),
-        "80 symbols: 40 straight, 40 quarter left; in all: cannot tell"
-    );
+    let totals = format!("80 symbols: 40 straight, 40 quarter left{BOTH}");
+    assert_eq!(last(&ran), totals);
 }
 
 #[test]
@@ -171,8 +169,8 @@ fn the_side_stays_open_where_nothing_tells_it() {
     // A symbol that cannot be told is no quarter turn.
     let mixed = [straight[..2].to_vec(), left(&straight[2..])].concat();
     let ran = run_with(mixed.join("\n").as_bytes(), &words);
-    let totals = "3 symbols: 1 quarter, 2 cannot tell; in all: cannot tell";
-    assert_eq!((ran.status, last(&ran)), (33, totals));
+    let totals = format!("3 symbols: 1 quarter, 2 cannot tell{BOTH}");
+    assert_eq!((ran.status, last(&ran)), (33, totals.as_str()));
 }
 
 /// By the trellis code both are sure, whatever the register.
@@ -216,7 +214,7 @@ fn clip_on_a_stream() {
     };
     let condition =
         "if the tables and the register that were given are the writer's and the points that \
-                     were looked at came as they were written";
+                     were looked at came as they were written but for a turn";
     let told = ran(&left(&straight));
     let totals = format!("6 symbols: 6 quarter left; in all: quarter left, {condition}");
     assert_eq!((told.status, last(&told)), (37, totals.as_str()));
