@@ -22,7 +22,7 @@ not-both = bits-agree 2 (λ a b. not a ⊕ not b) (λ a b. a ⊕ b) refl
 not-xor : (a b : Bool) → not a ⊕ b ≡ not (a ⊕ b)
 not-xor = bits-agree 2 (λ a b. not a ⊕ b) (λ a b. not (a ⊕ b)) refl
 
-not-self : (b : Bool) → b ≡ not b → ⊥
+pub not-self : (b : Bool) → b ≡ not b → ⊥
 not-self true e = true≢false e
 not-self false e = false≢true e
 

@@ -124,7 +124,7 @@ module _ (turn : Turn) where
     unfolding turnedBits
     decodedAt-turned = ap (decodedWord (p .x)) (take-at (turnedPair word (p .x) (take (width p) d)) (turnedBits word ps (drop (width p) d)) (width p) length-part)
 
-    drop-turned : drop (width p) (turnedBits word (p ∷ ps) d) ≡ turnedBits word ps (drop (width p) d)
+    pub drop-turned : drop (width p) (turnedBits word (p ∷ ps) d) ≡ turnedBits word ps (drop (width p) d)
     unfolding turnedBits
     drop-turned = drop-at (turnedPair word (p .x) (take (width p) d)) (turnedBits word ps (drop (width p) d)) (width p) length-part
 
@@ -144,12 +144,14 @@ module _ (turn : Turn) where
     turned-on s k =
         read-on p ps s (turnedBits word (p ∷ ps) d) (decodedAt p (turnedBits word (p ∷ ps) d)) (turnedBits word ps (drop (width p) d)) refl drop-turned k
 
-  -- from a state with the other S0 the code breaks at once
-  pub breaks-here : (p : Pair) (ps : List Pair) (a b : TrellisState) (d f : List Bool) → b .s0 ≡ not (a .s0) → Full (p ∷ ps)
-      → width p ≤ length d → readPairs a (p ∷ ps) d ≡ frame f → readPairs b (p ∷ ps) (turnedBits word (p ∷ ps) d) ≡ breaks 0
-  breaks-here p ps a b d f o h l e =
-      let c : FirstRead p ps a d f = first-read p ps a d f e in
-      let u : Word = decodedAt p (turnedBits word (p ∷ ps) d) in
-      let t : u .u0 ≡ decodedAt p d .u0 = both-at p ps d l (λ u t. t .u0 ≡ u .u0) both-u0 (h .0) (h .1) in
-      read-stop p ps b (turnedBits word (p ∷ ps) d)
-      (breaks-u0 (lastTwo ps) b u (o ∙ ap not (sym (t ∙ obeys-u0 (lastTwo ps) a (decodedAt p d) (c .obeys)))))
+  -- from a state with the other S0 the first pair has another u0, and breaks the code by it
+  module _ (p : Pair) (ps : List Pair) (a b : TrellisState) (d f : List Bool) (o : b .s0 ≡ not (a .s0)) (h : Full (p ∷ ps))
+      (l : width p ≤ length d) (e : readPairs a (p ∷ ps) d ≡ frame f) where
+    pub other-u0 : b .s0 ≡ not (decodedAt p (turnedBits word (p ∷ ps) d) .u0)
+    other-u0 =
+        let c : FirstRead p ps a d f = first-read p ps a d f e in
+        let t : decodedAt p (turnedBits word (p ∷ ps) d) .u0 ≡ decodedAt p d .u0 = both-at p ps d l (λ u t. t .u0 ≡ u .u0) both-u0 (h .0) (h .1) in
+        o ∙ ap not (sym (t ∙ obeys-u0 (lastTwo ps) a (decodedAt p d) (c .obeys)))
+
+    pub breaks-here : readPairs b (p ∷ ps) (turnedBits word (p ∷ ps) d) ≡ breaks 0
+    breaks-here = read-stop p ps b (turnedBits word (p ∷ ps) d) (breaks-u0 (lastTwo ps) b (decodedAt p (turnedBits word (p ∷ ps) d)) other-u0)

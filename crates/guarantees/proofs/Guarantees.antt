@@ -37,7 +37,7 @@ use Rattle.g9932.proofs.Packed as Packed
 use Rattle.g9932.proofs.Quarters as Quarters
 use Rattle.g9932.proofs.Reordering as Reordering
 use Rattle.g9932.proofs.Verdicts as Verdicts
-use Rattle.guarantees.specs.Words.{Bytes, AcceptedTables, AcceptedFrame, ValidRegister, RightLength, Ready, nonZero, pairAt, wordsIn, stateAfter, labelsOf, lowest, lowestAt, oneBitTones, firstOfTwo, sharedEntry, table10-2, bitOne, zeroBitTones, fillerBit, turned, firstOneBit, quarterVerdict, SameUnloaded, SameLoaded, WrittenSymbol, TurnedSymbol, fullWay}
+use Rattle.guarantees.specs.Words.{Bytes, AcceptedTables, AcceptedFrame, ValidRegister, RightLength, Ready, nonZero, pairAt, wordsIn, stateAfter, labelsOf, lowest, lowestAt, oneBitTones, firstOfTwo, sharedEntry, table10-2, bitOne, zeroBitTones, fillerBit, turned, firstOneBit, BreaksBy, quarterVerdict, SameUnloaded, SameLoaded, WrittenSymbol, TurnedSymbol, fullWay}
 use Rattle.guarantees.proofs.ClipAnswers as ClipAnswers
 use Rattle.guarantees.proofs.ClipFullWay as ClipFullWay
 use Rattle.guarantees.proofs.ClipQuarter as ClipQuarter
@@ -134,6 +134,13 @@ module _ (T : Tables) (r start : ℕ) (xs ys : List ℤ) (f₀ : List ℕ) (read
       → (leftRead f ≡ record { report = record { verdict = quarterVerdict T; register = r }; frame = f₀ })
       × (rightRead f ≡ record { report = record { verdict = quarterVerdict T; register = r }; frame = f₀ })
   quarter-turn = QuarterTurn.quarter-turn T r start xs ys f₀ ready
+
+  -- Where no tone has 1 bit, the code is broken, whatever is monitored: N odd, u0 of pair 0 isn't S0; N is 4, u1 of pair 0 isn't the forced
+  -- one; else u0 of pair 1 isn't S0.
+  pub quarter-by-what : T .mode ≡ Coded → (f : List ℕ) → AcceptedFrame T start f → firstOneBit T ≡ Nothing
+      → BreaksBy T (points (turned (encodeAt T start f r xs ys .ys)) (encodeAt T start f r xs ys .xs))
+      × BreaksBy T (points (encodeAt T start f r xs ys .ys) (turned (encodeAt T start f r xs ys .xs)))
+  quarter-by-what = QuarterTurn.quarter-by-what T r start xs ys f₀ ready
 
   -- It is never read, whatever the register s, the start and the buffer that it is read with.
   pub quarter-any-register : T .mode ≡ Coded → (f : List ℕ) → AcceptedFrame T start f → (s start′ : ℕ) (f′ : List ℕ)

@@ -1,11 +1,11 @@
 -- A quarter turn, either way, of a written symbol in coded mode is always refused: with 13 at the first 1-bit tone; where there is none, with
 -- 14 at the first monitored tone; where there is neither, with 15 at pair 0 or 1. No register reads it.
 use Prim.Native.Nat.{ℕ, zero, suc, _+_, _-_, _/_, _%_, _≤_, _<_}
-use mathlib.Core.Bool.{Bool, true, false, true≢false}
+use mathlib.Core.Bool.{Bool, true, false, not, true≢false}
 use mathlib.Core.List.{List, [], _∷_, map}
 use mathlib.Core.Logic.{_≢_, _⊎_, inl, inr}
 use mathlib.Core.Option.{none}
-use mathlib.Core.Path.{_≡_, refl, sym, ap, ap₂, _∙_}
+use mathlib.Core.Path.{_≡_, refl, sym, ap, ap₂, _∙_, subst}
 use native.Mathlib.Omega.{arith}
 use borrow.Author.Tests.{eqb-true, eqb-false, eq-eqb, ne-eqb, le-ltb}
 use lib.Dec.{ltb, eqb}
@@ -16,7 +16,7 @@ use Rattle.g9932.specs.Sizes.{Tables, entry, classBy, classOf, frameBits, Point
 use Rattle.g9932.specs.Refusals.{Verdict, refused, accepted, refuseAt}
 use Rattle.g9932.specs.Order.{isOne, oneBit, ones, reorderedTones}
 use Rattle.g9932.specs.Points.{pointOf, quarters, labelOf}
-use Rattle.g9932.specs.Symbol.{classesBy, reorderedTonesOf, classesOf, firstMonitored, pairsIn, sizeOf, writtenPoints, offgridTest, readingIn}
+use Rattle.g9932.specs.Symbol.{classesBy, reorderedTonesOf, classesOf, firstMonitored, pairsIn, sizeOf, writtenPoints, offgridTest, gatherBits, readingIn}
 use Rattle.g9932.specs.Trellis.{breaks}
 use Rattle.g9932.specs.Answers.{onDone, reportBy, breakIn, pointsVerdict, Read, readAt}
 use Rattle.g9932.specs.declared.Class.the-variants.{Monitored, Silent}
@@ -25,15 +25,16 @@ use Rattle.g9932.specs.declared.Found.the-variants.{At, Nothing}
 use Rattle.g9932.specs.declared.Mode.the-variants.{Coded}
 use Rattle.g9932.proofs.Accepted.{Accepted, accepted-tables}
 use Rattle.g9932.proofs.Counts.{two-loaded, two-not-one}
-use Rattle.g9932.proofs.QuarterPairs.{turned-breaks}
+use Rattle.g9932.proofs.HalfWord.{not-self}
+use Rattle.g9932.proofs.QuarterPairs.{By, turned-breaks, turned-by}
 use Rattle.g9932.proofs.Quarters.{quarterLeft, quarterRight, point-turned, one-left, one-right}
 use Rattle.g9932.proofs.Reordering.{first-single, no-single}
 use Rattle.g9932.proofs.Search.{found-not, first-no, first-found, first-ext}
 use Rattle.g9932.proofs.Sent.{length-classes}
-use Rattle.guarantees.specs.Words.{AcceptedFrame, RightLength, Ready, nonZero, oneBitTones, turned, firstOneBit, quarterPair, quarterVerdict}
+use Rattle.guarantees.specs.Words.{AcceptedFrame, RightLength, Ready, nonZero, oneBitTones, turned, firstOneBit, quarterPair, BreaksBy, quarterVerdict}
 use Rattle.guarantees.proofs.Operations.{not-broken, read-points}
 use Rattle.guarantees.proofs.RoundTrip.{X-of, Y-of, encoded-xs, encoded-ys, encoded-right}
-use Rattle.guarantees.proofs.TurnedSymbol.{PointTurn, leaves, firstLeaving, is-N, formed-as, taken-bits, off-13, verdict-turned, turned-reading, verdict-read}
+use Rattle.guarantees.proofs.TurnedSymbol.{PointTurn, leaves, firstLeaving, is-N, formed-as, taken-bits, off-13, verdict-turned, decoded-turned, turned-reading, verdict-read}
 
 -- ---- the turns of points: those of 1 bit leave their constellation, and no others
 
@@ -57,6 +58,9 @@ two-four n p h e = go (eqb n 4) refl
     go : (s : Bool) → eqb n 4 ≡ s → eqb p 2 ≡ s
     go true s = let i = eqb-true n 4 s in eq-eqb p 2 (omega arith)
     go false s = ne-eqb p 2 (λ i. eqb-false n 4 s (omega arith))
+
+other-bit : {a b : Bool} → a ≡ not b → b ≢ a
+other-bit e h = not-self _ (h ∙ e)
 
 -- where no 1-bit tone is found in t', none is counted
 none-counted : (b t : List ℕ) → first (λ k. oneBit b (entry (reorderedTones Coded b t) k)) (length t) ≡ Nothing → ones b t ≡ 0
@@ -89,6 +93,13 @@ module _ (turn : PointTurn) (two : turn .least ≡ 2) (flips : turn .labels .fli
     leaves-at : (k : ℕ) → k < length (T .tones) → leaves turn (getD (classesOf T) k Silent) ≡ oneBit (T .bits) (entry (reorderedTonesOf T) k)
     leaves-at k h = place-leaves (T .bits) (T .gains) (reorderedTonesOf T) k (omega (arith, a .orderLength))
 
+    -- P is 2 where N is 4
+    two-pairs : eqb (length (pairsIn T)) 2 ≡ eqb (nonZero T) 4
+    two-pairs =
+        let c = a .coded m in
+        two-four (nonZero T) (length (pairsIn T)) (rw (is-N T a m) (c .enoughEntries))
+        (c .pairsLength ∙ ap (λ (n : ℕ). (n + 1) / 2) (sym (c .entriesLength) ∙ sym (is-N T a m)))
+
     is-13 : firstLeaving turn T ≡ firstOneBit T
     is-13 = first-ext _ _ (length (T .tones)) leaves-at
 
@@ -96,17 +107,36 @@ module _ (turn : PointTurn) (two : turn .least ≡ 2) (flips : turn .labels .fli
       abbrev q : List Point
       q = map (turn .point) (writtenPoints T r start f)
 
-      broken : firstOneBit T ≡ Nothing → readingIn T q ≡ breaks (quarterPair T)
-      broken e =
-          let c = a .coded m in
-          let no : (k : ℕ) → k < length (T .tones) → oneBit (T .bits) (entry (reorderedTonesOf T) k) ≡ false = first-no _ (length (T .tones)) e in
-          let z : ones (T .bits) (T .tones) ≡ 0 = none-counted (T .bits) (T .tones) (rw m at e) in
-          let p = two-four (nonZero T) (length (pairsIn T)) (rw (is-N T a m) (c .enoughEntries))
-          (c .pairsLength ∙ ap (λ (n : ℕ). (n + 1) / 2) (sym (c .entriesLength) ∙ sym (is-N T a m))) in
-          turned-reading turn T a m r start f ok
-          (λ k h. let i : k < length (T .tones) = omega (arith, length-classes T) in leaves-at k i ∙ no k i)
-          (λ d l. rw z)
-          ∙ rw p at (turned-breaks (turn .labels) flips (isOne (nonZero T % 2)) (pairsIn T) (frameBits start (sizeOf T) f) (formed-as T a m _ refl) (taken-bits T a m start f ok))
+      abbrev g : List Bool
+      g = frameBits start (sizeOf T) f
+
+      -- where there is no 1-bit tone
+      module _ (e : firstOneBit T ≡ Nothing) where
+        none-leaves : (k : ℕ) → k < length (classesOf T) → leaves turn (getD (classesOf T) k Silent) ≡ false
+        none-leaves k h =
+            let i : k < length (T .tones) = omega (arith, length-classes T) in
+            leaves-at k i ∙ first-no _ (length (T .tones)) e k i
+
+        no-ones : ones (T .bits) (T .tones) ≡ 0
+        no-ones = none-counted (T .bits) (T .tones) (rw m at e)
+
+        broken : readingIn T q ≡ breaks (quarterPair T)
+        broken =
+            turned-reading turn T a m r start f ok none-leaves (λ d l. rw no-ones)
+            ∙ rw two-pairs at (turned-breaks (turn .labels) flips (isOne (nonZero T % 2)) (pairsIn T) g (formed-as T a m _ refl) (taken-bits T a m start f ok))
+
+        by : By (isOne (nonZero T % 2)) (pairsIn T) (gatherBits (classesOf T) q)
+        by =
+            subst (By (isOne (nonZero T % 2)) (pairsIn T)) (sym (decoded-turned turn T a m r start f ok none-leaves (λ d l. rw no-ones)))
+            (turned-by (turn .labels) flips (isOne (nonZero T % 2)) (pairsIn T) g (formed-as T a m _ refl) (taken-bits T a m start f ok))
+
+        breaks-by : BreaksBy T q
+        breaks-by =
+            record {
+              odd = λ n. other-bit (by .lone (eq-eqb (nonZero T % 2) 1 n));
+              four = λ n. other-bit (by .forced (ne-eqb (nonZero T % 2) 1 (λ h. omega arith)) (eqb-true _ _ (two-pairs ∙ eq-eqb (nonZero T) 4 n)));
+              more = λ n h. other-bit (by .next (ne-eqb (nonZero T % 2) 1 (λ k. omega arith)) (λ k. h (eqb-true _ _ (sym two-pairs ∙ eq-eqb _ 2 k))));
+            }
 
       points-refused : pointsVerdict T q r ≡ quarterVerdict T
       unfolding refuseAt
@@ -226,6 +256,12 @@ module _ (T : Tables) (r start : ℕ) (xs ys : List ℤ) (f₀ : List ℕ) (read
   quarter-turn = (
     answer leftPoint refl refl (turned Y) X left-lengths left-points,
     answer rightPoint refl refl Y (turned X) right-lengths right-points,
+  )
+
+  pub quarter-by-what : firstOneBit T ≡ Nothing → BreaksBy T (points (turned Y) X) × BreaksBy T (points Y (turned X))
+  quarter-by-what e = (
+    subst (BreaksBy T) (sym left-points) (breaks-by leftPoint refl refl T facts m r start f ok e),
+    subst (BreaksBy T) (sym right-points) (breaks-by rightPoint refl refl T facts m r start f ok e),
   )
 
   pub quarter-any-register : (s start′ : ℕ) (f′ : List ℕ)

@@ -204,7 +204,7 @@ module _ (turn : PointTurn) where
     module _ (none : (k : ℕ) → k < length (classesOf T) → leaves (getD (classesOf T) k Silent) ≡ false)
         (twos : (d : List Bool) → length d ≡ ones (T .bits) (T .tones)
         → turnedLabels word (replicate (ones (T .bits) (T .tones)) 1) d ≡ turnedLabels word (replicate (ones (T .bits) (T .tones) / 2) 2) d) where
-      decoded-turned : gatherBits (classesOf T) q ≡ turnedBits word (pairsIn T) (encodePairs zeroState (pairsIn T) g)
+      pub decoded-turned : gatherBits (classesOf T) q ≡ turnedBits word (pairsIn T) (encodePairs zeroState (pairsIn T) g)
       unfolding writtenPoints sentOf
       decoded-turned =
           symbol-bits r (classesOf T) (sentIn T start f) none (length-sentIn T a r start f ok)

@@ -3,17 +3,18 @@
 use Prim.Native.Nat.{ℕ, zero, suc, _+_, _*_, _-_, _/_, _%_, _<_}
 use mathlib.Core.Bool.{Bool, true, false, not, _||_, cond}
 use mathlib.Core.List.{List, [], _∷_, _++_, map}
+use mathlib.Core.Logic.{_≢_}
 use mathlib.Core.Path.{_≡_}
 use lib.Dec.{ltb, eqb}
 use lib.IntN.{ℤ, pos, negsuc, negℤ}
 use lib.ListN.{length, take, drop, getD}
-use Rattle.g9932.specs.Bits.{bit, odd, first}
+use Rattle.g9932.specs.Bits.{_⊕_, bit, odd, first}
 use Rattle.g9932.specs.Sizes.{Tables, entry, bytesFor, frameBits, Point, origin}
 use Rattle.g9932.specs.Refusals.{Verdict, refused, refuseAt, tableVerdict, frameTest, seedTest}
 use Rattle.g9932.specs.Order.{Pair, pair, count, isOne, oneBit, ones}
-use Rattle.g9932.specs.Trellis.{Word, zeroState, lastTwo, taken, lowBitsOf, nextOf, wordAt}
+use Rattle.g9932.specs.Trellis.{Word, zeroState, lastTwo, taken, lowBitsOf, nextOf, wordAt, width, decodedAt}
 use Rattle.g9932.specs.Filler.{resetRegister, drawn}
-use Rattle.g9932.specs.Symbol.{reorderedTonesOf, reorderedBitsOf, classesOf, firstMonitored, load, pairsIn, sizeOf, writtenPoints}
+use Rattle.g9932.specs.Symbol.{reorderedTonesOf, reorderedBitsOf, classesOf, firstMonitored, load, pairsIn, sizeOf, writtenPoints, gatherBits}
 use Rattle.g9932.specs.Answers.{readAt}
 use Rattle.g9932.specs.declared.Class.the-variants.{Silent}
 use Rattle.g9932.specs.declared.Clip.{Clip}
@@ -49,6 +50,10 @@ pub record Ready (T : Tables) (r start : ℕ) (xs ys : List ℤ) (f : List ℕ) 
 abbrev pub nonZero : Tables → ℕ
 nonZero T = count (ltb 0) (reorderedBitsOf T)
 
+-- pair k, from 0; (0, 0) past the last
+abbrev pub pairAt : Tables → ℕ → Pair
+pairAt T k = getD (pairsIn T) k (pair 0 0)
+
 -- Half a turn puts (−X, −Y) for (X, Y) at every place in t', whatever the tone's class: on each of the two lists it changes the signs.
 abbrev pub turned : List ℤ → List ℤ
 turned xs = map negℤ xs
@@ -62,10 +67,22 @@ turned xs = map negℤ xs
 abbrev pub firstOneBit : Tables → Found
 firstOneBit T = first (λ k. oneBit (T .bits) (entry (reorderedTonesOf T) k)) (length (T .tones))
 
--- the pair that breaks the code where no 1-bit tone is: pair 0 if N is odd, by its u0, or if N is 4, so that it is one of the last two, by
--- its u1; else pair 1, by its u0
+-- the pair that breaks the code where no 1-bit tone is: pair 0 if N is odd, or if N is 4, so that it is one of the last two; else pair 1
 abbrev pub quarterPair : Tables → ℕ
 quarterPair T = cond (isOne (nonZero T % 2) || eqb (nonZero T) 4) 0 1
+
+-- the words that the labels of pairs 0 and 1 imply, of points in t' order
+abbrev pub firstWord : Tables → List Point → Word
+firstWord T q = decodedAt (pairAt T 0) (gatherBits (classesOf T) q)
+
+abbrev pub secondWord : Tables → List Point → Word
+secondWord T q = decodedAt (pairAt T 1) (drop (width (pairAt T 0)) (gatherBits (classesOf T) q))
+
+-- by what that pair breaks it: where N is odd, u0 of pair 0 isn't S0; where N is 4, its u1 isn't the forced one; else u0 of pair 1 isn't S0
+pub record BreaksBy (T : Tables) (q : List Point) : Type 0 where
+  pub odd : nonZero T % 2 ≡ 1 → firstWord T q .u0 ≢ zeroState .s0
+  pub four : nonZero T ≡ 4 → firstWord T q .u1 ≢ zeroState .s1 ⊕ zeroState .s3
+  pub more : nonZero T % 2 ≡ 0 → nonZero T ≢ 4 → secondWord T q .u0 ≢ nextOf zeroState (firstWord T q) .s0
 
 -- The verdict on a written symbol that is turned by a quarter, either way, in coded mode: OFFGRID at the first 1-bit tone; if there is none,
 -- MONITOR at the first monitored one; if there is neither, TRELLIS at that pair.
@@ -76,10 +93,6 @@ quarterVerdict T =
     (refused 15 (quarterPair T)))
 
 -- ---- coded: the pairs, their words u, and where their bits go
-
--- pair k, from 0; (0, 0) past the last
-abbrev pub pairAt : Tables → ℕ → Pair
-pairAt T k = getD (pairsIn T) k (pair 0 0)
 
 -- the words of pairs, in order, and the state after them
 abbrev pub wordsOf : TrellisState → List Pair → List Bool → List Word
