@@ -1,9 +1,9 @@
 -- Half a turn of one pair: both lowest bits of each label are complemented. So u3 is the other one, and u0, u1 and u2 stay;
 -- where the pair has no v, u2 is the other one, and u0 and u1 stay. What this does to the code's test and to the next state.
 use Prim.Native.Nat.{ℕ, zero, suc, _≤_}
-use mathlib.Core.Bool.{Bool, true, false, not, _&&_, true≢false, false≢true}
+use mathlib.Core.Bool.{Bool, true, false, not, true≢false, false≢true}
 use mathlib.Core.List.{List, [], _++_}
-use mathlib.Core.Path.{_≡_, refl, ap, ap₂, _∙_}
+use mathlib.Core.Path.{_≡_, refl, ap, _∙_}
 use native.Mathlib.Omega.{arith}
 use lib.ListN.{length}
 use Rattle.g9932.specs.Bits.{_⊕_, bit}
@@ -12,12 +12,9 @@ use Rattle.g9932.specs.declared.TrellisState.{TrellisState}
 use Rattle.g9932.proofs.Identities.{bits-agree, xor-false, xor-not, and-false}
 use Rattle.g9932.proofs.OnePair.{forced-obeys, same-not}
 use Rattle.g9932.proofs.Quarters.{turnedLabel, lowest-turned, half}
-use Rattle.g9932.proofs.Turns.{both-u0, lone-u0, turned-parity}
+use Rattle.g9932.proofs.Turns.{both-u0, both-u2, lone-u0, turned-parity}
 
 -- ---- bits
-
-not-both : (a b : Bool) → not a ⊕ not b ≡ a ⊕ b
-not-both = bits-agree 2 (λ a b. not a ⊕ not b) (λ a b. a ⊕ b) refl
 
 not-xor : (a b : Bool) → not a ⊕ b ≡ not (a ⊕ b)
 not-xor = bits-agree 2 (λ a b. not a ⊕ b) (λ a b. not (a ⊕ b)) refl
@@ -41,13 +38,11 @@ pub record TurnedLone (u t : Word) : Type 0 where
 
 pub both-turned : (v w : List Bool) → 2 ≤ length v → 2 ≤ length w → Turned (implied v w) (implied (turnedLabel 2 v) (turnedLabel 2 w))
 both-turned v w h k =
-    let a = lowest-turned 2 v h in
-    let b = lowest-turned 2 w k in
     record {
       same0 = both-u0 half v w h k;
       same1 = turned-parity half v h ∙ xor-false (bit v 0 ⊕ bit v 1);
-      same2 = ap₂ (λ (c d : Bool). c ⊕ d) (a .0) (b .0) ∙ not-both (bit v 0) (bit w 0);
-      other3 = a .0;
+      same2 = both-u2 half v w h k;
+      other3 = lowest-turned 2 v h .0;
     }
 
 pub lone-turned : (w : List Bool) → 2 ≤ length w → TurnedLone (implied [] w) (implied [] (turnedLabel 2 w))

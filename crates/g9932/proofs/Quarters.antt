@@ -2,7 +2,7 @@
 -- 2 bits on, in every two, lowest first, the upper one comes to the lower one's place, and the lower one's complement to the upper one's; the
 -- top bit of an odd number stays. Half a turn is two quarters, a quarter to the right is three.
 use Prim.Native.Nat.{ℕ, zero, suc, _≤_}
-use mathlib.Core.Bool.{Bool, true, false, not, _&&_}
+use mathlib.Core.Bool.{Bool, true, false, not, _&&_, cond}
 use mathlib.Core.List.{List, [], _∷_, map}
 use mathlib.Core.Option.{none}
 use mathlib.Core.Path.{_≡_, refl, sym, ap, _∙_}
@@ -151,6 +151,14 @@ parity-turned (suc n) a b = parity-turned n b (not a) ∙ other-parity (oddly n)
 pub each-quarter : (n : ℕ) (a b : Bool) → lowQuarters (suc n) a b .0 ⊕ lowQuarters (suc n) a b .1 ≡ not (lowQuarters n a b .0 ⊕ lowQuarters n a b .1)
 each-quarter n a b = parity-turned (suc n) a b ∙ xor-not (a ⊕ b) (oddly n) ∙ ap not (sym (parity-turned n a b))
 
+-- v0 of two labels xored is v1 of them xored after an odd number of quarters, and stays after an even one
+crossed : (f a b c d : Bool) → cond f (not a ⊕ not c) (b ⊕ d) ≡ cond (not f) (b ⊕ d) (a ⊕ c)
+crossed = bits-agree 5 (λ f a b c d. cond f (not a ⊕ not c) (b ⊕ d)) (λ f a b c d. cond (not f) (b ⊕ d) (a ⊕ c)) refl
+
+pub lower-turned : (n : ℕ) (a b c d : Bool) → lowQuarters n a b .0 ⊕ lowQuarters n c d .0 ≡ cond (oddly n) (b ⊕ d) (a ⊕ c)
+lower-turned zero a b c d = refl
+lower-turned (suc n) a b c d = lower-turned n b (not a) d (not c) ∙ crossed (oddly n) a b c d
+
 -- a turn by n quarters, where they move the two lowest bits
 abbrev pub turnBy : (n : ℕ) → ((a b : Bool) → same (lowQuarters n a b .0) a && same (lowQuarters n a b .1) b ≡ false) → Turn
 turnBy n moves =
@@ -162,6 +170,7 @@ turnBy n moves =
       lowest = lowest-turned n;
       parity = parity-turned n;
       moves = moves;
+      lower = lower-turned n;
     }
 
 abbrev pub quarterLeft : Turn

@@ -1,7 +1,7 @@
 -- Points turned, whatever the turn, as the code sees it: labels change one by one, and of each the two lowest bits by themselves.
 -- Where a pair has both labels u0 stays, so a state with the other S0 shows at once.
 use Prim.Native.Nat.{ℕ, zero, suc, _+_, _≤_}
-use mathlib.Core.Bool.{Bool, true, false, not, _&&_, true≢false}
+use mathlib.Core.Bool.{Bool, true, false, not, _&&_, cond, true≢false}
 use mathlib.Core.List.{List, [], _∷_, _++_}
 use mathlib.Core.Path.{_≡_, refl, sym, ap, ap₂, _∙_}
 use native.Mathlib.Omega.{arith}
@@ -17,7 +17,7 @@ use Rattle.g9932.proofs.Pairs.{read-on, read-stop, FirstRead, first-rea
 use Rattle.g9932.proofs.Formed.{Full}
 
 -- The turn of a label: its length stays, `low` says what v0 and v1 become, always another two, and `flips` whether v0 xor v1 becomes
--- the other bit.
+-- the other bit; then v0 of two labels xored is what v1 of them was, and else it stays.
 pub record Turn : Type 0 where
   pub word : List Bool → List Bool
   pub low : Bool → Bool → Bool × Bool
@@ -26,6 +26,7 @@ pub record Turn : Type 0 where
   pub lowest : (v : List Bool) → 2 ≤ length v → (bit (word v) 0 ≡ low (bit v 0) (bit v 1) .0) × (bit (word v) 1 ≡ low (bit v 0) (bit v 1) .1)
   pub parity : (a b : Bool) → low a b .0 ⊕ low a b .1 ≡ a ⊕ b ⊕ flips
   pub moves : (a b : Bool) → same (low a b .0) a && same (low a b .1) b ≡ false
+  pub lower : (a b c d : Bool) → low a b .0 ⊕ low c d .0 ≡ cond flips (b ⊕ d) (a ⊕ c)
 
 -- the sent bits of a pair, and of pairs, each label turned
 abbrev pub turnedPair : (List Bool → List Bool) → ℕ → List Bool → List Bool
@@ -81,6 +82,12 @@ module _ (turn : Turn) where
       λ v w. two-and-two (bit v 0) (bit v 1) (bit w 0) (bit w 1) in
       cut (word v) (word w) ∙ ap₂ (λ (a b : Bool). a ⊕ b) (turned-parity v h) (turned-parity w k)
       ∙ both-flip (turn .flips) (bit v 0 ⊕ bit v 1) (bit w 0 ⊕ bit w 1) ∙ sym (cut v w)
+
+  -- u2 stays if v0 xor v1 does, and else it is what v1 xor w1 was
+  pub both-u2 : (v w : List Bool) → 2 ≤ length v → 2 ≤ length w
+      → implied (word v) (word w) .u2 ≡ cond (turn .flips) (bit v 1 ⊕ bit w 1) (implied v w .u2)
+  both-u2 v w h k =
+      ap₂ (λ (a b : Bool). a ⊕ b) (turn .lowest v h .0) (turn .lowest w k .0) ∙ turn .lower (bit v 0) (bit v 1) (bit w 0) (bit w 1)
 
   pub lone-u0 : (w : List Bool) → 2 ≤ length w → implied [] (word w) .u0 ≡ implied [] w .u0 ⊕ turn .flips
   lone-u0 w h =

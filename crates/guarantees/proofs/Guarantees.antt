@@ -135,8 +135,8 @@ module _ (T : Tables) (r start : ℕ) (xs ys : List ℤ) (f₀ : List ℕ) (read
       × (rightRead f ≡ record { report = record { verdict = quarterVerdict T; register = r }; frame = f₀ })
   quarter-turn = QuarterTurn.quarter-turn T r start xs ys f₀ ready
 
-  -- Where no tone has 1 bit, the code is broken, whatever is monitored: N odd, u0 of pair 0 isn't S0; N is 4, u1 of pair 0 isn't the forced
-  -- one; else u0 of pair 1 isn't S0.
+  -- Where no tone has 1 bit, the code is broken, whatever is monitored, and by what: where N is odd, by u0 of pair 0; where N is 4, by u1 of
+  -- pair 0 alone; where N is even and 6 or more, by u0 of pair 1, and pair 0 obeys it.
   pub quarter-by-what : T .mode ≡ Coded → (f : List ℕ) → AcceptedFrame T start f → firstOneBit T ≡ Nothing
       → BreaksBy T (points (turned (encodeAt T start f r xs ys .ys)) (encodeAt T start f r xs ys .xs))
       × BreaksBy T (points (encodeAt T start f r xs ys .ys) (turned (encodeAt T start f r xs ys .xs)))

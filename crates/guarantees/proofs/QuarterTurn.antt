@@ -133,8 +133,13 @@ module _ (turn : PointTurn) (two : turn .least ≡ 2) (flips : turn .labels .fli
         breaks-by : BreaksBy T q
         breaks-by =
             record {
-              odd = λ n. other-bit (by .lone (eq-eqb (nonZero T % 2) 1 n));
-              four = λ n. other-bit (by .forced (ne-eqb (nonZero T % 2) 1 (λ h. omega arith)) (eqb-true _ _ (two-pairs ∙ eq-eqb (nonZero T) 4 n)));
+              stops = broken;
+              oddN = λ n. other-bit (by .lone (eq-eqb (nonZero T % 2) 1 n));
+              four = λ n.
+                  let even = ne-eqb (nonZero T % 2) 1 (λ h. omega arith) in
+                  let two : length (pairsIn T) ≡ 2 = eqb-true _ _ (two-pairs ∙ eq-eqb (nonZero T) 4 n) in
+                  let stay = by .rest even two in
+                  (stay .0, other-bit (by .forced even two), stay .1);
               more = λ n h. other-bit (by .next (ne-eqb (nonZero T % 2) 1 (λ k. omega arith)) (λ k. h (eqb-true _ _ (sym two-pairs ∙ eq-eqb _ 2 k))));
             }
 

@@ -12,9 +12,9 @@ use Rattle.g9932.specs.Bits.{_⊕_, bit, odd, first}
 use Rattle.g9932.specs.Sizes.{Tables, entry, bytesFor, frameBits, Point, origin}
 use Rattle.g9932.specs.Refusals.{Verdict, refused, refuseAt, tableVerdict, frameTest, seedTest}
 use Rattle.g9932.specs.Order.{Pair, pair, count, isOne, oneBit, ones}
-use Rattle.g9932.specs.Trellis.{Word, zeroState, lastTwo, taken, lowBitsOf, nextOf, wordAt, width, decodedAt}
+use Rattle.g9932.specs.Trellis.{Word, zeroState, lastTwo, taken, lowBitsOf, nextOf, wordAt, breaks, width, decodedAt}
 use Rattle.g9932.specs.Filler.{resetRegister, drawn}
-use Rattle.g9932.specs.Symbol.{reorderedTonesOf, reorderedBitsOf, classesOf, firstMonitored, load, pairsIn, sizeOf, writtenPoints, gatherBits}
+use Rattle.g9932.specs.Symbol.{reorderedTonesOf, reorderedBitsOf, classesOf, firstMonitored, load, pairsIn, sizeOf, writtenPoints, gatherBits, readingIn}
 use Rattle.g9932.specs.Answers.{readAt}
 use Rattle.g9932.specs.declared.Class.the-variants.{Silent}
 use Rattle.g9932.specs.declared.Clip.{Clip}
@@ -67,30 +67,34 @@ turned xs = map negℤ xs
 abbrev pub firstOneBit : Tables → Found
 firstOneBit T = first (λ k. oneBit (T .bits) (entry (reorderedTonesOf T) k)) (length (T .tones))
 
--- the pair that breaks the code where no 1-bit tone is: pair 0 if N is odd, or if N is 4, so that it is one of the last two; else pair 1
+-- the first pair that breaks the code where no 1-bit tone is: pair 0 if N is odd, or if N is 4, so that it is one of the last two; else pair 1
 abbrev pub quarterPair : Tables → ℕ
 quarterPair T = cond (isOne (nonZero T % 2) || eqb (nonZero T) 4) 0 1
 
--- the words that the labels of pairs 0 and 1 imply, of points in t' order
+-- The verdict on a written symbol that is turned by a quarter, either way, in coded mode: OFFGRID at the first 1-bit tone; if there is none,
+-- MONITOR at the first monitored one; if there is neither, TRELLIS at `quarterPair`.
+abbrev pub quarterVerdict : Tables → Verdict
+quarterVerdict T =
+    refuseAt 13 (firstOneBit T)
+    (refuseAt 14 (firstMonitored T)
+    (refused 15 (quarterPair T)))
+
+-- the words that reading decodes for pairs 0 and 1, of points in t' order
 abbrev pub firstWord : Tables → List Point → Word
 firstWord T q = decodedAt (pairAt T 0) (gatherBits (classesOf T) q)
 
 abbrev pub secondWord : Tables → List Point → Word
 secondWord T q = decodedAt (pairAt T 1) (drop (width (pairAt T 0)) (gatherBits (classesOf T) q))
 
--- by what that pair breaks it: where N is odd, u0 of pair 0 isn't S0; where N is 4, its u1 isn't the forced one; else u0 of pair 1 isn't S0
+-- By what it breaks the code, where no 1-bit tone is: the code is obeyed up to `quarterPair` and not there. Where N is odd, u0 of pair 0 isn't
+-- S0, which is 0 at the start. Where N is 4, u1 of pair 0 isn't the forced one, and u0 and u2 are as they must be. Where N is even and 6 or
+-- more, u0 of pair 1 isn't the S0 that pair 0 leaves. (Where N is 6, pair 1 is one of the last two; of its u1 and u2 nothing is said.)
 pub record BreaksBy (T : Tables) (q : List Point) : Type 0 where
-  pub odd : nonZero T % 2 ≡ 1 → firstWord T q .u0 ≢ zeroState .s0
-  pub four : nonZero T ≡ 4 → firstWord T q .u1 ≢ zeroState .s1 ⊕ zeroState .s3
+  pub stops : readingIn T q ≡ breaks (quarterPair T)
+  pub oddN : nonZero T % 2 ≡ 1 → firstWord T q .u0 ≢ zeroState .s0
+  pub four : nonZero T ≡ 4
+      → (firstWord T q .u0 ≡ zeroState .s0) × (firstWord T q .u1 ≢ zeroState .s1 ⊕ zeroState .s3) × (firstWord T q .u2 ≡ zeroState .s2)
   pub more : nonZero T % 2 ≡ 0 → nonZero T ≢ 4 → secondWord T q .u0 ≢ nextOf zeroState (firstWord T q) .s0
-
--- The verdict on a written symbol that is turned by a quarter, either way, in coded mode: OFFGRID at the first 1-bit tone; if there is none,
--- MONITOR at the first monitored one; if there is neither, TRELLIS at that pair.
-abbrev pub quarterVerdict : Tables → Verdict
-quarterVerdict T =
-    refuseAt 13 (firstOneBit T)
-    (refuseAt 14 (firstMonitored T)
-    (refused 15 (quarterPair T)))
 
 -- ---- coded: the pairs, their words u, and where their bits go
 
