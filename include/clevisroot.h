@@ -418,6 +418,14 @@ clevisroot_point clevisroot_map_label(uint8_t bits, uint32_t label);
 /* The label of one point. Refusal 16 if bits is not 1 to 15, then 13 if no label has the point. */
 clevisroot_label clevisroot_read_point(uint8_t bits, int16_t x, int16_t y);
 
+/*
+ * The same two by a second mapper, which nobody tuned: b bits are mapped and read by way of b - 2 bits,
+ * down to 2, 3 or 5 (and 1 on its own), with no code or table of the calls above. For all inputs both
+ * give the same point, label or refusal; that is proved. For one tone at a time: it is slower.
+ */
+clevisroot_point clevisroot_plain_map_label(uint8_t bits, uint32_t label);
+clevisroot_label clevisroot_plain_read_point(uint8_t bits, int16_t x, int16_t y);
+
 /* Draws one filler bit. Refusal 12 if the register is 0 or above 8388607. */
 clevisroot_drawn clevisroot_draw(uint32_t reg);
 

@@ -294,6 +294,18 @@ pub fn read_point(bits: u8, x: i16, y: i16) -> Label {
     unsafe { raw::clevisroot_read_point(bits, x, y) }
 }
 
+/// The point of one label, by the plain mapper.
+pub fn plain_map_label(bits: u8, label: u32) -> Point {
+    // SAFETY: takes and returns numbers only.
+    unsafe { raw::clevisroot_plain_map_label(bits, label) }
+}
+
+/// The label of one point, by the plain mapper.
+pub fn plain_read_point(bits: u8, x: i16, y: i16) -> Label {
+    // SAFETY: takes and returns numbers only.
+    unsafe { raw::clevisroot_plain_read_point(bits, x, y) }
+}
+
 /// One filler bit.
 pub fn draw(reg: u32) -> Drawn {
     // SAFETY: takes and returns numbers only.

@@ -134,6 +134,8 @@ extern "C" {
 
     pub fn clevisroot_map_label(bits: u8, label: u32) -> Point;
     pub fn clevisroot_read_point(bits: u8, x: i16, y: i16) -> Label;
+    pub fn clevisroot_plain_map_label(bits: u8, label: u32) -> Point;
+    pub fn clevisroot_plain_read_point(bits: u8, x: i16, y: i16) -> Label;
     pub fn clevisroot_draw(reg: u32) -> Drawn;
 
     pub fn clevisroot_tally_new() -> Tally;
