@@ -2,12 +2,14 @@
 -- the two agree is shown once over the bit count.
 use Prim.Native.Nat.{ℕ, zero, suc, _+_, _*_, _/_, _%_, _^_}
 use mathlib.Core.Bool.{Bool, _||_, cond}
+use mathlib.Core.List.{List}
+use mathlib.Core.Option.{Option, none, some}
 use lib.Dec.{eqb}
 use lib.IntN.{ℤ, pos, _+ℤ_, _-ℤ_, _*ℤ_}
 use lib.ListN.{getD}
 use lib.Signed.{shrZ}
 use Rattle.g9932.specs.Answers.{OneTone, toneRefused, toneDone}
-use Rattle.g9932.specs.Bits.{bits, first}
+use Rattle.g9932.specs.Bits.{bits, num, first}
 use Rattle.g9932.specs.Points.{onePoints, evenPoint, threePoints, oddPoint, samePoint}
 use Rattle.g9932.specs.Refusals.{bitCountTest, labelTest}
 use Rattle.g9932.specs.Sizes.{Point, point, origin}
@@ -83,6 +85,11 @@ plainLabel (suc (suc b)) p =
     cond (smallest (suc (suc b)))
     (smallLabel (suc (suc b)) p)
     (fourfold (plainLabel b (ofBlock (cornerOf p))) (lowLabel p))
+
+-- the label that document 01 has, as a number
+abbrev pub labelNumber : Option (List Bool) → Found
+labelNumber (some v) = At (num v)
+labelNumber none = Nothing
 
 -- ---- the answers of an operation that maps or reads so: 16 and 13, in document 01's order
 
