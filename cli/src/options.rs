@@ -98,6 +98,12 @@ pub const STOP: Opt = Opt {
     about: "end at the first symbol that is refused",
 };
 
+pub const PLAIN: Opt = Opt {
+    name: "plain",
+    kind: Kind::Flag,
+    about: "of map and point: the answer of the plain mapper, which nobody tuned",
+};
+
 pub const CSV: Opt = Opt {
     name: "csv",
     kind: Kind::Flag,
@@ -111,7 +117,7 @@ pub const JSON: Opt = Opt {
 };
 
 /// All of them, in the order of the help.
-pub const OPTIONS: [&Opt; 14] = [
+pub const OPTIONS: [&Opt; 15] = [
     &REGISTER,
     &REGISTER_OR_FIND,
     &START,
@@ -124,6 +130,7 @@ pub const OPTIONS: [&Opt; 14] = [
     &HTML,
     &ALL,
     &STOP,
+    &PLAIN,
     &CSV,
     &JSON,
 ];

@@ -173,15 +173,23 @@ examples
 pub const MAP: &str = "\
 Tells the point of one label on a tone of 1 to 15 bits. The refusal is 16.
 
-example
+With --plain the library's second mapper answers, which nobody tuned: b bits by way of b - 2, down to
+2, 3 or 5 (and 1 on its own), with no code or table of the first. Both give the same answers and
+refusals for all inputs, which is proved. Text and JSON then say that it was the plain one.
+
+examples
   clevisroot map 5 24
+  clevisroot map 5 24 --plain
 ";
 
 pub const POINT: &str = "\
 Tells the label of one point on a tone of 1 to 15 bits. Refusals are 16 for the bits, then 13.
 
-example
+With --plain the library's second mapper answers, which nobody tuned, as for map.
+
+examples
   clevisroot point 5 -3 5
+  clevisroot point 5 -3 5 --plain
 ";
 
 pub const FIGURES: &str = "\

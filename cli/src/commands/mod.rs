@@ -14,6 +14,7 @@ mod first_tone;
 mod ground_fields;
 mod judge;
 mod judged_report;
+mod mapper;
 mod nearest;
 mod pages;
 mod picture;
@@ -36,7 +37,7 @@ mod whole;
 
 use crate::call::{Command, Operand};
 use crate::options::{
-    ALL, CSV, HTML, JSON, OUT, PAIR_NAME, PAIR_POINTS, PAIR_SENT, PAIR_TABLES, REGISTER,
+    ALL, CSV, HTML, JSON, OUT, PAIR_NAME, PAIR_POINTS, PAIR_SENT, PAIR_TABLES, PLAIN, REGISTER,
     REGISTER_OR_FIND, START, STOP, SVG,
 };
 
@@ -122,7 +123,7 @@ pub const COMMANDS: [Command; 13] = [
     Command {
         name: "map",
         operands: &[Operand::Number("BITS"), Operand::Number("LABEL")],
-        options: &[&JSON],
+        options: &[&PLAIN, &JSON],
         about: "the point of one label",
         details: details::MAP,
         run: tone::map,
@@ -134,7 +135,7 @@ pub const COMMANDS: [Command; 13] = [
             Operand::Number("X"),
             Operand::Number("Y"),
         ],
-        options: &[&JSON],
+        options: &[&PLAIN, &JSON],
         about: "the label of one point",
         details: details::POINT,
         run: tone::point,

@@ -1,5 +1,6 @@
 //! `map` and `point`: one tone on its own.
 
+use super::mapper::Mapper;
 use crate::call::Call;
 use crate::fault::Fault;
 use crate::files::{saturating, signed};
@@ -8,7 +9,6 @@ use crate::output::Output;
 use crate::refusal::Refusal;
 use crate::report::{fields, Report};
 use crate::words::{count, shown};
-use clevisroot_sys as library;
 use clevisroot_sys::refusals::{DONE, LABEL, OFFGRID};
 
 /// What counts and labels are to be.
@@ -23,32 +23,35 @@ pub fn point(call: &Call) -> Result<u8, Fault> {
 }
 
 fn map_report(call: &Call) -> Result<Report, Fault> {
+    let mapper = Mapper::of(call);
     let bits = bits_operand(call)?;
     let label = call.number(1, FROM_0, |word| saturating(word, u32::MAX))?;
-    let point = library::map_label(bits, label);
+    let point = mapper.map_label(bits, label);
     if point.number != DONE {
-        return Ok(refused("map", point.number, label_sentence(bits)));
+        return Ok(refused(call, point.number, label_sentence(bits)));
     }
-    let mut json = tone_fields("map", 0);
+    let mut json = tone_fields(call, 0);
     json.push(("bits", Json::Number(bits.into())));
     json.push(("label", Json::Number(label.into())));
     json.push(("x", Json::Number(point.x.into())));
     json.push(("y", Json::Number(point.y.into())));
     let summary = format!(
-        "0 DONE: {}, label {label} ({label:0width$b}): point ({}, {})",
+        "0 DONE: {}, label {label} ({label:0width$b}): point ({}, {}){}",
         count(bits, "bit"),
         point.x,
         point.y,
+        mapper.answered(),
         width = usize::from(bits)
     );
     Ok(Report::new(0, vec![summary], json))
 }
 
 fn point_report(call: &Call) -> Result<Report, Fault> {
+    let mapper = Mapper::of(call);
     let bits = bits_operand(call)?;
     let coordinate = |operand| call.number(operand, "a whole number", signed);
     let ((x, _), (y, _)) = (coordinate(1)?, coordinate(2)?);
-    let found = library::read_point(bits, x, y);
+    let found = mapper.read_point(bits, x, y);
     if found.number != DONE {
         let sentence = match found.number {
             OFFGRID => format!(
@@ -60,17 +63,18 @@ fn point_report(call: &Call) -> Result<Report, Fault> {
             ),
             _ => label_sentence(bits),
         };
-        return Ok(refused("point", found.number, sentence));
+        return Ok(refused(call, found.number, sentence));
     }
     let label = found.label;
-    let mut json = tone_fields("point", 0);
+    let mut json = tone_fields(call, 0);
     json.push(("bits", Json::Number(bits.into())));
     json.push(("x", Json::Number(x.into())));
     json.push(("y", Json::Number(y.into())));
     json.push(("label", Json::Number(label.into())));
     let summary = format!(
-        "0 DONE: {}, point ({x}, {y}): label {label} ({label:0width$b})",
+        "0 DONE: {}, point ({x}, {y}): label {label} ({label:0width$b}){}",
         count(bits, "bit"),
+        mapper.answered(),
         width = usize::from(bits)
     );
     Ok(Report::new(0, vec![summary], json))
@@ -93,9 +97,11 @@ fn label_sentence(bits: u8) -> String {
     }
 }
 
-/// A call for one tone has no size and no register.
-fn tone_fields(command: &'static str, number: u32) -> Fields {
-    fields(command, [Some(number), Some(0), None, None])
+/// A call for one tone has no size and no register; the mapper is told if the call names one.
+fn tone_fields(call: &Call, number: u32) -> Fields {
+    let mut fields = fields(call.command.name, [Some(number), Some(0), None, None]);
+    fields.extend(Mapper::of(call).field());
+    fields
 }
 
 /// An operand as it was typed.
@@ -103,15 +109,19 @@ fn typed(call: &Call, operand: usize) -> String {
     shown(&call.operands[operand].to_string_lossy())
 }
 
-fn refused(command: &'static str, number: u32, sentence: String) -> Report {
+fn refused(call: &Call, number: u32, sentence: String) -> Report {
     debug_assert!(matches!(number, OFFGRID | LABEL));
+    let spot = format!(
+        "at place 0: the one tone asked for{}",
+        Mapper::of(call).refused()
+    );
     let refusal = Refusal {
         number,
         place_is: None,
-        place: "at place 0: the one tone asked for".to_string(),
-        spot: "at place 0: the one tone asked for".to_string(),
+        place: spot.clone(),
+        spot,
         sentence,
         details: Vec::new(),
     };
-    Report::refused(&refusal, tone_fields(command, number))
+    Report::refused(&refusal, tone_fields(call, number))
 }

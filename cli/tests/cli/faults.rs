@@ -19,7 +19,7 @@ fn faulty(ran: &Ran, status: i32, message: &str) {
 const STARTS: &str = "--start takes a whole number from 0 to 7\nusage: ";
 
 /// Words, and what the message says.
-const CALLS: [(&[&str], &str); 44] = [
+const CALLS: [(&[&str], &str); 48] = [
     (&[], "usage: "),
     (&["chek", A], "no command \"chek\""),
     (&["check"], "not the operands it takes"),
@@ -103,6 +103,13 @@ const CALLS: [(&[&str], &str); 44] = [
     (&["point", "2", "1.5", "1"], "X is not a whole number"),
     (&["point", "2", "1", "--1"], "no option --1 here"),
     (&["point", "2", "1", ""], "Y is not a whole number"),
+    (&["map", "x", "1", "--plain"], "BITS is not a whole number"),
+    (&["map", "4", "9", "--plain=1"], "--plain takes no value"),
+    (
+        &["map", "--plain", "4", "9", "--plain"],
+        "--plain is given twice",
+    ),
+    (&["--plain"], "no command, and only --plain\nusage: "),
 ];
 
 #[test]

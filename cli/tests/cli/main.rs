@@ -16,6 +16,7 @@ mod nearest_refusals;
 mod nearest_svg;
 mod output;
 mod pages;
+mod plain;
 mod quarter;
 mod quarter_rests;
 mod quarter_uncoded;

@@ -20,9 +20,9 @@ const COMMANDS: [&str; 13] = [
     "man",
     "completions",
 ];
-const OPTIONS: [&str; 13] = [
+const OPTIONS: [&str; 14] = [
     "register", "start", "tables", "sent", "points", "pair", "out", "svg", "html", "all", "stop",
-    "csv", "json",
+    "plain", "csv", "json",
 ];
 
 /// What a program answers to a text, if it is installed: its status, and all it prints.
@@ -100,7 +100,7 @@ fn completed(words: &[&str]) -> Option<Vec<String>> {
 
 #[test]
 fn bash_completes() {
-    let cases: [(&[&str], &[&str]); 14] = [
+    let cases: [(&[&str], &[&str]); 17] = [
         (&["clevisroot", "en"], &["encode"]),
         (&["clevisroot", "--json", "tu"], &["turn"]),
         (&["clevisroot", "encode", "--re"], &["--register"]),
@@ -111,6 +111,9 @@ fn bash_completes() {
         (&["clevisroot", "read", "--start", "6"], &["6"]),
         (&["clevisroot", "cl"], &["clip"]),
         (&["clevisroot", "clip", "--st"], &["--stop"]),
+        (&["clevisroot", "map", "--p"], &["--plain"]),
+        (&["clevisroot", "point", "--p"], &["--plain"]),
+        (&["clevisroot", "nearest", "--p"], &[]),
         (&["clevisroot", "completions", "z"], &["zsh"]),
         (&["clevisroot", "rep"], &["report"]),
         (&["clevisroot", "report", "--ht"], &["--html"]),

@@ -1,4 +1,5 @@
-//! The tool's own files: no import goes round in a circle, and refusals have their numbers elsewhere.
+//! The tool's own files: no import goes round in a circle, refusals have their numbers elsewhere, and
+//! each mapper is the library's of that name.
 
 use crate::run::root;
 use std::collections::{BTreeMap, BTreeSet};
@@ -93,6 +94,18 @@ fn the_tool_has_no_numbers_of_refusals_of_its_own() {
         for (_, refusal) in clevisroot_sys::refusals::ALL {
             let constant = format!("const {refusal}: u32");
             assert!(!text.contains(&constant), "{name} has {constant}");
+        }
+    }
+}
+
+/// Both give the same answers, so that no call of the tool shows which one gave them.
+#[test]
+fn each_mapper_is_the_one_it_says() {
+    let mapper = &modules()["commands::mapper"];
+    for call in ["map_label(bits, label)", "read_point(bits, x, y)"] {
+        for (name, prefix) in [("Tuned", ""), ("Plain", "plain_")] {
+            let line = format!("Mapper::{name} => library::{prefix}{call},");
+            assert!(mapper.contains(&line), "{line}");
         }
     }
 }
