@@ -162,7 +162,7 @@ axis-most (suc (suc (suc (suc (suc zero))))) = omega arith
 axis-most (suc (suc (suc (suc (suc (suc n)))))) = omega (arith, axis-most (suc (suc (suc (suc n)))))
 
 -- within the range
-abbrev InRange : Point → Type 0
+abbrev pub InRange : Point → Type 0
 InRange p = (natAbs (p .px) ≤ 1023) × (natAbs (p .py) ≤ 1023)
 
 axis-range : (l : List Bool) → length l ≤ 8 → natAbs (twosComplement (true ∷ l)) ≤ 1023
@@ -170,7 +170,7 @@ axis-range l h =
     let p : 2 ^ suc (length l) ≤ 2 ^ 9 = pow-mono {i = suc (length l)} {j = 9} (omega arith) in
     omega (arith, twos-most (true ∷ l), p)
 
-point-range : (b : ℕ) (v : List Bool) → b ≤ 15 → length v ≡ b → InRange (pointOf b v)
+pub point-range : (b : ℕ) (v : List Bool) → b ≤ 15 → length v ≡ b → InRange (pointOf b v)
 point-range b v h l =
     let e : pointOf b v ≡ pointOf (length v) v = ap (λ (n : ℕ). pointOf n v) (sym l) in
     let k = coords-length v in

@@ -130,10 +130,10 @@ corner-of : (p : Point) → blockCorner (ofBlock (cornerOf p)) ≡ cornerOf p
 corner-of p = pt (corner-again (p .px)) (corner-again (p .py))
 
 -- the place of the labels with these two lowest bits
-abbrev placeOf : Bool → Bool → ℕ
-placeOf a c = weight a + 2 * weight c
+abbrev lowPlace : Bool → Bool → ℕ
+lowPlace a c = weight a + 2 * weight c
 
-in-block : (a c : Bool) (p : Point) → inBlock (placeOf a c) p ≡ point (beyond c (p .px)) (beyond a (p .py))
+in-block : (a c : Bool) (p : Point) → inBlock (lowPlace a c) p ≡ point (beyond c (p .px)) (beyond a (p .py))
 unfolding weight
 in-block false false p = refl
 in-block true false p = refl
@@ -157,7 +157,7 @@ axes-grow a c (x ∷ xs) (y ∷ ys) hx hy = (coordinate-grows c x xs, coordinate
 
 -- document 01's points: the block of a label's point has the points of the labels with two bits more below it,
 record Block (b : ℕ) (a c : Bool) (v : List Bool) : Type 0 where
-  is : pointOf (suc (suc b)) (a ∷ c ∷ v) ≡ inBlock (placeOf a c) (blockCorner (pointOf b v))
+  is : pointOf (suc (suc b)) (a ∷ c ∷ v) ≡ inBlock (lowPlace a c) (blockCorner (pointOf b v))
   at : cornerOf (pointOf (suc (suc b)) (a ∷ c ∷ v)) ≡ blockCorner (pointOf b v)
 
 some-bits : (v : List Bool) → smallest (suc (suc (length v))) ≡ false → 1 ≤ length v
@@ -174,7 +174,7 @@ block a c v h =
     record {
       is =
           e ∙ pt (g .0 .is) (g .1 .is) ∙ sym (in-block a c (blockCorner (axesPoint (coords v))))
-          ∙ ap (λ (p : Point). inBlock (placeOf a c) (blockCorner p)) f;
+          ∙ ap (λ (p : Point). inBlock (lowPlace a c) (blockCorner p)) f;
       at = ap cornerOf e ∙ pt (g .0 .at) (g .1 .at) ∙ ap blockCorner f;
     }
 
@@ -185,7 +185,7 @@ two-apart (negsuc zero) = refl
 two-apart (negsuc (suc zero)) = refl
 two-apart (negsuc (suc (suc n))) = rw (lt-ltb 2 (suc (suc (suc n))) (omega arith)) (ne-eqb (suc (suc n)) (suc (suc (suc n)) - 3) (λ e. omega arith))
 
-low-place : (a c : Bool) (p : Point) → first (λ k. samePoint (inBlock k p) (inBlock (placeOf a c) p)) 4 ≡ At (placeOf a c)
+low-place : (a c : Bool) (p : Point) → first (λ k. samePoint (inBlock k p) (inBlock (lowPlace a c) p)) 4 ≡ At (lowPlace a c)
 unfolding first weight
 low-place false false p = rw (sameInt-self (p .px), sameInt-self (p .py))
 low-place true false p = rw (sameInt-self (p .px), sameInt-self (p .py +ℤ pos 2), two-apart (p .py))
@@ -270,7 +270,7 @@ step-points b h ih l k =
     let e : l / 2 / 2 ≡ l / 4 = omega arith in
     let v : List Bool = bits b (l / 2 / 2) in
     let n : length v ≡ b = length-bits b (l / 2 / 2) in
-    let w : l % 4 ≡ placeOf (odd l) (odd (l / 2)) = omega (arith, weight-odd l, weight-odd (l / 2)) in
+    let w : l % 4 ≡ lowPlace (odd l) (odd (l / 2)) = omega (arith, weight-odd l, weight-odd (l / 2)) in
     let p : l / 4 < 2 ^ b = omega (arith, pow-suc 2 b, pow-suc 2 (suc b)) in
     let g : Block b (odd l) (odd (l / 2)) v = rw n at (block (odd l) (odd (l / 2)) v (rw n h)) in
     larger-points b h l
@@ -278,10 +278,10 @@ step-points b h ih l k =
     ∙ sym (g .is)
 
 -- the label of a point of the block, from that of its corner
-low-label : (b : ℕ) (a c : Bool) (v : List Bool) → Block b a c v → lowLabel (pointOf (suc (suc b)) (a ∷ c ∷ v)) ≡ At (placeOf a c)
+low-label : (b : ℕ) (a c : Bool) (v : List Bool) → Block b a c v → lowLabel (pointOf (suc (suc b)) (a ∷ c ∷ v)) ≡ At (lowPlace a c)
 low-label b a c v g = rw (g .at, g .is) (low-place a c (blockCorner (pointOf b v)))
 
-place-bits : (k : ℕ) → k < 4 → (a : Bool) × (c : Bool) × (placeOf a c ≡ k)
+place-bits : (k : ℕ) → k < 4 → (a : Bool) × (c : Bool) × (lowPlace a c ≡ k)
 unfolding weight
 place-bits zero h = (false, false, refl)
 place-bits (suc zero) h = (true, false, refl)
@@ -307,7 +307,7 @@ module _ (b : ℕ) (h : smallest (suc (suc b)) ≡ false) (ih : (p : Point) → 
       let g = block-at a c v m in
       let q : ofBlock (cornerOf p) ≡ pointOf b v = ap (λ (z : Point). ofBlock (cornerOf z)) (sym e) ∙ ap ofBlock (g .at) ∙ of-corner (pointOf b v) in
       let i : plainLabel b (ofBlock (cornerOf p)) ≡ At (num v) = ap (plainLabel b) q ∙ ih (pointOf b v) ∙ ap labelNumber (label-point b v m) in
-      let j : lowLabel p ≡ At (placeOf a c) = ap lowLabel (sym e) ∙ low-label b a c v g in
+      let j : lowLabel p ≡ At (lowPlace a c) = ap lowLabel (sym e) ∙ low-label b a c v g in
       ap₂ fourfold i j ∙ ap At (omega arith)
 
   -- and where it has none
@@ -320,9 +320,9 @@ module _ (b : ℕ) (h : smallest (suc (suc b)) ≡ false) (ih : (p : Point) → 
       let low = first-found (λ j. samePoint (inBlock j (cornerOf p)) p) 4 k e in
       let z = place-bits k (low .0) in
       let i : pointOf (suc (suc b)) (z .0 ∷ z .1 ∷ v .0) ≡ p =
-          block-at (z .0) (z .1) (v .0) (q .0) .is
-          ∙ ap₂ (λ (m : ℕ) (r : Point). inBlock m (blockCorner r)) (z .2) (q .1)
-          ∙ ap (inBlock k) (corner-of p) ∙ samePoint→eq (inBlock k (cornerOf p)) p (low .1) in
+      block-at (z .0) (z .1) (v .0) (q .0) .is
+      ∙ ap₂ (λ (m : ℕ) (r : Point). inBlock m (blockCorner r)) (z .2) (q .1)
+      ∙ ap (inBlock k) (corner-of p) ∙ samePoint→eq (inBlock k (cornerOf p)) p (low .1) in
       absurd (none-some (z .0 ∷ z .1 ∷ v .0) (sym o ∙ ap (labelOf (suc (suc b))) (sym i) ∙ label-point (suc (suc b)) (z .0 ∷ z .1 ∷ v .0) (omega (arith, q .0))))
 
 step-labels : (b : ℕ) → smallest (suc (suc b)) ≡ false → Agrees b → (p : Point) → plainLabel (suc (suc b)) p ≡ labelNumber (labelOf (suc (suc b)) p)

@@ -1,0 +1,316 @@
+// A second mapper, written the plain way and not tuned: the map for b bits calls itself for b - 2 bits, and so does reading. It
+// shares no table, constant or helper with crate constellation, and gives the same answers.
+ghost use mathlib.Core.Bool.{true};
+ghost use mathlib.Core.Path.{_≡_};
+ghost use Prim.Native.Nat.{_+_, _*_, _^_, _<_, _≤_};
+ghost use lib.IntN.{pos, _+ℤ_, _-ℤ_};
+ghost use lib.ListN.{getD};
+ghost use lib.Signed.{mag, shrZ};
+ghost use Rattle.g9932.specs.Bits.{bits as lowestBits, first};
+ghost use Rattle.g9932.specs.Sizes.{point, origin};
+ghost use Rattle.g9932.specs.Points.{onePoints, evenPoint, threePoints, table10-3, oddPoint, samePoint};
+ghost use Rattle.g9932.specs.Plain.{smallest as isSmallest, smallPoint, blockCorner, inBlock, plainPoint, cornerAt, cornerOf, ofBlock, fourfold as fourfoldOf, plainLabel};
+ghost use Rattle.g9932.specs.Answers.{mapLabel, readPoint, mappedOf, labelledOf};
+ghost use Rattle.plain_mapper.specs.Bounds.{Below, Within};
+use g9932::Found;
+use g9932::Labelled;
+use g9932::Mapped;
+use g9932::Place;
+use g9932::Refusal;
+
+// A point of a constellation.
+struct Spot {
+    x: i16,
+    y: i16,
+}
+
+// b = 1: 0 is (1, 1), 1 is (-1, -1).
+fn one_bit(label: usize) -> Spot
+    requires { ⌜ label < 2 ⌝ }
+    ensures { λ r. ⌜ point (r .x) (r .y) ≡ getD onePoints label origin ⌝ }
+{
+    match label {
+        0 => Spot { x: 1, y: 1 },
+        _ => Spot { x: -1, y: -1 },
+    }
+}
+
+// b = 2: X is (v1 1), Y is (v0 1).
+fn two_bits(label: usize) -> Spot
+    requires { ⌜ label < 4 ⌝ }
+    ensures { λ r. ⌜ point (r .x) (r .y) ≡ evenPoint (lowestBits 2 label) ⌝ }
+{
+    match label {
+        0 => Spot { x: 1, y: 1 },
+        1 => Spot { x: 1, y: -1 },
+        2 => Spot { x: -1, y: 1 },
+        _ => Spot { x: -1, y: -1 },
+    }
+}
+
+// b = 3, labels 0 to 7.
+fn three_bits(label: usize) -> Spot
+    requires { ⌜ label < 8 ⌝ }
+    ensures { λ r. ⌜ point (r .x) (r .y) ≡ getD threePoints label origin ⌝ }
+{
+    match label {
+        0 => Spot { x: 1, y: 1 },
+        1 => Spot { x: 1, y: -1 },
+        2 => Spot { x: -1, y: 1 },
+        3 => Spot { x: -1, y: -1 },
+        4 => Spot { x: -3, y: 1 },
+        5 => Spot { x: 1, y: 3 },
+        6 => Spot { x: -1, y: -3 },
+        _ => Spot { x: 3, y: -1 },
+    }
+}
+
+// Table 10-3: Xc Xd Yc Yd by the label of five bits.
+fn table_10_3(label: usize) -> u16
+    requires { ⌜ label < 32 ⌝ }
+    ensures { λ r. ⌜ r ≡ getD table10-3 label 0 ⌝ }
+{
+    match label {
+        0..=3 => 0b0000,
+        4..=7 => 0b0011,
+        8..=11 => 0b1100,
+        12..=15 => 0b1111,
+        16 | 17 => 0b0100,
+        18 | 19 => 0b1000,
+        20 | 22 => 0b0001,
+        21 | 23 => 0b0010,
+        24 | 26 => 0b1101,
+        25 | 27 => 0b1110,
+        28 | 29 => 0b0111,
+        _ => 0b1011,
+    }
+}
+
+// The number that the bits c d v 1 are in two's complement.
+fn coordinate(c: u16, d: u16, v: u16) -> i16
+    requires { ⌜ (c ≤ 1) × (d ≤ 1) × (v ≤ 1) ⌝ }
+    ensures { λ r. ⌜ r ≡ pos (4 * d + 2 * v + 1) -ℤ pos (8 * c) ⌝ }
+{
+    (4 * d + 2 * v + 1) as i16 - (8 * c) as i16
+}
+
+// b = 5: X is (Xc Xd v1 1), Y is (Yc Yd v0 1).
+fn five_bits(label: usize) -> Spot
+    requires { ⌜ label < 32 ⌝ }
+    ensures { λ r. ⌜ point (r .x) (r .y) ≡ oddPoint 5 (lowestBits 5 label) ⌝ }
+{
+    let top = table_10_3(label);
+    let v = label as u16;
+    Spot {
+        x: coordinate(top / 8, top / 4 % 2, v / 2 % 2),
+        y: coordinate(top / 2 % 2, top % 2, v % 2),
+    }
+}
+
+// Whether b is 2, 3 or 5, or 1 on its own: there the recursion ends.
+fn smallest(b: u8) -> bool
+    ensures { λ r. ⌜ r ≡ isSmallest b ⌝ }
+{
+    match b {
+        1 | 2 | 3 | 5 => true,
+        _ => false,
+    }
+}
+
+// The point of a label of the smallest constellations.
+fn small_point(b: u8, label: usize) -> Spot
+    requires { ⌜ (isSmallest b ≡ true) × (label < 2 ^ b) ⌝ }
+    ensures { λ r. ⌜ point (r .x) (r .y) ≡ smallPoint b label ⌝ }
+{
+    match b {
+        1 => one_bit(label),
+        2 => two_bits(label),
+        3 => three_bits(label),
+        _ => five_bits(label),
+    }
+}
+
+// The corner of the block that a point becomes.
+fn block_corner(p: Spot) -> Spot
+    requires { ⌜ Within 1023 (point (p .x) (p .y)) ⌝ }
+    ensures { λ r. ⌜ point (r .x) (r .y) ≡ blockCorner (point (p .x) (p .y)) ⌝ }
+{
+    Spot {
+        x: 2 * p.x - 1,
+        y: 2 * p.y - 1,
+    }
+}
+
+// The point of label 4n + k, by the corner, which is that of 4n: above it, to its right, diagonal.
+fn in_block(k: usize, corner: Spot) -> Spot
+    requires { ⌜ (k < 4) × Within 4095 (point (corner .x) (corner .y)) ⌝ }
+    ensures { λ r. ⌜ point (r .x) (r .y) ≡ inBlock k (point (corner .x) (corner .y)) ⌝ }
+{
+    match k {
+        0 => corner,
+        1 => Spot {
+            x: corner.x,
+            y: corner.y + 2,
+        },
+        2 => Spot {
+            x: corner.x + 2,
+            y: corner.y,
+        },
+        _ => Spot {
+            x: corner.x + 2,
+            y: corner.y + 2,
+        },
+    }
+}
+
+// The point of a label of b bits, by way of b - 2 bits.
+fn plain_point(b: u8, label: usize) -> Spot
+    requires { ⌜ (1 ≤ b) × (b ≤ 15) × (label < 2 ^ b) ⌝ }
+    ensures { λ r. ⌜ point (r .x) (r .y) ≡ plainPoint b label ⌝ }
+{
+    if smallest(b) {
+        return small_point(b, label);
+    }
+    let n = plain_point(b - 2, label / 4);
+    in_block(label % 4, block_corner(n))
+}
+
+// Maps one label: refusal 16.
+pub fn map_label(bits: u8, label: u32) -> Mapped
+    ensures { λ r. ⌜ mappedOf r ≡ mapLabel bits label ⌝ }
+{
+    if bits < 1 {
+        return Mapped::Refused(Refusal::Label);
+    }
+    if 15 < bits {
+        return Mapped::Refused(Refusal::Label);
+    }
+    if 1u32 << bits <= label {
+        return Mapped::Refused(Refusal::Label);
+    }
+    let p = plain_point(bits, label as usize);
+    Mapped::Point { x: p.x, y: p.y }
+}
+
+// Whether two points are the same.
+fn same(p: Spot, q: Spot) -> bool
+    ensures { λ r. ⌜ r ≡ samePoint (point (p .x) (p .y)) (point (q .x) (q .y)) ⌝ }
+{
+    if p.x != q.x {
+        return false;
+    }
+    if p.y != q.y {
+        return false;
+    }
+    true
+}
+
+// The label below `end` that has a point of the smallest constellations, if one has.
+fn small_label(b: u8, end: usize, p: Spot) -> Found
+    requires { ⌜ (isSmallest b ≡ true) × (end ≤ 2 ^ b) ⌝ }
+    ensures { λ r. ⌜ r ≡ first (λ l. samePoint (smallPoint b l) (point (p .x) (p .y))) end ⌝ }
+{
+    if end == 0 {
+        return Found::Nothing;
+    }
+    let found = small_label(b, end - 1, p);
+    match found {
+        Found::At(label) => Found::At(label),
+        Found::Nothing => {
+            if same(small_point(b, end - 1), p) {
+                return Found::At(end - 1);
+            }
+            Found::Nothing
+        }
+    }
+}
+
+// The corner of the block that a coordinate is in: one more than a multiple of four, for it is 2X - 1 of an odd X.
+fn corner(z: i16) -> i16
+    ensures { λ r. ⌜ r ≡ cornerAt z ⌝ }
+{
+    4 * (z >> 2) + 1
+}
+
+// The X whose corner 2X - 1 is.
+fn of_corner(c: i16) -> i16
+    requires { ⌜ mag c ≤ 32766 ⌝ }
+    ensures { λ r. ⌜ r ≡ shrZ (c +ℤ pos 1) 2 ⌝ }
+{
+    (c + 1) >> 1
+}
+
+// The two lowest bits of a label, by how far its point is to the right of the corner and above it.
+fn low_label(right: i16, up: i16) -> Found
+    ensures { λ r. ⌜ r ≡ first (λ k. samePoint (inBlock k origin) (point right up)) 4 ⌝ }
+{
+    if right == 0 {
+        if up == 0 {
+            return Found::At(0);
+        }
+        if up == 2 {
+            return Found::At(1);
+        }
+        return Found::Nothing;
+    }
+    if right == 2 {
+        if up == 0 {
+            return Found::At(2);
+        }
+        if up == 2 {
+            return Found::At(3);
+        }
+    }
+    Found::Nothing
+}
+
+// The label 4n + k.
+fn fourfold(n: Found, low: Found) -> Found
+    requires { ⌜ Below 32768 n × Below 4 low ⌝ }
+    ensures { λ r. ⌜ r ≡ fourfoldOf n low ⌝ }
+{
+    match n {
+        Found::At(n) => match low {
+            Found::At(k) => Found::At(4 * n + k),
+            Found::Nothing => Found::Nothing,
+        },
+        Found::Nothing => Found::Nothing,
+    }
+}
+
+// The label of a point of b bits, by way of b - 2 bits.
+fn plain_label(b: u8, p: Spot) -> Found
+    requires { ⌜ (1 ≤ b) × (b ≤ 15) ⌝ }
+    ensures { λ r. ⌜ r ≡ plainLabel b (point (p .x) (p .y)) ⌝ }
+{
+    if smallest(b) {
+        return small_label(b, 1usize << b, p);
+    }
+    let x = corner(p.x);
+    let y = corner(p.y);
+    let n = plain_label(
+        b - 2,
+        Spot {
+            x: of_corner(x),
+            y: of_corner(y),
+        },
+    );
+    fourfold(n, low_label(p.x - x, p.y - y))
+}
+
+// Reads one point: refusal 16 for its bits, then 13.
+pub fn read_point(bits: u8, x: i16, y: i16) -> Labelled
+    ensures { λ r. ⌜ labelledOf r ≡ readPoint bits (point x y) ⌝ }
+{
+    if bits < 1 {
+        return Labelled::Refused(Refusal::Label);
+    }
+    if 15 < bits {
+        return Labelled::Refused(Refusal::Label);
+    }
+    let found = plain_label(bits, Spot { x, y });
+    match found {
+        Found::At(label) => Labelled::Label(label as u32),
+        Found::Nothing => Labelled::Refused(Refusal::Offgrid(Place(0))),
+    }
+}
