@@ -26,7 +26,7 @@ SOURCES := crates.txt $(shell find crates -mindepth 2 -name must-fail -prune -o 
 HEADERS := include/clevisroot.h include/clevisroot_names.h
 VERSION := $(shell sed -n 's/.*CLEVISROOT_VERSION_TEXT "\(.*\)"/\1/p' include/clevisroot.h)
 BUILD := target/c
-TESTS := calls refusals null guarded threads tally clip_check quarter_turns
+TESTS := calls mappers refusals null guarded threads tally clip_check quarter_turns
 EXAMPLES := pair_report clip quarter
 
 .PHONY: all install uninstall programs check

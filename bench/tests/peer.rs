@@ -93,6 +93,15 @@ impl Core for Peer {
         peer::read_point(bits, x, y)
     }
 
+    /// The peer has one mapper, which is held to both rules.
+    fn plain_map_label(&self, bits: u8, label: u32) -> Point {
+        peer::map_label(bits, label)
+    }
+
+    fn plain_read_point(&self, bits: u8, x: i16, y: i16) -> Label {
+        peer::read_point(bits, x, y)
+    }
+
     fn draw(&self, reg: u32) -> Drawn {
         peer::draw(reg)
     }

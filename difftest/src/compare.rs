@@ -115,33 +115,17 @@ impl Comparison<'_> {
     }
 
     pub fn map_label(&mut self, bits: u8, label: u32) -> Result<(), Mismatch> {
-        let told = reference::map_label(bits, label);
-        let (x, y) = told.contents.unwrap_or((0, 0));
-        let number = told.number;
-        let expected = Point { number, x, y };
+        let expected = point(&reference::map_label(bits, label));
         let actual = self.core.map_label(bits, label);
-        self.hold(
-            Operation::MapLabel,
-            number,
-            &expected,
-            &actual,
-            (bits, label),
-        )
+        let (number, inputs) = (expected.number, (bits, label));
+        self.hold(Operation::MapLabel, number, &expected, &actual, inputs)
     }
 
     pub fn read_point(&mut self, bits: u8, x: i16, y: i16) -> Result<(), Mismatch> {
-        let told = reference::read_point(bits, x, y);
-        let number = told.number;
-        let label = told.contents.unwrap_or(0);
-        let expected = Label { number, label };
+        let expected = label(&reference::read_point(bits, x, y));
         let actual = self.core.read_point(bits, x, y);
-        self.hold(
-            Operation::ReadPoint,
-            number,
-            &expected,
-            &actual,
-            (bits, x, y),
-        )
+        let (number, inputs) = (expected.number, (bits, x, y));
+        self.hold(Operation::ReadPoint, number, &expected, &actual, inputs)
     }
 
     pub fn draw(&mut self, register: u32) -> Result<(), Mismatch> {
@@ -209,4 +193,18 @@ pub fn answer<C>(told: &reference::Answer<C>) -> Answer {
         size: told.size,
         reg: told.register,
     }
+}
+
+/// A refusal carries no point.
+pub fn point(told: &reference::Answer<reference::points::Point>) -> Point {
+    let number = told.number;
+    let (x, y) = told.contents.unwrap_or((0, 0));
+    Point { number, x, y }
+}
+
+/// A refusal carries no label.
+pub fn label(told: &reference::Answer<u32>) -> Label {
+    let number = told.number;
+    let label = told.contents.unwrap_or(0);
+    Label { number, label }
 }

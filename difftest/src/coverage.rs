@@ -20,6 +20,8 @@ pub enum Operation {
     ClipCheck,
     MapLabel,
     ReadPoint,
+    PlainMapLabel,
+    PlainReadPoint,
     Draw,
     TallyNew,
     TallyRead,
@@ -28,7 +30,7 @@ pub enum Operation {
 
 use Operation::*;
 
-const OPERATIONS: [Operation; 14] = [
+const OPERATIONS: [Operation; 16] = [
     Check,
     Reorder,
     Encode,
@@ -39,6 +41,8 @@ const OPERATIONS: [Operation; 14] = [
     ClipCheck,
     MapLabel,
     ReadPoint,
+    PlainMapLabel,
+    PlainReadPoint,
     Draw,
     TallyNew,
     TallyRead,
@@ -62,11 +66,18 @@ impl Operation {
             ClipCheck => "clip_check",
             MapLabel => "map_label",
             ReadPoint => "read_point",
+            PlainMapLabel => "plain_map_label",
+            PlainReadPoint => "plain_read_point",
             Draw => "draw",
             TallyNew => "tally_new",
             TallyRead => "tally_read",
             TallyRefused => "tally_refused",
         }
+    }
+
+    /// Of its column: the name or a large count, and what keeps it from the one before.
+    fn width(self) -> usize {
+        self.name().len().max(8) + 2
     }
 
     /// The numbers that must turn up; no others may.
@@ -79,8 +90,8 @@ impl Operation {
             ReadAt => (DONE..=FEW).chain(ROOM..=TRELLIS).collect(),
             ReadNearest => (DONE..=FEW).chain(ROOM..=SEED).chain([RANGE]).collect(),
             ClipCheck => (DONE..=FEW).chain([ROOM, SEED]).collect(),
-            MapLabel => vec![DONE, LABEL],
-            ReadPoint => vec![DONE, OFFGRID, LABEL],
+            MapLabel | PlainMapLabel => vec![DONE, LABEL],
+            ReadPoint | PlainReadPoint => vec![DONE, OFFGRID, LABEL],
             Draw => vec![DONE, SEED],
             TallyNew => vec![DONE],
             TallyRead | TallyRefused => vec![DONE, FRAME, FULL],
@@ -168,17 +179,17 @@ impl fmt::Display for Coverage {
     fn fmt(&self, f: &mut fmt::Formatter) -> fmt::Result {
         write!(f, "{:<11}", "")?;
         for operation in OPERATIONS {
-            write!(f, "{:>14}", operation.name())?;
+            write!(f, "{:>1$}", operation.name(), operation.width())?;
         }
         for &(number, name) in ALL {
             write!(f, "\n{number:>2} {name:<8}")?;
             for operation in OPERATIONS {
                 let count = self.counts[operation as usize][number as usize];
-                if count > 0 || operation.numbers().contains(&number) {
-                    write!(f, "{count:>14}")?;
-                } else {
-                    write!(f, "{:>14}", "-")?;
-                }
+                let told = match count {
+                    0 if !operation.numbers().contains(&number) => "-".to_string(),
+                    _ => count.to_string(),
+                };
+                write!(f, "{told:>0$}", operation.width())?;
             }
         }
         let [encoded, read, monitor] = self.behind_silent();

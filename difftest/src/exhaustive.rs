@@ -1,7 +1,8 @@
-//! The one-tone calls on every label, and on every point near the origin; nearest reading of symbols
-//! with so few frames that each is tried, and of the largest.
+//! The one-tone calls on every label, and on every point near the origin and far beyond the
+//! constellations; nearest reading of symbols with so few frames that each is tried, and of the largest.
 
 use crate::compare::{Comparison, Mismatch};
+use crate::inputs::EXTREMES;
 use crate::nearest::Received;
 use crate::random::Random;
 use crate::received::noisy_points;
@@ -13,15 +14,17 @@ use reference::points::{constellation, Point};
 use reference::words::lists_of;
 use reference::{Mode, Tables};
 
-/// All labels of 1 to `most_bits` bits both ways, and all points of a square for every bit count.
+/// By both mappers: all labels of 1 to `most_bits` bits both ways and all points of a square, then for
+/// every bit count, right or wrong, labels of every size and points at the ends of 16 bits.
 pub fn one_tone(comparison: &mut Comparison, most_bits: u8) -> Result<(), Mismatch> {
     for bits in 1..=most_bits {
         every_label(comparison, bits)?;
         every_point_near(comparison, bits)?;
+        every_point_far(comparison, bits)?;
     }
-    for bits in [0, 16, 255] {
-        comparison.map_label(bits, 0)?;
-        comparison.read_point(bits, 0, 0)?;
+    for bits in 0..=255 {
+        label_sizes(comparison, bits)?;
+        extreme_points(comparison, bits)?;
     }
     Ok(())
 }
@@ -29,16 +32,52 @@ pub fn one_tone(comparison: &mut Comparison, most_bits: u8) -> Result<(), Mismat
 fn every_label(comparison: &mut Comparison, bits: u8) -> Result<(), Mismatch> {
     let points = constellation(usize::from(bits));
     for (label, &(x, y)) in points.iter().enumerate() {
-        comparison.map_label(bits, label as u32)?;
-        comparison.read_point(bits, x, y)?;
+        comparison.map_by_both(bits, label as u32)?;
+        comparison.read_by_both(bits, x, y)?;
     }
-    comparison.map_label(bits, points.len() as u32)
+    Ok(())
 }
 
 fn every_point_near(comparison: &mut Comparison, bits: u8) -> Result<(), Mismatch> {
     for x in -40..=40 {
         for y in -40..=40 {
             comparison.read_point(bits, x, y)?;
+        }
+    }
+    Ok(())
+}
+
+/// A square beyond every constellation, then 16-bit coordinates each way. The reference's direct rule
+/// searches too long for that, so the other mapper is held to the plain one alone.
+fn every_point_far(comparison: &mut Comparison, bits: u8) -> Result<(), Mismatch> {
+    for x in -300..=300 {
+        for y in -300..=300 {
+            comparison.plain_read_point(bits, x, y)?;
+        }
+    }
+    for far in i16::MIN..=i16::MAX {
+        for (x, y) in [(far, 1), (-1, far), (far, far)] {
+            comparison.plain_read_point(bits, x, y)?;
+        }
+    }
+    Ok(())
+}
+
+/// Every power of 2 with its neighbours: below 2 to the bits, at it and above.
+fn label_sizes(comparison: &mut Comparison, bits: u8) -> Result<(), Mismatch> {
+    for power in (0..32).map(|k| 1_u32 << k) {
+        for label in power - 1..=power + 1 {
+            comparison.map_by_both(bits, label)?;
+        }
+    }
+    comparison.map_by_both(bits, u32::MAX)
+}
+
+fn extreme_points(comparison: &mut Comparison, bits: u8) -> Result<(), Mismatch> {
+    let coordinates = [&EXTREMES[..], &[-1, 1]].concat();
+    for &x in &coordinates {
+        for &y in &coordinates {
+            comparison.read_by_both(bits, x, y)?;
         }
     }
     Ok(())

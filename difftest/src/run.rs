@@ -104,10 +104,10 @@ fn nearest_case(
 
 fn one_tone_case(comparison: &mut Comparison, random: &mut Random) -> Result<(), Mismatch> {
     let bits = random_bits(random);
-    comparison.map_label(bits, random_label(random, bits))?;
+    comparison.map_by_both(bits, random_label(random, bits))?;
     let bits = random_bits(random);
     let (x, y) = random_point(random, bits);
-    comparison.read_point(bits, x, y)?;
+    comparison.read_by_both(bits, x, y)?;
     comparison.draw(random_register(random))
 }
 

@@ -54,6 +54,8 @@ pub trait Core {
     ) -> Clip;
     fn map_label(&self, bits: u8, label: u32) -> Point;
     fn read_point(&self, bits: u8, x: i16, y: i16) -> Label;
+    fn plain_map_label(&self, bits: u8, label: u32) -> Point;
+    fn plain_read_point(&self, bits: u8, x: i16, y: i16) -> Label;
     fn draw(&self, reg: u32) -> Drawn;
     fn tally_new(&self) -> Tally;
     fn tally_read(&self, tally: Tally, sent: &[u8], read: &[u8]) -> Tallied;
@@ -141,6 +143,14 @@ impl Core for Library {
 
     fn read_point(&self, bits: u8, x: i16, y: i16) -> Label {
         clevisroot_sys::read_point(bits, x, y)
+    }
+
+    fn plain_map_label(&self, bits: u8, label: u32) -> Point {
+        clevisroot_sys::plain_map_label(bits, label)
+    }
+
+    fn plain_read_point(&self, bits: u8, x: i16, y: i16) -> Label {
+        clevisroot_sys::plain_read_point(bits, x, y)
     }
 
     fn draw(&self, reg: u32) -> Drawn {

@@ -10,6 +10,7 @@ pub mod filler;
 pub mod forms;
 pub mod nearest;
 pub mod operations;
+pub mod plain;
 pub mod points;
 pub mod quarter;
 pub mod refusals;
@@ -19,5 +20,6 @@ pub mod tally;
 pub mod words;
 
 pub use forms::{Mode, Tables};
-pub use operations::{check, clip_check, draw, encode, encode_at, map_label, read, read_at};
-pub use operations::{read_nearest, read_point, reorder, tally_entry, tally_new, Answer};
+pub use operations::{check, clip_check, draw, encode, encode_at, map_label, plain_map_label};
+pub use operations::{plain_read_point, read, read_at, read_nearest, read_point, reorder};
+pub use operations::{tally_entry, tally_new, Answer};

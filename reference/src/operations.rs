@@ -3,8 +3,9 @@
 use crate::clip::{clip_of, Clip};
 use crate::filler::{register_valid, Filler};
 use crate::forms::{bits_of_frame, frame_accepted, frame_bytes, frame_of_bits};
-use crate::forms::{start_accepted, Mode, Tables};
+use crate::forms::{start_accepted, Mode, Place, Tables};
 use crate::nearest::{nearest_bits, test_range, work_bytes};
+use crate::plain;
 use crate::points::{constellation, label_of, Point};
 use crate::refusals::{refuse_if, test_tables, Refusal};
 use crate::reordering::{frame_size, reordered_bits, reordered_tones};
@@ -187,22 +188,36 @@ pub fn clip_check(tables: &Tables, x: &[i16], y: &[i16], register: u32) -> Answe
 
 /// The point of one label: 16.
 pub fn map_label(bits: u8, label: u32) -> Answer<Point> {
+    map_by(|b, label| constellation(b)[label], bits, label)
+}
+
+/// The same by the plain rule.
+pub fn plain_map_label(bits: u8, label: u32) -> Answer<Point> {
+    map_by(plain::point_of, bits, label)
+}
+
+fn map_by(rule: fn(usize, usize) -> Point, bits: u8, label: u32) -> Answer<Point> {
     let b = usize::from(bits);
     let fits = (1..=15).contains(&b) && label < 1 << b;
     let outcome = refuse_if(!fits, Refusal::Label);
-    answer(
-        0,
-        outcome.map(|()| (0, 0, constellation(b)[label as usize])),
-    )
+    answer(0, outcome.map(|()| (0, 0, rule(b, label as usize))))
 }
 
 /// The label of one point: 16 for the bits, then 13.
 pub fn read_point(bits: u8, x: i16, y: i16) -> Answer<u32> {
+    read_by(label_of, bits, (x, y))
+}
+
+/// The same by the plain rule.
+pub fn plain_read_point(bits: u8, x: i16, y: i16) -> Answer<u32> {
+    read_by(plain::label_of, bits, (x, y))
+}
+
+fn read_by(rule: fn(usize, Point) -> Option<usize>, bits: u8, point: Point) -> Answer<u32> {
     let b = usize::from(bits);
     let outcome = || {
         refuse_if(!(1..=15).contains(&b), Refusal::Label)?;
-        let offgrid = Refusal::Offgrid(crate::forms::Place(0));
-        let label = label_of(b, (x, y)).ok_or(offgrid)?;
+        let label = rule(b, point).ok_or(Refusal::Offgrid(Place(0)))?;
         Ok((0, 0, label as u32))
     };
     answer(0, outcome())

@@ -1,6 +1,7 @@
 /*
- * Every function where it is done, but for those of a tally (tally.c) and the clip check
- * (clip_check.c): the bench figures, frames from every start, and what the headers write out in C.
+ * Every function where it is done, but for those of a tally (tally.c), the clip check (clip_check.c) and
+ * the mappers (mappers.c): the bench figures, frames from every start, and what the headers write out
+ * in C.
  */
 #include "test.h"
 
@@ -236,16 +237,6 @@ static void modes(void)
     CHECK(clevisroot_check(TABLES(&a)).size == 11);
 }
 
-static void one_tone(void)
-{
-    clevisroot_point point = clevisroot_map_label(15, 17407);
-    CHECK(point.number == CLEVISROOT_DONE && point.x == 191 && point.y == 63);
-    point = clevisroot_map_label(5, 31);
-    CHECK(point.number == CLEVISROOT_DONE && point.x == -5 && point.y == -1);
-    clevisroot_label label = clevisroot_read_point(15, 191, 63);
-    CHECK(label.number == CLEVISROOT_DONE && label.label == 17407);
-}
-
 /* The first 23 bits are 1; then each is d(n-18) xor d(n-23). */
 static void filler_bits(void)
 {
@@ -324,7 +315,6 @@ int main(void)
     }
     silent_tone();
     modes();
-    one_tone();
     filler_bits();
     version();
     header();

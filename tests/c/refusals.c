@@ -17,6 +17,8 @@ static const uint32_t can_give[FUNCTIONS] = {
     UP_TO_8 | 1u << 10 | 1u << 12,
     1u | 1u << 16,
     1u | 1u << 13 | 1u << 16,
+    1u | 1u << 16,
+    1u | 1u << 13 | 1u << 16,
     1u | 1u << 12,
     1u | 1u << 11 | 1u << 22,
     1u | 1u << 11 | 1u << 22,
@@ -299,37 +301,37 @@ static void points(void)
     changed_point(0, 1, 1, CLEVISROOT_DONE, 0);
 }
 
-static void map_label(uint8_t bits, uint32_t label, uint32_t number)
+static void map_label(const mapper *m, uint8_t bits, uint32_t label, uint32_t number)
 {
-    clevisroot_point point = clevisroot_map_label(bits, label);
-    given[MAPPING] |= 1u << point.number;
+    clevisroot_point point = m->map_label(bits, label);
+    given[m->mapping] |= 1u << point.number;
     CHECK(point.number == number);
     if (number != CLEVISROOT_DONE)
         CHECK(point.x == 0 && point.y == 0);
 }
 
-static void read_point(uint8_t bits, int16_t x, int16_t y, uint32_t number)
+static void read_point(const mapper *m, uint8_t bits, int16_t x, int16_t y, uint32_t number)
 {
-    clevisroot_label label = clevisroot_read_point(bits, x, y);
-    given[LABELLING] |= 1u << label.number;
+    clevisroot_label label = m->read_point(bits, x, y);
+    given[m->labelling] |= 1u << label.number;
     CHECK(label.number == number);
     if (number != CLEVISROOT_DONE)
         CHECK(label.label == 0);
 }
 
-static void one_tone(void)
+static void one_tone(const mapper *m)
 {
-    map_label(0, 0, CLEVISROOT_LABEL);
-    map_label(16, 0, CLEVISROOT_LABEL);
-    map_label(255, 0, CLEVISROOT_LABEL);
-    map_label(4, 16, CLEVISROOT_LABEL);
-    map_label(15, UINT32_MAX, CLEVISROOT_LABEL);
-    map_label(15, 32767, CLEVISROOT_DONE);
-    read_point(0, 0, 0, CLEVISROOT_LABEL);
-    read_point(16, 1, 1, CLEVISROOT_LABEL);
-    read_point(2, 3, 1, CLEVISROOT_OFFGRID);
-    read_point(2, INT16_MIN, INT16_MIN, CLEVISROOT_OFFGRID);
-    read_point(2, -1, 1, CLEVISROOT_DONE);
+    map_label(m, 0, 0, CLEVISROOT_LABEL);
+    map_label(m, 16, 0, CLEVISROOT_LABEL);
+    map_label(m, 255, 0, CLEVISROOT_LABEL);
+    map_label(m, 4, 16, CLEVISROOT_LABEL);
+    map_label(m, 15, UINT32_MAX, CLEVISROOT_LABEL);
+    map_label(m, 15, 32767, CLEVISROOT_DONE);
+    read_point(m, 0, 0, 0, CLEVISROOT_LABEL);
+    read_point(m, 16, 1, 1, CLEVISROOT_LABEL);
+    read_point(m, 2, 3, 1, CLEVISROOT_OFFGRID);
+    read_point(m, 2, INT16_MIN, INT16_MIN, CLEVISROOT_OFFGRID);
+    read_point(m, 2, -1, 1, CLEVISROOT_DONE);
 }
 
 /* The answer has this number, and of a refusal the tally that was given. */
@@ -402,7 +404,8 @@ int main(void)
     ranges(512);
     ranges(0);
     points();
-    one_tone();
+    one_tone(&mappers[0]);
+    one_tone(&mappers[1]);
     tallies(0);
     tallies(CLEVISROOT_MAX_SYMBOLS - 1);
     tallies(CLEVISROOT_MAX_SYMBOLS);

@@ -67,10 +67,26 @@ static void clip(void)
     number = clevisroot_clip_check(LISTS(&set), x, TONES, y, TONES, 1).number;
 }
 
+/* Of every bit count the last label there and back, and a point beyond all. */
+static void map_and_read(const mapper *m)
+{
+    number = CLEVISROOT_DONE;
+    for (uint8_t b = 1; b <= 15; b++) {
+        clevisroot_point p = m->map_label(b, (1u << b) - 1);
+        number |= p.number | m->read_point(b, p.x, p.y).number;
+        number |= m->read_point(b, 255, 255).number ^ CLEVISROOT_OFFGRID;
+    }
+}
+
 static void one_tone(void)
 {
-    number = clevisroot_map_label(15, 1).number | clevisroot_read_point(15, 1, 1).number |
-             clevisroot_draw(1).number;
+    map_and_read(&mappers[0]);
+    number |= clevisroot_draw(1).number;
+}
+
+static void plain(void)
+{
+    map_and_read(&mappers[1]);
 }
 
 static void tally(void)
@@ -142,6 +158,7 @@ static void measure_all(uint8_t coded)
     if (coded)
         measure("clip", clip, CLEVISROOT_STACK);
     measure("one tone", one_tone, CLEVISROOT_STACK);
+    measure("plain", plain, CLEVISROOT_STACK);
     measure("tally", tally, CLEVISROOT_STACK);
 }
 

@@ -90,10 +90,24 @@ enum {
     CLIP_CHECKING,
     MAPPING,
     LABELLING,
+    PLAIN_MAPPING,
+    PLAIN_LABELLING,
     DRAWING,
     COUNTING_READ,
     COUNTING_REFUSED,
     FUNCTIONS
+};
+
+/* The two mappers, the tuned one first: their functions, and which these are. */
+typedef struct {
+    clevisroot_point (*map_label)(uint8_t bits, uint32_t label);
+    clevisroot_label (*read_point)(uint8_t bits, int16_t x, int16_t y);
+    int mapping, labelling;
+} mapper;
+
+static const mapper mappers[2] = {
+    {clevisroot_map_label, clevisroot_read_point, MAPPING, LABELLING},
+    {clevisroot_plain_map_label, clevisroot_plain_read_point, PLAIN_MAPPING, PLAIN_LABELLING},
 };
 
 /* A bit for each number that a function has given. */

@@ -106,6 +106,21 @@ static void one_clip(stream *s, const table_set *set, uint32_t reg)
     digest(s, straight.clip + 4 * turned.clip);
 }
 
+/* The points of some tones, read by either mapper and mapped again by the other; t' is t here, too. */
+static void one_tones(stream *s, size_t first)
+{
+    for (size_t p = first; p < TONES; p += 8)
+        for (int k = 0; k < 2; k++) {
+            uint8_t data = s->bits[s->tones[p]], bits = data > 0 ? data : 2;
+            clevisroot_label label = mappers[k].read_point(bits, s->x[p], s->y[p]);
+            clevisroot_point point = mappers[1 - k].map_label(bits, label.label);
+            if (label.number != CLEVISROOT_DONE || point.number != CLEVISROOT_DONE ||
+                point.x != s->x[p] || point.y != s->y[p])
+                s->wrong++;
+            digest(s, label.label);
+        }
+}
+
 /* The symbol counted as read, and as wrong with the bytes of its nearest frame, and as refused. */
 static void one_report(stream *s, uint32_t size)
 {
@@ -137,6 +152,7 @@ static void *run(void *argument)
         one_start(s, &set, checked.size, reg, (uint8_t)(k % 8));
         one_nearest(s, &set, checked.size, reg, (uint8_t)(k % 8));
         one_clip(s, &set, reg);
+        one_tones(s, (size_t)(k % 8));
         one_report(s, checked.size);
         reg = after;
     }
