@@ -55,7 +55,7 @@ unfolding weight
 beyond-below false m = ap negsuc (omega arith)
 beyond-below true m = rw (lt-ltb 2 (suc (4 * m + 2)) (omega arith)) (ap negsuc (omega arith))
 
-corner-at-below : (q : ℕ) → cornerAt (negsuc q) ≡ negsuc (4 * (q / 4) + 2)
+pub corner-at-below : (q : ℕ) → cornerAt (negsuc q) ≡ negsuc (4 * (q / 4) + 2)
 corner-at-below q =
     rw (below-zero (4 * suc (q / 4)) (4 * (q / 4) + 3) (omega arith), lt-ltb 1 (suc (4 * (q / 4) + 3)) (omega arith)) (ap negsuc (omega arith))
 
@@ -198,7 +198,7 @@ record Agrees (b : ℕ) : Type 0 where
   pub points : (l : ℕ) → l < 2 ^ b → plainPoint b l ≡ pointOf b (bits b l)
   pub labels : (p : Point) → plainLabel b p ≡ labelNumber (labelOf b p)
 
-from-six : (b : ℕ) → 6 ≤ b → smallest b ≡ false
+pub from-six : (b : ℕ) → 6 ≤ b → smallest b ≡ false
 from-six b h = rw (ne-eqb b 1 (λ e. omega arith), ne-eqb b 2 (λ e. omega arith), ne-eqb b 3 (λ e. omega arith), ne-eqb b 5 (λ e. omega arith))
 
 -- the smallest constellations: as document 01 has them

@@ -3,13 +3,13 @@
 ghost use mathlib.Core.Bool.{true};
 ghost use mathlib.Core.Path.{_≡_};
 ghost use Prim.Native.Nat.{_+_, _*_, _^_, _<_, _≤_};
-ghost use lib.IntN.{pos, _+ℤ_, _-ℤ_};
+ghost use lib.IntN.{pos, _+ℤ_, _-ℤ_, _*ℤ_};
 ghost use lib.ListN.{getD};
 ghost use lib.Signed.{mag, shrZ};
-ghost use Rattle.g9932.specs.Bits.{bits as lowestBits, first};
+ghost use Rattle.g9932.specs.Bits.{bits as lowestBits, orAt, first};
 ghost use Rattle.g9932.specs.Sizes.{point, origin};
 ghost use Rattle.g9932.specs.Points.{onePoints, evenPoint, threePoints, table10-3, oddPoint, samePoint};
-ghost use Rattle.g9932.specs.Plain.{smallest as isSmallest, smallPoint, blockCorner, inBlock, plainPoint, cornerAt, cornerOf, ofBlock, fourfold as fourfoldOf, plainLabel};
+ghost use Rattle.g9932.specs.Plain.{smallest as isSmallest, smallPoint, blockCorner, inBlock, plainPoint, cornerAt, cornerOf, lowLabel, ofBlock, fourfold as fourfoldOf, plainLabel};
 ghost use Rattle.g9932.specs.Answers.{mapLabel, readPoint, mappedOf, labelledOf};
 ghost use Rattle.plain_mapper.specs.Bounds.{Below, Within};
 use g9932::Found;
@@ -130,14 +130,30 @@ fn small_point(b: u8, label: usize) -> Spot
     }
 }
 
+// A coordinate of the corner of the block that a point becomes.
+fn doubled(z: i16) -> i16
+    requires { ⌜ mag z ≤ 1023 ⌝ }
+    ensures { λ r. ⌜ r ≡ pos 2 *ℤ z -ℤ pos 1 ⌝ }
+{
+    2 * z - 1
+}
+
+// The next coordinate: above, or to the right.
+fn next(z: i16) -> i16
+    requires { ⌜ mag z ≤ 4095 ⌝ }
+    ensures { λ r. ⌜ r ≡ z +ℤ pos 2 ⌝ }
+{
+    z + 2
+}
+
 // The corner of the block that a point becomes.
 fn block_corner(p: Spot) -> Spot
     requires { ⌜ Within 1023 (point (p .x) (p .y)) ⌝ }
     ensures { λ r. ⌜ point (r .x) (r .y) ≡ blockCorner (point (p .x) (p .y)) ⌝ }
 {
     Spot {
-        x: 2 * p.x - 1,
-        y: 2 * p.y - 1,
+        x: doubled(p.x),
+        y: doubled(p.y),
     }
 }
 
@@ -150,15 +166,15 @@ fn in_block(k: usize, corner: Spot) -> Spot
         0 => corner,
         1 => Spot {
             x: corner.x,
-            y: corner.y + 2,
+            y: next(corner.y),
         },
         2 => Spot {
-            x: corner.x + 2,
+            x: next(corner.x),
             y: corner.y,
         },
         _ => Spot {
-            x: corner.x + 2,
-            y: corner.y + 2,
+            x: next(corner.x),
+            y: next(corner.y),
         },
     }
 }
@@ -205,6 +221,21 @@ fn same(p: Spot, q: Spot) -> bool
     true
 }
 
+// What was found already, or else this label, if it is the one.
+fn or_at(found: Found, here: bool, label: usize) -> Found
+    ensures { λ r. ⌜ r ≡ orAt found here label ⌝ }
+{
+    match found {
+        Found::At(earlier) => Found::At(earlier),
+        Found::Nothing => {
+            if here {
+                return Found::At(label);
+            }
+            Found::Nothing
+        }
+    }
+}
+
 // The label below `end` that has a point of the smallest constellations, if one has.
 fn small_label(b: u8, end: usize, p: Spot) -> Found
     requires { ⌜ (isSmallest b ≡ true) × (end ≤ 2 ^ b) ⌝ }
@@ -213,35 +244,49 @@ fn small_label(b: u8, end: usize, p: Spot) -> Found
     if end == 0 {
         return Found::Nothing;
     }
-    let found = small_label(b, end - 1, p);
-    match found {
-        Found::At(label) => Found::At(label),
-        Found::Nothing => {
-            if same(small_point(b, end - 1), p) {
-                return Found::At(end - 1);
-            }
-            Found::Nothing
-        }
-    }
+    let last = end - 1;
+    let found = small_label(b, last, p);
+    or_at(found, same(small_point(b, last), p), last)
 }
 
-// The corner of the block that a coordinate is in: one more than a multiple of four, for it is 2X - 1 of an odd X.
+// A coordinate of the corner of the block that a point is in: one more than a multiple of four, for it is 2X - 1 of an odd X.
 fn corner(z: i16) -> i16
     ensures { λ r. ⌜ r ≡ cornerAt z ⌝ }
 {
     4 * (z >> 2) + 1
 }
 
-// The X whose corner 2X - 1 is.
-fn of_corner(c: i16) -> i16
+// The corner of the block that a point is in.
+fn corner_of(p: Spot) -> Spot
+    ensures { λ r. ⌜ point (r .x) (r .y) ≡ cornerOf (point (p .x) (p .y)) ⌝ }
+{
+    Spot {
+        x: corner(p.x),
+        y: corner(p.y),
+    }
+}
+
+// The X whose corner is 2X - 1.
+fn halved(c: i16) -> i16
     requires { ⌜ mag c ≤ 32766 ⌝ }
     ensures { λ r. ⌜ r ≡ shrZ (c +ℤ pos 1) 2 ⌝ }
 {
     (c + 1) >> 1
 }
 
-// The two lowest bits of a label, by how far its point is to the right of the corner and above it.
-fn low_label(right: i16, up: i16) -> Found
+// The point that became the block with this corner.
+fn of_block(corner: Spot) -> Spot
+    requires { ⌜ Within 32766 (point (corner .x) (corner .y)) ⌝ }
+    ensures { λ r. ⌜ point (r .x) (r .y) ≡ ofBlock (point (corner .x) (corner .y)) ⌝ }
+{
+    Spot {
+        x: halved(corner.x),
+        y: halved(corner.y),
+    }
+}
+
+// The place of a label in its block, by how far its point is to the right of the corner and above it.
+fn place_in_block(right: i16, up: i16) -> Found
     ensures { λ r. ⌜ r ≡ first (λ k. samePoint (inBlock k origin) (point right up)) 4 ⌝ }
 {
     if right == 0 {
@@ -262,6 +307,14 @@ fn low_label(right: i16, up: i16) -> Found
         }
     }
     Found::Nothing
+}
+
+// The two lowest bits of the label of a point, by the corner of its block.
+fn low_label(p: Spot, corner: Spot) -> Found
+    requires { ⌜ point (corner .x) (corner .y) ≡ cornerOf (point (p .x) (p .y)) ⌝ }
+    ensures { λ r. ⌜ r ≡ lowLabel (point (p .x) (p .y)) ⌝ }
+{
+    place_in_block(p.x - corner.x, p.y - corner.y)
 }
 
 // The label 4n + k.
@@ -286,16 +339,9 @@ fn plain_label(b: u8, p: Spot) -> Found
     if smallest(b) {
         return small_label(b, 1usize << b, p);
     }
-    let x = corner(p.x);
-    let y = corner(p.y);
-    let n = plain_label(
-        b - 2,
-        Spot {
-            x: of_corner(x),
-            y: of_corner(y),
-        },
-    );
-    fourfold(n, low_label(p.x - x, p.y - y))
+    let corner = corner_of(p);
+    let n = plain_label(b - 2, of_block(corner));
+    fourfold(n, low_label(p, corner))
 }
 
 // Reads one point: refusal 16 for its bits, then 13.
