@@ -4,16 +4,18 @@ use mathlib.Core.Bool.{Bool, true, false, _&&_, true≢false}
 use mathlib.Core.List.{List}
 use mathlib.Core.Option.{Option, none, some}
 use mathlib.Core.Path.{_≡_, refl, sym, ap, ap₂, _∙_}
-use native.Mathlib.Nat.{pow-suc}
+use native.Mathlib.Nat.{pow-suc, mod-eq-of-lt}
 use native.Mathlib.Omega.{arith}
+use borrow.Author.Tests.{le-ltb}
 use lib.IntN.{ℤ, pos, negsuc, natAbs, _+ℤ_, _-ℤ_, +ℤ-comm, +ℤ-idr, +ℤ-negℤ-cancel, -ℤ-+ℤ-cancel}
 use lib.ListN.{length}
 use lib.Pow.{pow-mono}
 use lib.Signed.{mag}
 use mir.Syntax.{w16}
 use mir.Val.{SFits}
+use Rattle.g9932.specs.Answers.{readPoint}
 use Rattle.g9932.specs.Bits.{bits, num, orAt, first}
-use Rattle.g9932.specs.Plain.{smallest, blockCorner, inBlock, plainPoint, cornerAt, cornerOf, lowLabel, ofBlock, fourfold, plainLabel, labelNumber}
+use Rattle.g9932.specs.Plain.{smallest, blockCorner, inBlock, plainPoint, cornerAt, cornerOf, lowLabel, ofBlock, fourfold, plainLabel, labelNumber, plainFound, plainRead}
 use Rattle.g9932.specs.Points.{pointOf, sameInt, samePoint, labelOf}
 use Rattle.g9932.specs.Sizes.{Point, point, origin}
 use Rattle.g9932.specs.declared.Found.{Found}
@@ -21,7 +23,7 @@ use Rattle.g9932.specs.declared.Found.the-variants.{At, Nothing}
 use Rattle.g9932.proofs.Constellations.{sameInt-self, sameInt→eq}
 use Rattle.g9932.proofs.Distances.{point-range}
 use Rattle.g9932.proofs.Labels.{point-label}
-use Rattle.g9932.proofs.Plain.{larger-points, larger-labels, plain-point, plain-label}
+use Rattle.g9932.proofs.Plain.{larger-points, larger-labels, plain-point, plain-label, plain-read}
 use Rattle.g9932.proofs.Search.{first-found, first-ext}
 use Rattle.g9932.proofs.Words.{length-bits, num-lt}
 use Rattle.plain_mapper.specs.Bounds.{Below, Within}
@@ -52,6 +54,12 @@ quarter-below (suc zero) l h k = absurd (omega arith)
 quarter-below (suc (suc b)) l h k =
     let e : suc (suc b) - 2 ≡ b = omega arith in
     rw e (omega (arith, pow-suc 2 b, pow-suc 2 (suc b)))
+
+-- 2 to the b, by a shift in a number of m values
+pub shl-one : (b m : ℕ) → b ≤ 15 → 32768 < m → 1 * 2 ^ b % m ≡ 2 ^ b
+shl-one b m h k =
+    let e : 1 * 2 ^ b ≡ 2 ^ b = omega arith in
+    rw e (mod-eq-of-lt (omega (arith, pow-mono {i = b} {j = 15} h)))
 
 -- a search ends at its last place
 pub first-last : (p : ℕ → Bool) (n : ℕ) → 1 ≤ n → first p n ≡ orAt (first p (n - 1)) (p (n - 1)) (n - 1)
@@ -129,3 +137,9 @@ place-seen (suc (suc (suc k))) c p = ap₂ _&&_ (from (c .px) (pos 2) (p .px)) (
 pub low-seen : (p c : Point) → c ≡ cornerOf p → first (λ k. samePoint (inBlock k origin) (seen c p)) 4 ≡ lowLabel p
 low-seen p c e =
     rw e (first-ext (λ k. samePoint (inBlock k origin) (seen (cornerOf p) p)) (λ k. samePoint (inBlock k (cornerOf p)) p) 4 (λ k h. sym (place-seen k (cornerOf p) p)))
+
+-- ---- the answer
+
+pub read-as : (b : ℕ) (p : Point) (f : Found) → 1 ≤ b → b ≤ 15 → f ≡ plainLabel b p → readPoint b p ≡ plainFound f
+unfolding plainRead
+read-as b p f h k e = sym (plain-read b p) ∙ rw (le-ltb b 1 h, le-ltb 15 b k, e)
