@@ -3,7 +3,7 @@ ghost use mathlib.Core.Path.{_≡_};
 ghost use Prim.Native.Nat.{_≤_};
 ghost use Rattle.g9932.specs.Sizes.{tables, mostTones, point};
 ghost use Rattle.g9932.specs.Refusals.{numberOf, placeOf, refused, tableVerdict};
-ghost use Rattle.g9932.specs.Answers.{verdictOf, reportOf, mapLabel, readPoint, drawAnswer};
+ghost use Rattle.g9932.specs.Answers.{verdictOf, reportOf, mappedOf, mapLabel, labelledOf, readPoint, drawAnswer};
 ghost use Rattle.g9932.specs.Nearest.{nearestOf, totalIn};
 ghost use Rattle.g9932.specs.Clip.{clipCheck, clipReportOf};
 ghost use Rattle.g9932.specs.declared.Mode.the-variants.{Coded};
@@ -185,6 +185,33 @@ fn clip_answered(answer: ClipChecked) -> ClipAnswer
     }
 }
 
+// The answer of mapping one label; a refusal has the point (0, 0).
+fn point_answered(answer: Mapped) -> PointAnswer
+    ensures { λ r. ⌜ r ≡ pointAnswered (mappedOf answer) ⌝ }
+{
+    match answer {
+        Mapped::Point { x, y } => PointAnswer { number: 0, x, y },
+        Mapped::Refused(refusal) => PointAnswer {
+            number: number_of(refusal),
+            x: 0,
+            y: 0,
+        },
+    }
+}
+
+// The answer of reading one point; a refusal has label 0.
+fn label_answered(answer: Labelled) -> LabelAnswer
+    ensures { λ r. ⌜ r ≡ labelAnswered (labelledOf answer) ⌝ }
+{
+    match answer {
+        Labelled::Label(label) => LabelAnswer { number: 0, label },
+        Labelled::Refused(refusal) => LabelAnswer {
+            number: number_of(refusal),
+            label: 0,
+        },
+    }
+}
+
 // The answer of counting a symbol.
 fn tally_answered(answer: Tallied) -> TallyAnswer
     ensures { λ r. ⌜ r ≡ tallyAnswered (toldOf answer) ⌝ }
@@ -334,29 +361,28 @@ pub extern "C" fn clevisroot_clip_check(
 pub extern "C" fn clevisroot_map_label(bits: u8, label: u32) -> PointAnswer
     ensures { λ r. ⌜ r ≡ pointAnswered (mapLabel bits label) ⌝ }
 {
-    let mapped = constellation::map_label(bits, label);
-    match mapped {
-        Mapped::Point { x, y } => PointAnswer { number: 0, x, y },
-        Mapped::Refused(refusal) => PointAnswer {
-            number: number_of(refusal),
-            x: 0,
-            y: 0,
-        },
-    }
+    point_answered(constellation::map_label(bits, label))
 }
 
 #[no_mangle]
 pub extern "C" fn clevisroot_read_point(bits: u8, x: i16, y: i16) -> LabelAnswer
     ensures { λ r. ⌜ r ≡ labelAnswered (readPoint bits (point x y)) ⌝ }
 {
-    let labelled = constellation::read_point(bits, x, y);
-    match labelled {
-        Labelled::Label(label) => LabelAnswer { number: 0, label },
-        Labelled::Refused(refusal) => LabelAnswer {
-            number: number_of(refusal),
-            label: 0,
-        },
-    }
+    label_answered(constellation::read_point(bits, x, y))
+}
+
+#[no_mangle]
+pub extern "C" fn clevisroot_plain_map_label(bits: u8, label: u32) -> PointAnswer
+    ensures { λ r. ⌜ r ≡ pointAnswered (mapLabel bits label) ⌝ }
+{
+    point_answered(plain_mapper::map_label(bits, label))
+}
+
+#[no_mangle]
+pub extern "C" fn clevisroot_plain_read_point(bits: u8, x: i16, y: i16) -> LabelAnswer
+    ensures { λ r. ⌜ r ≡ labelAnswered (readPoint bits (point x y)) ⌝ }
+{
+    label_answered(plain_mapper::read_point(bits, x, y))
 }
 
 #[no_mangle]

@@ -75,8 +75,7 @@ module _ (t : ℕ) where
   fourfold-requires c κs =
       let s = c .before .before .before .before .before .before in
       let h = larger (s .args .b) (s .pre .1 .0) (sym (c .before .before .before .before .before .smallest .ensures) ∙ c .before .before .before .before .if1 .left) in
-      let n = c .before .before .of-block .result in
-      (
+      let n = c .before .before .of-block .result in (
         subst (Below 32768) (sym (c .before .plain-label .ensures)) (label-below (s .args .b - 2) (point (n .x) (n .y)) (omega (arith, h)) (omega (arith, s .pre .1 .1))),
         subst (Below 4) (sym (c .low-label .ensures)) (low-below (point (s .args .p .x) (s .args .p .y))),
       )

@@ -35,8 +35,14 @@ sub-place-in-block-2 c =
 returns : tie.Need-returns
 returns c =
     let s = c .before .before .before .before .before .before .before .before .before in
-    let r = rw (toZ-ofZ w16 (s .args .p .x) (search needs), toZ-ofZ w16 (s .args .corner .x) (search needs), toZ-ofZ w16 (s .args .p .x -ℤ s .args .corner .x) (right-fits s),
-        toZ-ofZ w16 (s .args .p .y) (search needs), toZ-ofZ w16 (s .args .corner .y) (search needs), toZ-ofZ w16 (s .args .p .y -ℤ s .args .corner .y) (up-fits s)) at (c .place-in-block .ensures) in
+    let r = rw (
+      toZ-ofZ w16 (s .args .p .x) (search needs),
+      toZ-ofZ w16 (s .args .corner .x) (search needs),
+      toZ-ofZ w16 (s .args .p .x -ℤ s .args .corner .x) (right-fits s),
+      toZ-ofZ w16 (s .args .p .y) (search needs),
+      toZ-ofZ w16 (s .args .corner .y) (search needs),
+      toZ-ofZ w16 (s .args .p .y -ℤ s .args .corner .y) (up-fits s),
+    ) at (c .place-in-block .ensures) in
     r ∙ low-seen (point (s .args .p .x) (s .args .p .y)) (point (s .args .corner .x) (s .args .corner .y)) (s .pre)
 
 pub low-label-spec : {M : Type 1} → statement M
