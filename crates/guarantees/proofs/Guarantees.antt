@@ -17,23 +17,27 @@ use Rattle.g9932.specs.Sizes.{Tables, entry, bytesFor, pack, frameBits, unusedB
 use Rattle.g9932.specs.Refusals.{numberOf, accepted, refused, someOne, tableVerdict}
 use Rattle.g9932.specs.Order.{sum, count, filter, oneBit, bitsOf, entryCount, entries, pairCount}
 use Rattle.g9932.specs.Trellis.{Word, zeroState, lowBits, lowBitsOf, sentBits}
-use Rattle.g9932.specs.Points.{pointOf, negated, quarters, lowQuarters}
+use Rattle.g9932.specs.Points.{pointOf, negated, quarters, lowQuarters, labelOf}
 use Rattle.g9932.specs.Filler.{nextRegister, drawn, afterDraws, registerAfter}
 use Rattle.g9932.specs.Symbol.{reorderedTonesOf, reorderedBitsOf, classesOf, pairsIn, sizeOf, sentIn, writtenPoints, firstMonitored}
-use Rattle.g9932.specs.Answers.{reorderOf, encodeAt, Read, readAt, toneRefused, toneDone, mapLabel, readPoint, drawAnswer}
+use Rattle.g9932.specs.Answers.{reorderOf, encodeAt, Read, readAt, toneRefused, toneDone, mapLabel, mappedOf, readPoint, labelledOf, drawAnswer}
 use Rattle.g9932.specs.Aligned.{encodeOf, readOf}
 use Rattle.g9932.specs.Nearest.{frameTotal, NearestFrame, rangeTest, workBytes, nearestVerdict, nearestOf, totalIn, ReadsNearest}
 use Rattle.g9932.specs.Clip.{fillerPoint, clipOf, clipCheck, clipNumber}
+use Rattle.g9932.specs.Plain.{blockCorner, inBlock, plainPoint, plainLabel, labelNumber, plainMap, plainRead}
 use Rattle.g9932.specs.Figures.{MarkedFigures}
 use Rattle.g9932.specs.declared.Class.the-variants.{Monitored, Silent}
 use Rattle.g9932.specs.declared.Clip.the-variants.{Straight, Turned, Neither, CannotTell}
 use Rattle.g9932.specs.declared.Found.the-variants.{At, Nothing}
+use Rattle.g9932.specs.declared.Labelled.{Labelled}
+use Rattle.g9932.specs.declared.Mapped.{Mapped}
 use Rattle.g9932.specs.declared.Mode.the-variants.{Uncoded, Coded}
 use Rattle.g9932.specs.declared.Nearest.{Nearest}
 use Rattle.g9932.specs.declared.Refusal.{Refusal}
 use Rattle.g9932.proofs.Aligned as Aligned
 use Rattle.g9932.proofs.Figures as Figures
 use Rattle.g9932.proofs.Packed as Packed
+use Rattle.g9932.proofs.Plain as Plain
 use Rattle.g9932.proofs.Quarters as Quarters
 use Rattle.g9932.proofs.Reordering as Reordering
 use Rattle.g9932.proofs.Verdicts as Verdicts
@@ -53,6 +57,7 @@ use Rattle.guarantees.proofs.Operations as Operations
 use Rattle.guarantees.proofs.QuarterTurn as QuarterTurn
 use Rattle.guarantees.proofs.RoundTrip as RoundTrip
 use Rattle.guarantees.proofs.Totals as Totals
+use Rattle.guarantees.proofs.TwoMappers as TwoMappers
 
 -- ---- demand 3
 
@@ -387,6 +392,37 @@ opposite-one = Mapping.opposite-one
 
 pub quarter-one : (l : ℕ) (p : Point) → mapLabel 1 l ≡ toneDone p → (readPoint 1 (quarters 1 p) ≡ toneRefused 13) × (readPoint 1 (quarters 3 p) ≡ toneRefused 13)
 quarter-one = Mapping.quarter-one
+
+-- ---- the plain mapper (request R-1)
+
+-- The plain rule (`Plain`) makes the points of b bits from those of b − 2. It gives document 01's point of every label of b bits, and the label
+-- of every point, or none; once over b, for every b from 1 on, so from 1 to 15.
+pub plain-point : (b l : ℕ) → 1 ≤ b → l < 2 ^ b → plainPoint b l ≡ pointOf b (bits b l)
+plain-point = Plain.plain-point
+
+pub plain-label : (b : ℕ) (p : Point) → 1 ≤ b → plainLabel b p ≡ labelNumber (labelOf b p)
+plain-label = Plain.plain-label
+
+-- So an operation that maps or reads by the plain rule gives the point, label or refusal of document 01, for all inputs:
+pub plain-map : (b l : ℕ) → plainMap b l ≡ mapLabel b l
+plain-map = Plain.plain-map
+
+pub plain-read : (b : ℕ) (p : Point) → plainRead b p ≡ readPoint b p
+plain-read = Plain.plain-read
+
+-- In document 01's own words: where label n of b bits is at (X, Y), labels 4n to 4n + 3 of b + 2 bits are on a block of two by two, with 4n at
+-- (2X − 1, 2Y − 1), 4n + 1 above it, 4n + 2 to its right and 4n + 3 diagonal; from 2 bits on, but 3.
+pub block-of-four : (b n k : ℕ) (p : Point) → 2 ≤ b → b ≤ 13 → b ≢ 3 → k < 4 → mapLabel b n ≡ toneDone p
+    → mapLabel (suc (suc b)) (4 * n + k) ≡ toneDone (inBlock k (blockCorner p))
+block-of-four = Mapping.block-of-four
+
+-- Any two operations that have the contract of mapping one label, whatever they do inside, give the same answer to the same inputs, be it a
+-- point or a refusal; and any two that have that of reading one point, be it a label or a refusal.
+pub same-mapped : (b l : ℕ) (one other : Mapped) → mappedOf one ≡ mapLabel b l → mappedOf other ≡ mapLabel b l → one ≡ other
+same-mapped = TwoMappers.same-mapped
+
+pub same-labelled : (b : ℕ) (p : Point) (one other : Labelled) → labelledOf one ≡ readPoint b p → labelledOf other ≡ readPoint b p → one ≡ other
+same-labelled = TwoMappers.same-labelled
 
 -- ---- filler bits
 

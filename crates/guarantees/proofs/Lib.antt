@@ -16,3 +16,4 @@ pub mod QuarterTurn
 pub mod RoundTrip
 pub mod Totals
 pub mod TurnedSymbol
+pub mod TwoMappers
