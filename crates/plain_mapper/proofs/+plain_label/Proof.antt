@@ -15,7 +15,7 @@ use borrow.Fn.PlainCycle.{Measures, is, falls, and}
 use Rattle.plain_mapper.proofs.plain_label.Reads as reads
 use Rattle.plain_mapper.proofs.plain_label.Kinds as kinds
 use Rattle.plain_mapper.proofs.+plain_label.Lts-plain_label as lts
-use Rattle.plain_mapper.proofs.smallest.Reads as smallest-reads
+use Rattle.plain_mapper.proofs.small.smallest.Reads as smallest-reads
 use Rattle.plain_mapper.proofs.small_label.Reads as small-label-reads
 use Rattle.plain_mapper.proofs.corner_of.Reads as corner-of-reads
 use Rattle.plain_mapper.proofs.of_block.Reads as of-block-reads

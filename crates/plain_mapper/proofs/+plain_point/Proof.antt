@@ -13,8 +13,8 @@ use borrow.Fn.PlainCycle.{Measures, is, falls, and}
 use Rattle.plain_mapper.proofs.plain_point.Reads as reads
 use Rattle.plain_mapper.proofs.plain_point.Kinds as kinds
 use Rattle.plain_mapper.proofs.+plain_point.Lts-plain_point as lts
-use Rattle.plain_mapper.proofs.smallest.Reads as smallest-reads
-use Rattle.plain_mapper.proofs.small_point.Reads as small-point-reads
+use Rattle.plain_mapper.proofs.small.smallest.Reads as smallest-reads
+use Rattle.plain_mapper.proofs.small.small_point.Reads as small-point-reads
 use Rattle.plain_mapper.proofs.block_corner.Reads as block-corner-reads
 use Rattle.plain_mapper.proofs.in_block.Reads as in-block-reads
 use Rattle.plain_mapper.proofs.+plain_point.{statement}

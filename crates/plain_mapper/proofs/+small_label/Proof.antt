@@ -14,7 +14,7 @@ use borrow.Fn.PlainCycle.{Measures, is, falls, and}
 use Rattle.plain_mapper.proofs.small_label.Reads as reads
 use Rattle.plain_mapper.proofs.small_label.Kinds as kinds
 use Rattle.plain_mapper.proofs.+small_label.Lts-small_label as lts
-use Rattle.plain_mapper.proofs.small_point.Reads as small-point-reads
+use Rattle.plain_mapper.proofs.small.small_point.Reads as small-point-reads
 use Rattle.plain_mapper.proofs.same.Reads as same-reads
 use Rattle.plain_mapper.proofs.or_at.Reads as or-at-reads
 use Rattle.plain_mapper.proofs.+small_label.{statement}

@@ -1,4 +1,4 @@
--- `plain_mapper::coordinate` meets its contract.
+-- `plain_mapper::small::coordinate` meets its contract.
 use Prim.Native.Nat.{_+_, _*_}
 use native.Mathlib.Omega.{arith}
 use lib.IntN.{pos, _-ℤ_}
@@ -6,8 +6,8 @@ use mir.Syntax.{w16}
 use mir.ValLaws.{toZ-pos, toZ-ofZ}
 use borrow.Author.Needs.{needs}
 use Rattle.plain_mapper.proofs.Signed.{string-fits}
-use Rattle.plain_mapper.proofs.coordinate.Statement.{statement}
-use Rattle.plain_mapper.proofs.coordinate.Tie as tie
+use Rattle.plain_mapper.proofs.small.coordinate.Statement.{statement}
+use Rattle.plain_mapper.proofs.small.coordinate.Tie as tie
 
 sub-result : tie.Need-sub-result
 sub-result c =

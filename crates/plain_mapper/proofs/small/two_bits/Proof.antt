@@ -1,10 +1,10 @@
--- `plain_mapper::two_bits` meets its contract.
+-- `plain_mapper::small::two_bits` meets its contract.
 use native.Mathlib.Omega.{arith}
 use mathlib.Core.Path.{_≡_}
 use Rattle.g9932.specs.Bits.{bits, odd, num, weight}
 use Rattle.g9932.specs.Points.{twosComplement}
-use Rattle.plain_mapper.proofs.two_bits.Statement.{statement}
-use Rattle.plain_mapper.proofs.two_bits.Tie as tie
+use Rattle.plain_mapper.proofs.small.two_bits.Statement.{statement}
+use Rattle.plain_mapper.proofs.small.two_bits.Tie as tie
 
 returns : tie.Need-returns
 unfolding bits odd twosComplement num weight

@@ -1,12 +1,12 @@
--- `plain_mapper::table_10_3` meets its contract: each arm is a row of the table.
+-- `plain_mapper::small::table_10_3` meets its contract: each arm is a row of the table.
 use Prim.Native.Nat.{ℕ, _≤_}
 use mathlib.Core.Logic.{_⊎_, inl, inr, _≢_}
 use mathlib.Core.Path.{_≡_, refl, sym}
 use native.Mathlib.Omega.{arith}
 use Rattle.g9932.specs.Bits.{first}
 use Rattle.plain_mapper.proofs.Rows.{row}
-use Rattle.plain_mapper.proofs.table_10_3.Statement.{statement}
-use Rattle.plain_mapper.proofs.table_10_3.Tie as tie
+use Rattle.plain_mapper.proofs.small.table_10_3.Statement.{statement}
+use Rattle.plain_mapper.proofs.small.table_10_3.Tie as tie
 
 returns : tie.Need-returns
 returns c = elim (c .match .keys1) [ inl e ↦ rw e | inr e ↦ rw e ]

@@ -1,4 +1,4 @@
--- `plain_mapper::five_bits` meets its contract: the rule is a test at each label, computed once.
+-- `plain_mapper::small::five_bits` meets its contract: the rule is a test at each label, computed once.
 use mathlib.Core.Path.{ap, ap₂, _∙_}
 use native.Mathlib.Omega.{arith}
 use mir.Syntax.{w16}
@@ -6,8 +6,8 @@ use mir.ValLaws.{toZ-ofZ}
 use borrow.Author.Needs.{needs}
 use Rattle.g9932.specs.Sizes.{point}
 use Rattle.plain_mapper.proofs.FiveBits.{word-small, five-point}
-use Rattle.plain_mapper.proofs.five_bits.Statement.{statement}
-use Rattle.plain_mapper.proofs.five_bits.Tie as tie
+use Rattle.plain_mapper.proofs.small.five_bits.Statement.{statement}
+use Rattle.plain_mapper.proofs.small.five_bits.Tie as tie
 
 coordinate-requires : tie.Need-coordinate-requires
 coordinate-requires c κs =

@@ -1,9 +1,9 @@
--- `plain_mapper::small_point` meets its contract.
+-- `plain_mapper::small::small_point` meets its contract.
 use mathlib.Core.Path.{_≡_}
 use native.Mathlib.Omega.{arith}
 use Rattle.plain_mapper.proofs.BitCounts.{is-five}
-use Rattle.plain_mapper.proofs.small_point.Statement.{statement}
-use Rattle.plain_mapper.proofs.small_point.Tie as tie
+use Rattle.plain_mapper.proofs.small.small_point.Statement.{statement}
+use Rattle.plain_mapper.proofs.small.small_point.Tie as tie
 
 one-bit-requires : tie.Need-one-bit-requires
 one-bit-requires c κs = rw (c .match .keys1) at (c .before .pre .1)

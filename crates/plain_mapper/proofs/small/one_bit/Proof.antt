@@ -1,8 +1,8 @@
--- `plain_mapper::one_bit` meets its contract.
+-- `plain_mapper::small::one_bit` meets its contract.
 use native.Mathlib.Omega.{arith}
 use mathlib.Core.Path.{_≡_}
-use Rattle.plain_mapper.proofs.one_bit.Statement.{statement}
-use Rattle.plain_mapper.proofs.one_bit.Tie as tie
+use Rattle.plain_mapper.proofs.small.one_bit.Statement.{statement}
+use Rattle.plain_mapper.proofs.small.one_bit.Tie as tie
 
 returns : tie.Need-returns
 returns c = rw (c .match .keys1)

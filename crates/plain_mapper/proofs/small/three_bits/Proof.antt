@@ -1,9 +1,9 @@
--- `plain_mapper::three_bits` meets its contract.
+-- `plain_mapper::small::three_bits` meets its contract.
 use Prim.Native.Nat.{_≤_}
 use native.Mathlib.Omega.{arith}
 use mathlib.Core.Path.{_≡_}
-use Rattle.plain_mapper.proofs.three_bits.Statement.{statement}
-use Rattle.plain_mapper.proofs.three_bits.Tie as tie
+use Rattle.plain_mapper.proofs.small.three_bits.Statement.{statement}
+use Rattle.plain_mapper.proofs.small.three_bits.Tie as tie
 
 returns : tie.Need-returns
 returns c = rw (c .match .keys1)

@@ -1,9 +1,9 @@
--- `plain_mapper::smallest` meets its contract.
+-- `plain_mapper::small::smallest` meets its contract.
 use mathlib.Core.Path.{_≡_, sym}
 use native.Mathlib.Omega.{arith}
 use Rattle.plain_mapper.proofs.BitCounts.{below-four, from-four}
-use Rattle.plain_mapper.proofs.smallest.Statement.{statement}
-use Rattle.plain_mapper.proofs.smallest.Tie as tie
+use Rattle.plain_mapper.proofs.small.smallest.Statement.{statement}
+use Rattle.plain_mapper.proofs.small.smallest.Tie as tie
 
 returns : tie.Need-returns
 returns c = let e : c .before .before .args .b ≡ 0 = omega (arith, c .if1 .taken) in rw e
