@@ -146,6 +146,6 @@ fn every_function_has_the_header_s_arguments() {
     .flat_map(of)
     .collect();
     let raw = declared(RAW, "pub fn clevisroot_", ") ->", str::to_string);
-    assert_eq!(header.len(), 14);
+    assert_eq!(header.len(), 16);
     assert_eq!(header, raw);
 }

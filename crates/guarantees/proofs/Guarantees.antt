@@ -1,8 +1,8 @@
 -- The promises over the definitions of document 01: demand 3, in full; of request R-14, quarter turns, beside half a turn; of demand 2, how
--- many bits go on the tones, and which go where; what else is shown of the definitions; of request R-13, nearest reading, by itself and
--- against exact reading; and of request R-10, the clip check, by itself and against two readings. That the code gives what they say is the
--- `ensures` of each operation. Each proof cites the part that shows it. The words are those of specs/Words.antt and of crate g9932. Request
--- R-12, the pair report, has a page of its own: crates/tally/proofs/Theorems.antt.
+-- many bits go on the tones, and which go where; what else is shown of the definitions; of request R-1, the plain mapper; of request R-13,
+-- nearest reading, by itself and against exact reading; and of request R-10, the clip check, by itself and against two readings. That the
+-- code gives what they say is the `ensures` of each operation. Each proof cites the part that shows it. The words are those of
+-- specs/Words.antt and of crate g9932. Request R-12, the pair report, has a page of its own: crates/tally/proofs/Theorems.antt.
 use Prim.Native.Nat.{ℕ, suc, _+_, _-_, _*_, _/_, _%_, _^_, _≤_, _<_}
 use mathlib.Core.Bool.{Bool, true, false, cond, not}
 use mathlib.Core.List.{List, [], _∷_, map}

@@ -1,7 +1,7 @@
 -- A row of Table 10-3: one word for the labels from one up to another.
 use Prim.Native.Nat.{ℕ, _≤_, _<_}
-use mathlib.Core.Bool.{Bool, true, false, not, _&&_}
-use mathlib.Core.Path.{_≡_, sym, ap}
+use mathlib.Core.Bool.{Bool, false, not, _&&_}
+use mathlib.Core.Path.{_≡_}
 use borrow.Author.Tests.{eqb-true, le-leb, not-false}
 use lib.Dec.{eqb, leb}
 use lib.ListN.{getD}

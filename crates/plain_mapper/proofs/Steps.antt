@@ -8,14 +8,13 @@ use native.Mathlib.Nat.{pow-suc, mod-eq-of-lt}
 use native.Mathlib.Omega.{arith}
 use borrow.Author.Tests.{le-ltb}
 use lib.IntN.{ℤ, pos, negsuc, natAbs, _+ℤ_, _-ℤ_, +ℤ-comm, +ℤ-idr, +ℤ-negℤ-cancel, -ℤ-+ℤ-cancel}
-use lib.ListN.{length}
 use lib.Pow.{pow-mono}
 use lib.Signed.{mag}
 use mir.Syntax.{w16}
 use mir.Val.{SFits}
 use Rattle.g9932.specs.Answers.{readPoint}
-use Rattle.g9932.specs.Bits.{bits, num, orAt, first}
-use Rattle.g9932.specs.Plain.{smallest, blockCorner, inBlock, plainPoint, cornerAt, cornerOf, lowLabel, ofBlock, fourfold, plainLabel, labelNumber, plainFound, plainRead}
+use Rattle.g9932.specs.Bits.{bits, orAt, first}
+use Rattle.g9932.specs.Plain.{smallest, blockCorner, inBlock, plainPoint, cornerOf, lowLabel, ofBlock, fourfold, plainLabel, labelNumber, plainFound, plainRead}
 use Rattle.g9932.specs.Points.{pointOf, sameInt, samePoint, labelOf}
 use Rattle.g9932.specs.Sizes.{Point, point, origin}
 use Rattle.g9932.specs.declared.Found.{Found}

@@ -1,7 +1,6 @@
 -- `plain_mapper::plain_label` meets its contract: the bit count falls by two (proofs/Steps).
-use Prim.Native.Nat.{ℕ, _-_, _^_, _<_, _≤_}
-use mathlib.Core.Bool.{false}
-use mathlib.Core.Path.{_≡_, sym, ap, ap₂, _∙_, subst}
+use Prim.Native.Nat.{ℕ, _-_, _^_, _<_}
+use mathlib.Core.Path.{sym, ap, ap₂, _∙_, subst}
 use native.Mathlib.Nat.{le-refl}
 use native.Mathlib.Omega.{arith}
 use borrow.Author.Needs.{needs}

@@ -1,7 +1,6 @@
 -- `plain_mapper::plain_point` meets its contract: the bit count falls by two (proofs/Steps).
-use Prim.Native.Nat.{ℕ, _-_, _/_, _%_, _<_, _≤_}
-use mathlib.Core.Bool.{false}
-use mathlib.Core.Path.{_≡_, sym, ap, _∙_, subst}
+use Prim.Native.Nat.{ℕ, _-_, _/_, _%_, _<_}
+use mathlib.Core.Path.{sym, ap, _∙_, subst}
 use native.Mathlib.Omega.{arith}
 use Rattle.g9932.specs.Plain.{smallest, blockCorner, inBlock}
 use Rattle.g9932.specs.Sizes.{point}

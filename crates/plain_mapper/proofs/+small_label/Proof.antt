@@ -1,7 +1,7 @@
 -- `plain_mapper::small_label` meets its contract: the search of `first`, and its end falls.
 use Prim.Native.Nat.{ℕ, _-_, _<_}
 use mathlib.Core.Bool.{Bool}
-use mathlib.Core.Path.{_≡_, sym, ap, ap₂, _∙_}
+use mathlib.Core.Path.{sym, ap, ap₂, _∙_}
 use native.Mathlib.Omega.{arith}
 use Rattle.g9932.specs.Bits.{orAt, first}
 use Rattle.g9932.specs.Plain.{smallPoint}

@@ -2,7 +2,6 @@
 use Prim.Native.Nat.{_<_}
 use native.Mathlib.Omega.{arith}
 use borrow.Author.Needs.{needs}
-use Rattle.plain_mapper.specs.Bounds.{Below}
 use Rattle.plain_mapper.proofs.fourfold.Statement.{statement}
 use Rattle.plain_mapper.proofs.fourfold.Tie as tie
 

@@ -1,8 +1,8 @@
 -- `plain_mapper::halved` meets its contract.
-use Prim.Native.Nat.{_+_, _<_}
+use Prim.Native.Nat.{_+_}
 use native.Mathlib.Omega.{arith}
 use lib.IntN.{pos, _+ℤ_}
-use lib.Signed.{mag, shrZ, mag-shr}
+use lib.Signed.{shrZ, mag-shr}
 use mir.Syntax.{w16}
 use mir.Val.{SFits}
 use mir.ValLaws.{toZ-ofZ}

@@ -1,6 +1,6 @@
 -- `plain_mapper::map_label` meets its contract: the tests of refusal 16, then the point of the plain rule, which is document 01's.
 use Prim.Native.Nat.{_^_}
-use mathlib.Core.Path.{sym, ap, ap₂, _∙_}
+use mathlib.Core.Path.{ap, ap₂, _∙_}
 use native.Mathlib.Omega.{arith}
 use borrow.Author.Needs.{needs}
 use borrow.Author.Tests.{lt-ltb, le-ltb, le-leb, lt-leb}

@@ -1,6 +1,5 @@
 -- `plain_mapper::read_point` meets its contract: the test of refusal 16, then the label of the plain rule, which is document 01's, or 13.
-use Prim.Native.Nat.{_<_}
-use mathlib.Core.Path.{_≡_, sym, ap, _∙_, subst}
+use mathlib.Core.Path.{_≡_, sym, _∙_, subst}
 use native.Mathlib.Omega.{arith}
 use borrow.Author.Needs.{needs}
 use borrow.Author.Tests.{lt-ltb, le-ltb}

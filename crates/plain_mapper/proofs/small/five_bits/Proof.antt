@@ -1,5 +1,5 @@
 -- `plain_mapper::small::five_bits` meets its contract: the rule is a test at each label, computed once.
-use mathlib.Core.Path.{ap, ap₂, _∙_}
+use mathlib.Core.Path.{ap₂, _∙_}
 use native.Mathlib.Omega.{arith}
 use mir.Syntax.{w16}
 use mir.ValLaws.{toZ-ofZ}

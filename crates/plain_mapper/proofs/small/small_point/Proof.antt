@@ -1,6 +1,4 @@
 -- `plain_mapper::small::small_point` meets its contract.
-use mathlib.Core.Path.{_≡_}
-use native.Mathlib.Omega.{arith}
 use Rattle.plain_mapper.proofs.BitCounts.{is-five}
 use Rattle.plain_mapper.proofs.small.small_point.Statement.{statement}
 use Rattle.plain_mapper.proofs.small.small_point.Tie as tie
