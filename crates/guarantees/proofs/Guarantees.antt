@@ -410,7 +410,7 @@ plain-map = Plain.plain-map
 pub plain-read : (b : ℕ) (p : Point) → plainRead b p ≡ readPoint b p
 plain-read = Plain.plain-read
 
--- In document 01's own words: where label n of b bits is at (X, Y), labels 4n to 4n + 3 of b + 2 bits are on a block of two by two, with 4n at
+-- Of document 01's points alone: where label n of b bits is at (X, Y), labels 4n to 4n + 3 of b + 2 bits are on a block of two by two, with 4n at
 -- (2X − 1, 2Y − 1), 4n + 1 above it, 4n + 2 to its right and 4n + 3 diagonal; from 2 bits on, but 3.
 pub block-of-four : (b n k : ℕ) (p : Point) → 2 ≤ b → b ≤ 13 → b ≢ 3 → k < 4 → mapLabel b n ≡ toneDone p
     → mapLabel (suc (suc b)) (4 * n + k) ≡ toneDone (inBlock k (blockCorner p))
