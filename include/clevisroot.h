@@ -92,8 +92,8 @@
  * ANSWERS AND REFUSALS
  *
  * Every answer has a number: 0 if the call is done, else the number below. If several refusals
- * apply, the smallest number is given (but clevisroot_read_point tests 16 before 13, and the calls of
- * a tally 22 before 11). So in reading without noise all places pass 13 before any is tested for 14,
+ * apply, the smallest number is given (but clevisroot_read_point and
+ * clevisroot_plain_read_point test 16 before 13, and the calls of a tally 22 before 11). So in reading without noise all places pass 13 before any is tested for 14,
  * and all 14 before any pair is tested for 15. A refused call writes nothing to any buffer, has size,
  * total and clip 0, and hands the register back as it was given. A call that is done writes the whole
  * of each output.
@@ -420,8 +420,8 @@ clevisroot_label clevisroot_read_point(uint8_t bits, int16_t x, int16_t y);
 
 /*
  * The same two by a second mapper, which nobody tuned: b bits are mapped and read by way of b - 2 bits,
- * down to 2, 3 or 5 (and 1 on its own), with no code or table of the calls above. For all inputs both
- * give the same point, label or refusal; that is proved. For one tone at a time: it is slower.
+ * down to 2, 3 or 5 (and 1 on its own). It has no table, constant or helper of the first mapper's. For
+ * all inputs both give the same point, label or refusal; that is proved. It is slower.
  */
 clevisroot_point clevisroot_plain_map_label(uint8_t bits, uint32_t label);
 clevisroot_label clevisroot_plain_read_point(uint8_t bits, int16_t x, int16_t y);

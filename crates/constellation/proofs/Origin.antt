@@ -1,23 +1,16 @@
 -- The point (0, 0), by the bits of its coordinates.
-use mathlib.Core.Path.{_≡_, refl, sym, ap, _∙_}
-use mathlib.Core.Bool.{Bool, true, false}
+use mathlib.Core.Path.{_≡_, sym, ap, _∙_}
+use mathlib.Core.Bool.{true, false}
 use lib.IntN.{ℤ, pos}
 use mir.Syntax.{w16}
 use mir.Val.{SFits, ofZ, toZ}
 use mir.ValLaws.{toZ-ofZ}
-use Rattle.g9932.proofs.Constellations.{samePoint-self, samePoint→eq}
+use Rattle.g9932.proofs.Constellations.{samePoint-self, differs}
 use Rattle.g9932.specs.Points.{samePoint}
 use Rattle.g9932.specs.Sizes.{Point, point, origin}
 
 zero-bits : (x : ℤ) → SFits w16 x → ofZ w16 x ≡ 0 → x ≡ pos 0
 zero-bits x h e = sym (toZ-ofZ w16 x h) ∙ ap (toZ w16) e
-
-pub differs : (p q : Point) → (p ≡ q → ⊥) → samePoint p q ≡ false
-differs p q h = go (samePoint p q) refl
-  where
-    go : (c : Bool) → samePoint p q ≡ c → samePoint p q ≡ false
-    go true e = absurd (h (samePoint→eq p q e))
-    go false e = e
 
 pub not-x : (x y : ℤ) → (ofZ w16 x ≡ 0 → ⊥) → false ≡ samePoint (point x y) origin
 not-x x y h = sym (differs (point x y) origin (λ e. h (ap (λ (p : Point). ofZ w16 (p .px)) e)))

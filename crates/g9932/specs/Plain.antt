@@ -42,7 +42,7 @@ inBlock (suc zero) c = point (c .px) (c .py +ℤ pos 2)
 inBlock (suc (suc zero)) c = point (c .px +ℤ pos 2) (c .py)
 inBlock (suc (suc (suc k))) c = point (c .px +ℤ pos 2) (c .py +ℤ pos 2)
 
--- "the map for b bits calling itself for b−2 bits"
+-- "the map for b bits calling itself for b−2 bits"; 0 bits have no constellation
 unfoldable pub plainPoint : ℕ → ℕ → Point
 plainPoint zero l = origin
 plainPoint (suc zero) l = smallPoint 1 l
@@ -53,11 +53,12 @@ plainPoint (suc (suc b)) l =
 
 -- ---- "its reading direction too"
 
--- the label of the smallest constellations that has a point: they are looked through
+-- the label that has a point in one of the smallest constellations, looked for among all
 abbrev pub smallLabel : ℕ → Point → Found
 smallLabel b p = first (λ l. samePoint (smallPoint b l) p) (2 ^ b)
 
--- The corner of the block that a coordinate is in: X is odd, so 2X − 1 is one more than a multiple of 4. `shrZ z m` is z/m, rounded down.
+-- The corner of the block that a coordinate is in: X is odd, so 2X − 1 is one more than a multiple of 4. `shrZ z m` is z/m, rounded down. An
+-- even coordinate is 1 beside its corner, so it has no place in the block.
 abbrev pub cornerAt : ℤ → ℤ
 cornerAt z = pos 4 *ℤ shrZ z 4 +ℤ pos 1
 
@@ -72,12 +73,13 @@ lowLabel p = first (λ k. samePoint (inBlock k (cornerOf p)) p) 4
 abbrev pub ofBlock : Point → Point
 ofBlock c = point (shrZ (c .px +ℤ pos 1) 2) (shrZ (c .py +ℤ pos 1) 2)
 
--- the label 4n + k
+-- the label 4n + k, or none where n or k is missing
 abbrev pub fourfold : Found → Found → Found
 fourfold (At n) (At k) = At (4 * n + k)
 fourfold (At n) Nothing = Nothing
 fourfold Nothing low = Nothing
 
+-- reading b bits calls itself for b − 2 bits, with the point of n
 unfoldable pub plainLabel : ℕ → Point → Found
 plainLabel zero p = Nothing
 plainLabel (suc zero) p = smallLabel 1 p
@@ -85,11 +87,6 @@ plainLabel (suc (suc b)) p =
     cond (smallest (suc (suc b)))
     (smallLabel (suc (suc b)) p)
     (fourfold (plainLabel b (ofBlock (cornerOf p))) (lowLabel p))
-
--- the label that document 01 has, as a number
-abbrev pub labelNumber : Option (List Bool) → Found
-labelNumber (some v) = At (num v)
-labelNumber none = Nothing
 
 -- ---- the answers of an operation that maps or reads so: 16 and 13, in document 01's order
 
@@ -102,3 +99,9 @@ plainFound Nothing = toneRefused 13
 
 unfoldable pub plainRead : ℕ → Point → OneTone ℕ
 plainRead b p = cond (bitCountTest b) (toneRefused 16) (plainFound (plainLabel b p))
+
+-- ---- for the theorem: the label that document 01 has, as a number, or Nothing
+
+abbrev pub labelNumber : Option (List Bool) → Found
+labelNumber (some v) = At (num v)
+labelNumber none = Nothing

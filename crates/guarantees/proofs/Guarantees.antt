@@ -395,8 +395,8 @@ quarter-one = Mapping.quarter-one
 
 -- ---- the plain mapper (request R-1)
 
--- The plain rule (`Plain`) makes the points of b bits from those of b − 2. It gives document 01's point of every label of b bits, and the label
--- of every point, or none; once over b, for every b from 1 on, so from 1 to 15.
+-- The plain rule (g9932/specs/Plain) makes the points of b bits from those of b − 2, down to 2, 3 or 5 (and 1 on its own). It gives document
+-- 01's point of every label of b bits, and of every point its label, or none; once over b, for every b from 1 on, so from 1 to 15.
 pub plain-point : (b l : ℕ) → 1 ≤ b → l < 2 ^ b → plainPoint b l ≡ pointOf b (bits b l)
 plain-point = Plain.plain-point
 
@@ -411,13 +411,13 @@ pub plain-read : (b : ℕ) (p : Point) → plainRead b p ≡ readPoint b p
 plain-read = Plain.plain-read
 
 -- Of document 01's points alone: where label n of b bits is at (X, Y), labels 4n to 4n + 3 of b + 2 bits are on a block of two by two, with 4n at
--- (2X − 1, 2Y − 1), 4n + 1 above it, 4n + 2 to its right and 4n + 3 diagonal; from 2 bits on, but 3.
+-- (2X − 1, 2Y − 1), 4n + 1 above it, 4n + 2 to its right and 4n + 3 diagonal; for b = 2 and from 4 to 13.
 pub block-of-four : (b n k : ℕ) (p : Point) → 2 ≤ b → b ≤ 13 → b ≢ 3 → k < 4 → mapLabel b n ≡ toneDone p
     → mapLabel (suc (suc b)) (4 * n + k) ≡ toneDone (inBlock k (blockCorner p))
 block-of-four = Mapping.block-of-four
 
 -- Any two operations that have the contract of mapping one label, whatever they do inside, give the same answer to the same inputs, be it a
--- point or a refusal; and any two that have that of reading one point, be it a label or a refusal.
+-- point or a refusal; and any two that have that of reading one point, be it a label or a refusal. `one` and `other` are what the two answer.
 pub same-mapped : (b l : ℕ) (one other : Mapped) → mappedOf one ≡ mapLabel b l → mappedOf other ≡ mapLabel b l → one ≡ other
 same-mapped = TwoMappers.same-mapped
 

@@ -1,4 +1,5 @@
--- The one-tone calls: mapping and reading undo one another, the second bits of the coordinates, and points turned by quarters.
+-- The one-tone calls: mapping and reading undo one another, labels on blocks of four, the second bits of the coordinates, and points turned by
+-- quarters.
 use Prim.Native.Nat.{ℕ, zero, suc, _+_, _-_, _*_, _/_, _%_, _^_, _≤_, _<_}
 use mathlib.Core.Bool.{Bool, true, false, not, cond}
 use mathlib.Core.List.{List, [], _∷_, map}
@@ -7,7 +8,7 @@ use mathlib.Core.Option.{Option, none, some}
 use mathlib.Core.Path.{_≡_, refl, sym, ap, _∙_}
 use native.Mathlib.Nat.{pow-suc, mod-eq-of-lt}
 use native.Mathlib.Omega.{arith}
-use borrow.Author.Tests.{ne-eqb, leb-false, le-ltb, lt-leb}
+use borrow.Author.Tests.{leb-false, le-ltb, lt-leb}
 use lib.Dec.{leb}
 use lib.IntN.{pos, negℤ}
 use lib.ListN.{length, drop}
@@ -15,13 +16,13 @@ use Rattle.g9932.specs.Bits.{bit, weight, num, odd, bits}
 use Rattle.g9932.specs.Sizes.{Point}
 use Rattle.g9932.specs.Refusals.{bitCountTest, labelTest}
 use Rattle.g9932.specs.Points.{signBit, twosComplement, pointOf, labelOf, negated, quarters, lowQuarters}
-use Rattle.g9932.specs.Plain.{smallest, blockCorner, inBlock, plainPoint, plainMap}
+use Rattle.g9932.specs.Plain.{blockCorner, inBlock, plainPoint, plainMap}
 use Rattle.g9932.specs.Answers.{OneTone, toneRefused, toneDone, mapLabel, labelFound, readPoint}
 use Rattle.g9932.proofs.Constellations.{axesPoint, point-coords}
 use Rattle.g9932.proofs.Coordinates.{coords, coords-low}
 use Rattle.g9932.proofs.Identities.{or-false, not-not}
 use Rattle.g9932.proofs.Labels.{point-label, label-point}
-use Rattle.g9932.proofs.Plain.{larger-points, plain-point, plain-map}
+use Rattle.g9932.proofs.Plain.{from-four, larger-points, plain-point, plain-map}
 use Rattle.g9932.proofs.Quarters.{turnedLabel, length-turned, point-turned, point-opposite, one-left, one-right, lowest-turned}
 use Rattle.g9932.proofs.TwosComplement.{num-not}
 use Rattle.g9932.proofs.Words.{odd-weight, half-weight, num-bits, bits-num, length-bits, num-lt}
@@ -92,16 +93,12 @@ read-mapped b l p e =
     let s = point-label b p (r .label) (r .labelled) in
     rw (r .counted, lt-leb (2 ^ b) l (labels-below b l p e), number-bits b l (r .label) (s .0) (r .is), s .1)
 
--- ---- a label's block, from 2 bits on but 3
-
-not-smallest : (b : ℕ) → 2 ≤ b → b ≢ 3 → smallest (suc (suc b)) ≡ false
-not-smallest b h n =
-    rw (ne-eqb (suc (suc b)) 1 (λ e. omega arith), ne-eqb (suc (suc b)) 2 (λ e. omega arith), ne-eqb (suc (suc b)) 3 (λ e. omega arith), ne-eqb (suc (suc b)) 5 (λ e. n (omega arith)))
+-- ---- a label's block, of 2 bits and of 4 to 13
 
 pub block-of-four : (b n k : ℕ) (p : Point) → 2 ≤ b → b ≤ 13 → b ≢ 3 → k < 4 → mapLabel b n ≡ toneDone p
     → mapLabel (suc (suc b)) (4 * n + k) ≡ toneDone (inBlock k (blockCorner p))
 unfolding plainMap
-block-of-four b n k p h most odd-one small e =
+block-of-four b n k p h most not-three small e =
     let m = maps b n p e in
     let fits : 4 * n + k < 2 ^ suc (suc b) = omega (arith, m .below, pow-suc 2 b, pow-suc 2 (suc b)) in
     let quarter : (4 * n + k) / 4 ≡ n = omega arith in
@@ -109,7 +106,7 @@ block-of-four b n k p h most odd-one small e =
     let q : plainPoint b n ≡ p = plain-point b n (omega arith) (m .below) ∙ m .is in
     sym (plain-map (suc (suc b)) (4 * n + k))
     ∙ rw (le-ltb (suc (suc b)) 1 (omega arith), le-ltb 15 (suc (suc b)) (omega arith), lt-leb (2 ^ suc (suc b)) (4 * n + k) fits)
-    (ap toneDone (larger-points b (not-smallest b h odd-one) (4 * n + k) ∙ rw (quarter, place, q)))
+    (ap toneDone (larger-points b (from-four (suc (suc b)) (omega arith) (λ e. not-three (omega arith))) (4 * n + k) ∙ rw (quarter, place, q)))
 
 -- ---- the second bits of the coordinates
 

@@ -14,16 +14,16 @@ use Rattle.g9932.specs.declared.Mapped.the-variants as M
 use Rattle.g9932.specs.declared.Refusal.{Refusal}
 use Rattle.g9932.specs.declared.Refusal.the-variants as R
 
--- ---- a refusal by its number and place; a number that no refusal has has none to stand for it
+-- ---- a refusal by its number and place; where no refusal has the number, SIZE stands in, and is never asked for
 
-abbrev byPlace : ℕ → List Refusal
-byPlace k =
+abbrev refusalsAt : ℕ → List Refusal
+refusalsAt k =
     R.Size ∷ R.Size ∷ R.Tone (record { 0 = k }) ∷ R.Twice (record { 0 = k }) ∷ R.Bits (record { 0 = k }) ∷ R.Stray (record { 0 = k }) ∷
     R.Gain (record { 0 = k }) ∷ R.Odd ∷ R.Few ∷ R.Size ∷ R.Room ∷ R.Frame ∷ R.Seed ∷ R.Offgrid (record { 0 = k }) ∷ R.Monitor (record { 0 = k }) ∷
     R.Trellis k ∷ R.Label ∷ R.Size ∷ R.Size ∷ R.Size ∷ R.Size ∷ R.Size ∷ R.Full ∷ R.Range (record { 0 = k }) ∷ []
 
 abbrev refusalBy : ℕ → ℕ → Refusal
-refusalBy n k = getD (byPlace k) n R.Size
+refusalBy n k = getD (refusalsAt k) n R.Size
 
 refusal-told : (x : Refusal) → refusalBy (numberOf x) (placeOf x) ≡ x
 refusal-told R.Size = refl

@@ -6,10 +6,9 @@ use mathlib.Core.Path.{_≡_, refl, sym, ap, _∙_}
 use borrow.Author.Tests.{eqb-true, eqb-false}
 use lib.Dec.{eqb}
 use lib.ListN.{length}
-use Rattle.constellation.proofs.Origin.{differs}
 use Rattle.constellation.specs.Reading.{FoundLabelIs}
 use Rattle.constellation.specs.declared.FoundLabel.{FoundLabel}
-use Rattle.g9932.proofs.Constellations.{samePoint-self, point-inj}
+use Rattle.g9932.proofs.Constellations.{samePoint-self, differs, point-inj}
 use Rattle.g9932.proofs.Labels.{label-point, label-back}
 use Rattle.g9932.proofs.Words.{num-lt, num-inj, bits-num}
 use Rattle.g9932.specs.Bits.{bits, num}

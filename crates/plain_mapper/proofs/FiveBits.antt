@@ -1,4 +1,4 @@
--- The 32 points of five bits, by Table 10-3: one computed test.
+-- The 32 words of Table 10-3 and the points of five bits: a computed test each.
 use Prim.Native.Nat.{ℕ, _+_, _*_, _/_, _%_, _<_}
 use mathlib.Core.Bool.{Bool, not}
 use mathlib.Core.Path.{_≡_, refl}

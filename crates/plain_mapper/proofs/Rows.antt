@@ -7,8 +7,8 @@ use lib.Dec.{eqb, leb}
 use lib.ListN.{getD}
 use Rattle.g9932.specs.Bits.{first}
 use Rattle.g9932.specs.Points.{table10-3}
-use Rattle.g9932.proofs.Search.{first-no}
 use Rattle.g9932.specs.declared.Found.the-variants.{Nothing}
+use Rattle.g9932.proofs.Search.{first-no}
 
 -- a label of the row that has another word
 abbrev other : ℕ → ℕ → ℕ → Bool

@@ -4,7 +4,7 @@ use mathlib.Core.Bool.{Bool, true, false, cond}
 use mathlib.Core.Path.{_≡_, refl, sym, ap, _∙_}
 use native.Mathlib.Omega.{arith}
 use lib.Dec.{ltb}
-use lib.IntN.{ℤ, pos, negsuc, negℤ, subℕ, _+ℤ_, _-ℤ_, _*ℤ_}
+use lib.IntN.{ℤ, pos, negsuc, subℕ, _+ℤ_, _-ℤ_, _*ℤ_}
 use lib.Signed.{mag, shrZ}
 use mir.Syntax.{w16}
 use mir.Val.{SFits, toZ, ofZ}
@@ -12,8 +12,8 @@ use mir.ValLaws.{toZ-ofZ}
 use Rattle.g9932.specs.Plain.{cornerAt}
 use Rattle.g9932.specs.Points.{sameInt, samePoint}
 use Rattle.g9932.specs.Sizes.{Point}
-use Rattle.g9932.proofs.Constellations.{sameInt→eq, samePoint-self, samePoint→eq}
-use Rattle.g9932.proofs.Plain.{corner-at-below}
+use Rattle.g9932.proofs.Blocks.{below-zero, corner-at-below}
+use Rattle.g9932.proofs.Constellations.{sameInt→eq, samePoint-self, differs}
 
 -- ---- results in range
 
@@ -28,9 +28,6 @@ difference-below m a b h k = go (ltb a b)
 mag-more : (z : ℤ) (k m : ℕ) → mag z + k < m → mag (z +ℤ pos k) < m
 mag-more (pos a) k m h = omega arith
 mag-more (negsuc a) k m h = difference-below m k (suc a) (omega arith) (omega arith)
-
-below-zero : (n m : ℕ) → n ≡ suc m → negℤ (pos n) ≡ negsuc m
-below-zero n m e = rw e
 
 mag-twice : (z : ℤ) → mag (pos 2 *ℤ z) ≤ 2 * mag z + 1
 mag-twice (pos a) = omega arith
@@ -93,18 +90,11 @@ is-number z n h e = sym (toZ-ofZ w16 z h) ∙ ap (toZ w16) e
 
 -- two points
 
-other : (p q : Point) → (p ≡ q → ⊥) → samePoint p q ≡ false
-other p q h = go (samePoint p q) refl
-  where
-    go : (c : Bool) → samePoint p q ≡ c → samePoint p q ≡ false
-    go true e = absurd (h (samePoint→eq p q e))
-    go false e = e
-
 pub other-x : (p q : Point) → (ofZ w16 (p .px) ≡ ofZ w16 (q .px) → ⊥) → false ≡ samePoint p q
-other-x p q h = sym (other p q (λ e. h (ap (λ (r : Point). ofZ w16 (r .px)) e)))
+other-x p q h = sym (differs p q (λ e. h (ap (λ (r : Point). ofZ w16 (r .px)) e)))
 
 pub other-y : (p q : Point) → (ofZ w16 (p .py) ≡ ofZ w16 (q .py) → ⊥) → false ≡ samePoint p q
-other-y p q h = sym (other p q (λ e. h (ap (λ (r : Point). ofZ w16 (r .py)) e)))
+other-y p q h = sym (differs p q (λ e. h (ap (λ (r : Point). ofZ w16 (r .py)) e)))
 
 pub same-bits : (p q : Point) → SFits w16 (p .px) → SFits w16 (q .px) → SFits w16 (p .py) → SFits w16 (q .py)
     → ofZ w16 (p .px) ≡ ofZ w16 (q .px) → ofZ w16 (p .py) ≡ ofZ w16 (q .py) → true ≡ samePoint p q

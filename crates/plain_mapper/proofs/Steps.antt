@@ -1,29 +1,28 @@
 -- The plain rule's step as the code takes it, from b bits to b − 2, and the bounds of what it goes by.
 use Prim.Native.Nat.{ℕ, zero, suc, _-_, _*_, _/_, _%_, _^_, _≤_, _<_}
-use mathlib.Core.Bool.{Bool, true, false, _&&_, true≢false}
+use mathlib.Core.Bool.{Bool, false, true≢false}
 use mathlib.Core.List.{List}
 use mathlib.Core.Option.{Option, none, some}
-use mathlib.Core.Path.{_≡_, refl, sym, ap, ap₂, _∙_}
+use mathlib.Core.Path.{_≡_, refl, sym, ap, _∙_}
 use native.Mathlib.Nat.{pow-suc, mod-eq-of-lt}
 use native.Mathlib.Omega.{arith}
 use borrow.Author.Tests.{le-ltb}
-use lib.IntN.{ℤ, pos, negsuc, natAbs, _+ℤ_, _-ℤ_, +ℤ-comm, +ℤ-idr, +ℤ-negℤ-cancel, -ℤ-+ℤ-cancel}
+use lib.IntN.{ℤ, pos, negsuc, natAbs}
 use lib.Pow.{pow-mono}
 use lib.Signed.{mag}
 use mir.Syntax.{w16}
 use mir.Val.{SFits}
 use Rattle.g9932.specs.Answers.{readPoint}
-use Rattle.g9932.specs.Bits.{bits, orAt, first}
+use Rattle.g9932.specs.Bits.{bits}
 use Rattle.g9932.specs.Plain.{smallest, blockCorner, inBlock, plainPoint, cornerOf, lowLabel, ofBlock, fourfold, plainLabel, labelNumber, plainFound, plainRead}
-use Rattle.g9932.specs.Points.{pointOf, sameInt, samePoint, labelOf}
-use Rattle.g9932.specs.Sizes.{Point, point, origin}
+use Rattle.g9932.specs.Points.{pointOf, samePoint, labelOf}
+use Rattle.g9932.specs.Sizes.{Point}
 use Rattle.g9932.specs.declared.Found.{Found}
 use Rattle.g9932.specs.declared.Found.the-variants.{At, Nothing}
-use Rattle.g9932.proofs.Constellations.{sameInt-self, sameInt→eq}
 use Rattle.g9932.proofs.Distances.{point-range}
 use Rattle.g9932.proofs.Labels.{point-label}
 use Rattle.g9932.proofs.Plain.{larger-points, larger-labels, plain-point, plain-label, plain-read}
-use Rattle.g9932.proofs.Search.{first-found, first-ext}
+use Rattle.g9932.proofs.Search.{first-found}
 use Rattle.g9932.proofs.Words.{length-bits, num-lt}
 use Rattle.plain_mapper.specs.Bounds.{Below, Within}
 use Rattle.plain_mapper.proofs.Signed.{doubled-within, corner-within}
@@ -60,12 +59,6 @@ shl-one b m h k =
     let e : 1 * 2 ^ b ≡ 2 ^ b = omega arith in
     rw e (mod-eq-of-lt (omega (arith, pow-mono {i = b} {j = 15} h)))
 
--- a search ends at its last place
-pub first-last : (p : ℕ → Bool) (n : ℕ) → 1 ≤ n → first p n ≡ orAt (first p (n - 1)) (p (n - 1)) (n - 1)
-unfolding first
-first-last p zero h = absurd (omega arith)
-first-last p (suc n) h = let e : suc n - 1 ≡ n = omega arith in rw e
-
 -- ---- bounds
 
 mag-abs : (z : ℤ) (n : ℕ) → natAbs z ≤ n → mag z ≤ n
@@ -98,44 +91,6 @@ low-below p = go (lowLabel p) refl
     go : (f : Found) → lowLabel p ≡ f → Below 4 f
     go (At k) e = first-found (λ j. samePoint (inBlock j (cornerOf p)) p) 4 k e .0
     go Nothing e = tt
-
--- ---- the place in the block, by how far the point is from the corner
-
-both : (x y : Bool) → (x ≡ true → y ≡ true) → (y ≡ true → x ≡ true) → x ≡ y
-both true y f g = sym (f refl)
-both false true f g = g refl
-both false false f g = refl
-
--- z is at a from c
-from : (c a z : ℤ) → sameInt (c +ℤ a) z ≡ sameInt a (z -ℤ c)
-from c a z = both (sameInt (c +ℤ a) z) (sameInt a (z -ℤ c)) there back
-  where
-    there : sameInt (c +ℤ a) z ≡ true → sameInt a (z -ℤ c) ≡ true
-    there e =
-        let f : z -ℤ c ≡ a = ap (λ (w : ℤ). w -ℤ c) (sym (sameInt→eq (c +ℤ a) z e) ∙ +ℤ-comm c a) ∙ +ℤ-negℤ-cancel a c in
-        rw f (sameInt-self a)
-
-    back : sameInt a (z -ℤ c) ≡ true → sameInt (c +ℤ a) z ≡ true
-    back e =
-        let f : c +ℤ a ≡ z = ap (λ (w : ℤ). c +ℤ w) (sameInt→eq a (z -ℤ c) e) ∙ +ℤ-comm c (z -ℤ c) ∙ -ℤ-+ℤ-cancel z c in
-        rw f (sameInt-self z)
-
-at : (c z : ℤ) → sameInt c z ≡ sameInt (pos 0) (z -ℤ c)
-at c z = ap (λ (w : ℤ). sameInt w z) (sym (+ℤ-idr c)) ∙ from c (pos 0) z
-
--- as seen from the corner
-abbrev seen : Point → Point → Point
-seen c p = point (p .px -ℤ c .px) (p .py -ℤ c .py)
-
-place-seen : (k : ℕ) (c p : Point) → samePoint (inBlock k c) p ≡ samePoint (inBlock k origin) (seen c p)
-place-seen zero c p = ap₂ _&&_ (at (c .px) (p .px)) (at (c .py) (p .py))
-place-seen (suc zero) c p = ap₂ _&&_ (at (c .px) (p .px)) (from (c .py) (pos 2) (p .py))
-place-seen (suc (suc zero)) c p = ap₂ _&&_ (from (c .px) (pos 2) (p .px)) (at (c .py) (p .py))
-place-seen (suc (suc (suc k))) c p = ap₂ _&&_ (from (c .px) (pos 2) (p .px)) (from (c .py) (pos 2) (p .py))
-
-pub low-seen : (p c : Point) → c ≡ cornerOf p → first (λ k. samePoint (inBlock k origin) (seen c p)) 4 ≡ lowLabel p
-low-seen p c e =
-    rw e (first-ext (λ k. samePoint (inBlock k origin) (seen (cornerOf p) p)) (λ k. samePoint (inBlock k (cornerOf p)) p) 4 (λ k h. sym (place-seen k (cornerOf p) p)))
 
 -- ---- the answer
 

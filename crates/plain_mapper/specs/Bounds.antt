@@ -1,4 +1,5 @@
--- Bounds that the arithmetic of sixteen bits needs.
+-- Bounds under which no number leaves its type: points of up to 15 bits are within 1,023 and the corners of their blocks within 4,095; the
+-- corner of any coordinate of sixteen bits is within 32,766; labels are below 32,768.
 use Prim.Native.Nat.{ℕ, _<_, _≤_}
 use lib.Signed.{mag}
 use Rattle.g9932.specs.Sizes.{Point}

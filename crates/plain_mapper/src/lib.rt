@@ -22,7 +22,7 @@ use small::Spot;
 use small::small_point;
 use small::smallest;
 
-// A coordinate of the corner of the block that a point becomes.
+// 2X - 1: a coordinate of the corner of the block that a point becomes.
 fn doubled(z: i16) -> i16
     requires { ⌜ mag z ≤ 1023 ⌝ }
     ensures { λ r. ⌜ r ≡ pos 2 *ℤ z -ℤ pos 1 ⌝ }
@@ -30,7 +30,7 @@ fn doubled(z: i16) -> i16
     2 * z - 1
 }
 
-// The next coordinate: above, or to the right.
+// The next coordinate, 2 on: above, or to the right.
 fn next(z: i16) -> i16
     requires { ⌜ mag z ≤ 4095 ⌝ }
     ensures { λ r. ⌜ r ≡ z +ℤ pos 2 ⌝ }
@@ -128,7 +128,7 @@ fn or_at(found: Found, here: bool, label: usize) -> Found
     }
 }
 
-// The label below `end` that has a point of the smallest constellations, if one has.
+// The label below `end` of one of the smallest constellations that has the point, if one has.
 fn small_label(b: u8, end: usize, p: Spot) -> Found
     requires { ⌜ (isSmallest b ≡ true) × (end ≤ 2 ^ b) ⌝ }
     ensures { λ r. ⌜ r ≡ first (λ l. samePoint (smallPoint b l) (point (p .x) (p .y))) end ⌝ }
@@ -142,7 +142,7 @@ fn small_label(b: u8, end: usize, p: Spot) -> Found
 }
 
 // A coordinate of the corner of the block that a point is in: one more than a multiple of four, for it is 2X - 1 of an odd X.
-fn corner(z: i16) -> i16
+fn corner_at(z: i16) -> i16
     ensures { λ r. ⌜ r ≡ cornerAt z ⌝ }
 {
     4 * (z >> 2) + 1
@@ -153,8 +153,8 @@ fn corner_of(p: Spot) -> Spot
     ensures { λ r. ⌜ point (r .x) (r .y) ≡ cornerOf (point (p .x) (p .y)) ⌝ }
 {
     Spot {
-        x: corner(p.x),
-        y: corner(p.y),
+        x: corner_at(p.x),
+        y: corner_at(p.y),
     }
 }
 
@@ -177,7 +177,7 @@ fn of_block(corner: Spot) -> Spot
     }
 }
 
-// The place of a label in its block, by how far its point is to the right of the corner and above it.
+// The place of a label in its block, if any, by how far its point is to the right of the corner and above it.
 fn place_in_block(right: i16, up: i16) -> Found
     ensures { λ r. ⌜ r ≡ first (λ k. samePoint (inBlock k origin) (point right up)) 4 ⌝ }
 {
@@ -201,7 +201,7 @@ fn place_in_block(right: i16, up: i16) -> Found
     Found::Nothing
 }
 
-// The two lowest bits of the label of a point, by the corner of its block.
+// The two lowest bits of the label of a point, if any, by the corner of its block.
 fn low_label(p: Spot, corner: Spot) -> Found
     requires { ⌜ point (corner .x) (corner .y) ≡ cornerOf (point (p .x) (p .y)) ⌝ }
     ensures { λ r. ⌜ r ≡ lowLabel (point (p .x) (p .y)) ⌝ }
@@ -209,12 +209,12 @@ fn low_label(p: Spot, corner: Spot) -> Found
     place_in_block(p.x - corner.x, p.y - corner.y)
 }
 
-// The label 4n + k.
-fn fourfold(n: Found, low: Found) -> Found
-    requires { ⌜ Below 32768 n × Below 4 low ⌝ }
-    ensures { λ r. ⌜ r ≡ fourfoldOf n low ⌝ }
+// The label 4n + k, or none where n or k is missing.
+fn fourfold(block: Found, low: Found) -> Found
+    requires { ⌜ Below 32768 block × Below 4 low ⌝ }
+    ensures { λ r. ⌜ r ≡ fourfoldOf block low ⌝ }
 {
-    match n {
+    match block {
         Found::At(n) => match low {
             Found::At(k) => Found::At(4 * n + k),
             Found::Nothing => Found::Nothing,
@@ -223,7 +223,7 @@ fn fourfold(n: Found, low: Found) -> Found
     }
 }
 
-// The label of a point of b bits, by way of b - 2 bits.
+// The label of b bits that has a point, if one has, by way of b - 2 bits.
 fn plain_label(b: u8, p: Spot) -> Found
     requires { ⌜ (1 ≤ b) × (b ≤ 15) ⌝ }
     ensures { λ r. ⌜ r ≡ plainLabel b (point (p .x) (p .y)) ⌝ }

@@ -9,7 +9,7 @@ ghost use Rattle.g9932.specs.Sizes.{point, origin};
 ghost use Rattle.g9932.specs.Points.{onePoints, evenPoint, threePoints, table10-3, oddPoint};
 ghost use Rattle.g9932.specs.Plain.{smallest as isSmallest, smallPoint};
 
-// A point of a constellation.
+// A point, in a constellation or not.
 pub struct Spot {
     pub x: i16,
     pub y: i16,
@@ -22,7 +22,7 @@ fn one_bit(label: usize) -> Spot
 {
     match label {
         0 => Spot { x: 1, y: 1 },
-        _ => Spot { x: -1, y: -1 },
+        _ => Spot { x: -1, y: -1 }, // 1
     }
 }
 
@@ -35,7 +35,7 @@ fn two_bits(label: usize) -> Spot
         0 => Spot { x: 1, y: 1 },
         1 => Spot { x: 1, y: -1 },
         2 => Spot { x: -1, y: 1 },
-        _ => Spot { x: -1, y: -1 },
+        _ => Spot { x: -1, y: -1 }, // 3
     }
 }
 
@@ -52,7 +52,7 @@ fn three_bits(label: usize) -> Spot
         4 => Spot { x: -3, y: 1 },
         5 => Spot { x: 1, y: 3 },
         6 => Spot { x: -1, y: -3 },
-        _ => Spot { x: 3, y: -1 },
+        _ => Spot { x: 3, y: -1 }, // 7
     }
 }
 
@@ -73,7 +73,7 @@ fn table_10_3(label: usize) -> u16
         24 | 26 => 0b1101,
         25 | 27 => 0b1110,
         28 | 29 => 0b0111,
-        _ => 0b1011,
+        _ => 0b1011, // 30, 31
     }
 }
 
@@ -117,6 +117,6 @@ pub fn small_point(b: u8, label: usize) -> Spot
         1 => one_bit(label),
         2 => two_bits(label),
         3 => three_bits(label),
-        _ => five_bits(label),
+        _ => five_bits(label), // 5
     }
 }

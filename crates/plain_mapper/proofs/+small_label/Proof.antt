@@ -8,7 +8,7 @@ use Rattle.g9932.specs.Plain.{smallPoint}
 use Rattle.g9932.specs.Points.{samePoint}
 use Rattle.g9932.specs.Sizes.{Point, point}
 use Rattle.g9932.specs.declared.Found.{Found}
-use Rattle.plain_mapper.proofs.Steps.{first-last}
+use Rattle.g9932.proofs.Search.{first-last}
 use borrow.Fn.Kinds.{In}
 use borrow.Fn.PlainCycle.{Measures, is, falls, and}
 use Rattle.plain_mapper.proofs.small_label.Reads as reads

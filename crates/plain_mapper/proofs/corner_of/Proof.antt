@@ -10,9 +10,9 @@ use Rattle.plain_mapper.proofs.corner_of.Tie as tie
 returns : tie.Need-returns
 returns c =
     let s = c .before .before .before .before in
-    let x = rw (toZ-ofZ w16 (s .args .p .x) (search needs)) at (c .before .before .corner .ensures) in
-    let y = rw (toZ-ofZ w16 (s .args .p .y) (search needs)) at (c .corner2 .ensures) in
-    ap₂ point (toZ-ofZ w16 (c .before .before .corner .result) (search needs) ∙ x) (toZ-ofZ w16 (c .corner2 .result) (search needs) ∙ y)
+    let x = rw (toZ-ofZ w16 (s .args .p .x) (search needs)) at (c .before .before .corner-at .ensures) in
+    let y = rw (toZ-ofZ w16 (s .args .p .y) (search needs)) at (c .corner-at2 .ensures) in
+    ap₂ point (toZ-ofZ w16 (c .before .before .corner-at .result) (search needs) ∙ x) (toZ-ofZ w16 (c .corner-at2 .result) (search needs) ∙ y)
 
 pub corner-of-spec : {M : Type 1} → statement M
 corner-of-spec = tie.close (tie.spec (λ c κs. search needs) (λ c κs. search needs) returns)

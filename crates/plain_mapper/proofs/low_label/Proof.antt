@@ -8,7 +8,7 @@ use borrow.Author.Needs.{needs}
 use Rattle.g9932.specs.Plain.{cornerAt}
 use Rattle.g9932.specs.Sizes.{Point, point}
 use Rattle.plain_mapper.proofs.Signed.{apart-fits}
-use Rattle.plain_mapper.proofs.Steps.{low-seen}
+use Rattle.plain_mapper.proofs.Places.{low-seen}
 use Rattle.plain_mapper.proofs.low_label.Statement.{statement}
 use Rattle.plain_mapper.proofs.low_label.Tie as tie
 

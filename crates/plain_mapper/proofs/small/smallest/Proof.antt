@@ -1,7 +1,8 @@
 -- `plain_mapper::small::smallest` meets its contract.
 use mathlib.Core.Path.{_≡_, sym}
 use native.Mathlib.Omega.{arith}
-use Rattle.plain_mapper.proofs.BitCounts.{below-four, from-four}
+use Rattle.g9932.proofs.Plain.{from-four}
+use Rattle.plain_mapper.proofs.BitCounts.{below-four}
 use Rattle.plain_mapper.proofs.small.smallest.Statement.{statement}
 use Rattle.plain_mapper.proofs.small.smallest.Tie as tie
 
