@@ -47,7 +47,7 @@ fn every_point_near(comparison: &mut Comparison, bits: u8) -> Result<(), Mismatc
     Ok(())
 }
 
-/// A square beyond every constellation, then 16-bit coordinates each way. The reference's direct rule
+/// A square that reaches beyond every constellation, then 16-bit coordinates each way. The reference's direct rule
 /// searches too long for that, so the other mapper is held to the plain one alone.
 fn every_point_far(comparison: &mut Comparison, bits: u8) -> Result<(), Mismatch> {
     for x in -300..=300 {

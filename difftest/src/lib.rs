@@ -2,8 +2,8 @@
 //!
 //! [`run::random_cases`] and [`exhaustive`] compare number, place, size, register and the whole of
 //! every lent buffer, on success and on refusal; of nearest reading what the rules fix ([`nearest`]). The
-//! clip check is held to the implementation's own readings, too ([`clip`]), the plain mapper to its other
-//! mapper ([`plain`]), and a symbol turned by a quarter to the refusal that its tables give ([`quarter`]).
+//! clip check is held to the implementation's own readings, too ([`clip`]), the plain mapper to the
+//! implementation's other mapper ([`plain`]), and a symbol turned by a quarter to the refusal that its tables give ([`quarter`]).
 
 pub mod clip;
 pub mod clips;

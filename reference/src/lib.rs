@@ -1,5 +1,6 @@
 //! A second implementation of document 01, as amended, written from its text alone: lists of bits
-//! and plain loops, with one module for each section and the section's letters.
+//! and plain loops, with one module for each section and the section's letters. The plain rule,
+//! [`plain`], is from request R-1 and the standard's figures.
 //!
 //! The calls are in [`operations`]. Each answers for all inputs.
 

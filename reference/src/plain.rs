@@ -1,5 +1,5 @@
 //! Request R-1, the plain rule: the points of b bits from those of b − 2 bits, down to 2, 3 or 5, which
-//! have a figure, as 1 bit has. Of [`crate::points`] it takes the name of a point's type alone.
+//! have a figure, as 1 bit has. It shares only the type [`Point`] with [`crate::points`].
 
 use crate::points::Point;
 
@@ -10,7 +10,7 @@ type Figure = &'static [&'static [u8]];
 /// No label stands there.
 const NO: u8 = u8::MAX;
 
-/// Figures 10-10, 10-9, 10-12 and 10-13 of source document 004.
+/// Figures 10-10, 10-9, 10-12 and 10-13 of G.993.2.
 fn figure_of(b: usize) -> Option<Figure> {
     match b {
         1 => Some(&[&[NO, 0], &[1, NO]]),
@@ -60,8 +60,8 @@ pub fn point_of(b: usize, label: usize) -> Point {
     (2 * x - 1 + right, 2 * y - 1 + up)
 }
 
-/// The label of b bits that has the point, if any has: for each of the four in a block, where the label
-/// stood from which such a block came.
+/// The label of b bits that has the point, if any has: tries each of the four places in a block, and asks
+/// for the label of the point that such a block came from.
 pub fn label_of(b: usize, (x, y): Point) -> Option<usize> {
     if let Some(figure) = figure_of(b) {
         let own = labels_in(figure).find(|&(_, other)| other == (x, y));

@@ -1,4 +1,5 @@
-//! Request R-1: the plain rule has the page's figures, and agrees with the direct one everywhere.
+//! Request R-1: the plain rule has the page's figures, and agrees with the direct one on all labels, a
+//! square of points and three lines of them.
 
 use clevisroot_sys::refusals::{DONE, LABEL, OFFGRID};
 use reference::points::{constellation, Point};

@@ -57,7 +57,7 @@ static void every_point_near(uint8_t bits)
             read_alike(bits, x, y);
 }
 
-/* Labels at and above 2^bits, and coordinates at the ends of 16 bits. */
+/* Labels of every size, and coordinates at the ends of 16 bits and beside 0. */
 static void ends(uint8_t bits)
 {
     static const int16_t far[] = {INT16_MIN, INT16_MIN + 1, -1, 1, INT16_MAX - 1, INT16_MAX};

@@ -106,7 +106,7 @@ static void one_clip(stream *s, const table_set *set, uint32_t reg)
     digest(s, straight.clip + 4 * turned.clip);
 }
 
-/* The points of some tones, read by either mapper and mapped again by the other; t' is t here, too. */
+/* The points of some tones, read by each mapper and mapped again by the other; t' is t here, too. */
 static void one_tones(stream *s, size_t first)
 {
     for (size_t p = first; p < TONES; p += 8)

@@ -185,7 +185,7 @@ examples
 pub const POINT: &str = "\
 Tells the label of one point on a tone of 1 to 15 bits. Refusals are 16 for the bits, then 13.
 
-With --plain the library's second mapper answers, which nobody tuned, as for map.
+With --plain the library's second mapper answers, which nobody tuned: see clevisroot map --help.
 
 examples
   clevisroot point 5 -3 5

@@ -37,19 +37,11 @@ impl Mapper {
         }
     }
 
-    /// What follows an answer: whose it is, where the call names the mapper.
+    /// What follows an answer, or the place of a refusal: whose it is, where the call names the mapper.
     pub fn answered(self) -> &'static str {
         match self {
             Mapper::Tuned => "",
             Mapper::Plain => ", by the plain mapper",
-        }
-    }
-
-    /// What follows the place of a refusal.
-    pub fn refused(self) -> &'static str {
-        match self {
-            Mapper::Tuned => "",
-            Mapper::Plain => ", refused by the plain mapper",
         }
     }
 

@@ -113,7 +113,7 @@ fn refused(call: &Call, number: u32, sentence: String) -> Report {
     debug_assert!(matches!(number, OFFGRID | LABEL));
     let spot = format!(
         "at place 0: the one tone asked for{}",
-        Mapper::of(call).refused()
+        Mapper::of(call).answered()
     );
     let refusal = Refusal {
         number,

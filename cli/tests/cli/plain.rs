@@ -5,16 +5,13 @@ use crate::refusals::refused;
 use crate::run::{run, Ran};
 
 const A: &str = "examples/bench-a.txt";
-const PLACE: &str = "at place 0: the one tone asked for, refused by the plain mapper";
+const PLACE: &str = "at place 0: the one tone asked for, by the plain mapper";
 
 /// A call, and the same with `--plain`: same status, and nothing but the mapper is told besides, as text
 /// and as JSON. Gives the JSON of the first.
 fn both(words: &[&str]) -> Ran {
     let (tuned, plain) = (run(words), run(&[words, &["--plain"]].concat()));
-    let told = match tuned.status {
-        0 => ", by the plain mapper\n",
-        _ => ", refused by the plain mapper\n",
-    };
+    let told = ", by the plain mapper\n";
     assert_eq!(plain.out.matches(told).count(), 1, "{}", plain.out);
     same(&tuned, &plain, &plain.out.replace(told, "\n"));
     let json = [words, &["--json"]].concat();
