@@ -1,4 +1,5 @@
 // The library for C. include/clevisroot.h says in a person's words what each function does.
+// The answers come first, then the functions that fill them, then the calls, in the header's order.
 ghost use mathlib.Core.Path.{_≡_};
 ghost use Prim.Native.Nat.{_≤_};
 ghost use Rattle.g9932.specs.Sizes.{tables, mostTones, point};

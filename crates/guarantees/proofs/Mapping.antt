@@ -8,7 +8,7 @@ use mathlib.Core.Option.{Option, none, some}
 use mathlib.Core.Path.{_≡_, refl, sym, ap, _∙_}
 use native.Mathlib.Nat.{pow-suc, mod-eq-of-lt}
 use native.Mathlib.Omega.{arith}
-use borrow.Author.Tests.{leb-false, le-ltb, lt-leb}
+use borrow.Author.Tests.{leb-false, lt-leb}
 use lib.Dec.{leb}
 use lib.IntN.{pos, negℤ}
 use lib.ListN.{length, drop}
@@ -16,13 +16,14 @@ use Rattle.g9932.specs.Bits.{bit, weight, num, odd, bits}
 use Rattle.g9932.specs.Sizes.{Point}
 use Rattle.g9932.specs.Refusals.{bitCountTest, labelTest}
 use Rattle.g9932.specs.Points.{signBit, twosComplement, pointOf, labelOf, negated, quarters, lowQuarters}
-use Rattle.g9932.specs.Plain.{blockCorner, inBlock, plainPoint, plainMap}
+use Rattle.g9932.specs.Plain.{blockCorner, inBlock, plainPoint}
 use Rattle.g9932.specs.Answers.{OneTone, toneRefused, toneDone, mapLabel, labelFound, readPoint}
 use Rattle.g9932.proofs.Constellations.{axesPoint, point-coords}
 use Rattle.g9932.proofs.Coordinates.{coords, coords-low}
 use Rattle.g9932.proofs.Identities.{or-false, not-not}
 use Rattle.g9932.proofs.Labels.{point-label, label-point}
-use Rattle.g9932.proofs.Plain.{from-four, larger-points, plain-point, plain-map}
+use Rattle.g9932.proofs.OneTone.{map-done}
+use Rattle.g9932.proofs.Plain.{from-four, larger-points, plain-point}
 use Rattle.g9932.proofs.Quarters.{turnedLabel, length-turned, point-turned, point-opposite, one-left, one-right, lowest-turned}
 use Rattle.g9932.proofs.TwosComplement.{num-not}
 use Rattle.g9932.proofs.Words.{odd-weight, half-weight, num-bits, bits-num, length-bits, num-lt}
@@ -97,16 +98,15 @@ read-mapped b l p e =
 
 pub block-of-four : (b n k : ℕ) (p : Point) → 2 ≤ b → b ≤ 13 → b ≢ 3 → k < 4 → mapLabel b n ≡ toneDone p
     → mapLabel (suc (suc b)) (4 * n + k) ≡ toneDone (inBlock k (blockCorner p))
-unfolding plainMap
 block-of-four b n k p h most not-three small e =
     let m = maps b n p e in
     let fits : 4 * n + k < 2 ^ suc (suc b) = omega (arith, m .below, pow-suc 2 b, pow-suc 2 (suc b)) in
     let quarter : (4 * n + k) / 4 ≡ n = omega arith in
     let place : (4 * n + k) % 4 ≡ k = omega arith in
     let q : plainPoint b n ≡ p = plain-point b n (omega arith) (m .below) ∙ m .is in
-    sym (plain-map (suc (suc b)) (4 * n + k))
-    ∙ rw (le-ltb (suc (suc b)) 1 (omega arith), le-ltb 15 (suc (suc b)) (omega arith), lt-leb (2 ^ suc (suc b)) (4 * n + k) fits)
-    (ap toneDone (larger-points b (from-four (suc (suc b)) (omega arith) (λ e. not-three (omega arith))) (4 * n + k) ∙ rw (quarter, place, q)))
+    map-done (suc (suc b)) (4 * n + k) (omega arith) (omega arith) fits
+    ∙ ap toneDone
+    (sym (plain-point (suc (suc b)) (4 * n + k) (omega arith) fits) ∙ larger-points b (from-four (suc (suc b)) (omega arith) (λ e. not-three (omega arith))) (4 * n + k) ∙ rw (quarter, place, q))
 
 -- ---- the second bits of the coordinates
 

@@ -18,7 +18,7 @@ use g9932::Labelled;
 use g9932::Mapped;
 use g9932::Place;
 use g9932::Refusal;
-use small::Spot;
+use small::Point;
 use small::small_point;
 use small::smallest;
 
@@ -39,32 +39,32 @@ fn next(z: i16) -> i16
 }
 
 // The corner of the block that a point becomes.
-fn block_corner(p: Spot) -> Spot
+fn block_corner(p: Point) -> Point
     requires { ⌜ Within 1023 (point (p .x) (p .y)) ⌝ }
     ensures { λ r. ⌜ point (r .x) (r .y) ≡ blockCorner (point (p .x) (p .y)) ⌝ }
 {
-    Spot {
+    Point {
         x: doubled(p.x),
         y: doubled(p.y),
     }
 }
 
 // The point of label 4n + k, by the corner, which is that of 4n: above it, to its right, diagonal.
-fn in_block(k: usize, corner: Spot) -> Spot
+fn in_block(k: usize, corner: Point) -> Point
     requires { ⌜ (k < 4) × Within 4095 (point (corner .x) (corner .y)) ⌝ }
     ensures { λ r. ⌜ point (r .x) (r .y) ≡ inBlock k (point (corner .x) (corner .y)) ⌝ }
 {
     match k {
         0 => corner,
-        1 => Spot {
+        1 => Point {
             x: corner.x,
             y: next(corner.y),
         },
-        2 => Spot {
+        2 => Point {
             x: next(corner.x),
             y: corner.y,
         },
-        _ => Spot {
+        _ => Point {
             x: next(corner.x),
             y: next(corner.y),
         },
@@ -72,7 +72,7 @@ fn in_block(k: usize, corner: Spot) -> Spot
 }
 
 // The point of a label of b bits, by way of b - 2 bits.
-fn plain_point(b: u8, label: usize) -> Spot
+fn plain_point(b: u8, label: usize) -> Point
     requires { ⌜ (1 ≤ b) × (b ≤ 15) × (label < 2 ^ b) ⌝ }
     ensures { λ r. ⌜ point (r .x) (r .y) ≡ plainPoint b label ⌝ }
 {
@@ -101,7 +101,7 @@ pub fn map_label(bits: u8, label: u32) -> Mapped
 }
 
 // Whether two points are the same.
-fn same(p: Spot, q: Spot) -> bool
+fn same(p: Point, q: Point) -> bool
     ensures { λ r. ⌜ r ≡ samePoint (point (p .x) (p .y)) (point (q .x) (q .y)) ⌝ }
 {
     if p.x != q.x {
@@ -129,7 +129,7 @@ fn or_at(found: Found, here: bool, label: usize) -> Found
 }
 
 // The label below `end` of one of the smallest constellations that has the point, if one has.
-fn small_label(b: u8, end: usize, p: Spot) -> Found
+fn small_label(b: u8, end: usize, p: Point) -> Found
     requires { ⌜ (isSmallest b ≡ true) × (end ≤ 2 ^ b) ⌝ }
     ensures { λ r. ⌜ r ≡ first (λ l. samePoint (smallPoint b l) (point (p .x) (p .y))) end ⌝ }
 {
@@ -149,10 +149,10 @@ fn corner_at(z: i16) -> i16
 }
 
 // The corner of the block that a point is in.
-fn corner_of(p: Spot) -> Spot
+fn corner_of(p: Point) -> Point
     ensures { λ r. ⌜ point (r .x) (r .y) ≡ cornerOf (point (p .x) (p .y)) ⌝ }
 {
-    Spot {
+    Point {
         x: corner_at(p.x),
         y: corner_at(p.y),
     }
@@ -167,11 +167,11 @@ fn halved(c: i16) -> i16
 }
 
 // The point that became the block with this corner.
-fn of_block(corner: Spot) -> Spot
+fn of_block(corner: Point) -> Point
     requires { ⌜ Within 32766 (point (corner .x) (corner .y)) ⌝ }
     ensures { λ r. ⌜ point (r .x) (r .y) ≡ ofBlock (point (corner .x) (corner .y)) ⌝ }
 {
-    Spot {
+    Point {
         x: halved(corner.x),
         y: halved(corner.y),
     }
@@ -202,7 +202,7 @@ fn place_in_block(right: i16, up: i16) -> Found
 }
 
 // The two lowest bits of the label of a point, if any, by the corner of its block.
-fn low_label(p: Spot, corner: Spot) -> Found
+fn low_label(p: Point, corner: Point) -> Found
     requires { ⌜ point (corner .x) (corner .y) ≡ cornerOf (point (p .x) (p .y)) ⌝ }
     ensures { λ r. ⌜ r ≡ lowLabel (point (p .x) (p .y)) ⌝ }
 {
@@ -224,7 +224,7 @@ fn fourfold(block: Found, low: Found) -> Found
 }
 
 // The label of b bits that has a point, if one has, by way of b - 2 bits.
-fn plain_label(b: u8, p: Spot) -> Found
+fn plain_label(b: u8, p: Point) -> Found
     requires { ⌜ (1 ≤ b) × (b ≤ 15) ⌝ }
     ensures { λ r. ⌜ r ≡ plainLabel b (point (p .x) (p .y)) ⌝ }
 {
@@ -246,7 +246,7 @@ pub fn read_point(bits: u8, x: i16, y: i16) -> Labelled
     if 15 < bits {
         return Labelled::Refused(Refusal::Label);
     }
-    let found = plain_label(bits, Spot { x, y });
+    let found = plain_label(bits, Point { x, y });
     match found {
         Found::At(label) => Labelled::Label(label as u32),
         Found::Nothing => Labelled::Refused(Refusal::Offgrid(Place(0))),

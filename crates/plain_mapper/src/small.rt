@@ -10,49 +10,49 @@ ghost use Rattle.g9932.specs.Points.{onePoints, evenPoint, threePoints, table10
 ghost use Rattle.g9932.specs.Plain.{smallest as isSmallest, smallPoint};
 
 // A point, in a constellation or not.
-pub struct Spot {
+pub struct Point {
     pub x: i16,
     pub y: i16,
 }
 
 // b = 1: 0 is (1, 1), 1 is (-1, -1).
-fn one_bit(label: usize) -> Spot
+fn one_bit(label: usize) -> Point
     requires { ⌜ label < 2 ⌝ }
     ensures { λ r. ⌜ point (r .x) (r .y) ≡ getD onePoints label origin ⌝ }
 {
     match label {
-        0 => Spot { x: 1, y: 1 },
-        _ => Spot { x: -1, y: -1 }, // 1
+        0 => Point { x: 1, y: 1 },
+        _ => Point { x: -1, y: -1 }, // 1
     }
 }
 
 // b = 2: X is (v1 1), Y is (v0 1).
-fn two_bits(label: usize) -> Spot
+fn two_bits(label: usize) -> Point
     requires { ⌜ label < 4 ⌝ }
     ensures { λ r. ⌜ point (r .x) (r .y) ≡ evenPoint (lowestBits 2 label) ⌝ }
 {
     match label {
-        0 => Spot { x: 1, y: 1 },
-        1 => Spot { x: 1, y: -1 },
-        2 => Spot { x: -1, y: 1 },
-        _ => Spot { x: -1, y: -1 }, // 3
+        0 => Point { x: 1, y: 1 },
+        1 => Point { x: 1, y: -1 },
+        2 => Point { x: -1, y: 1 },
+        _ => Point { x: -1, y: -1 }, // 3
     }
 }
 
 // b = 3, labels 0 to 7.
-fn three_bits(label: usize) -> Spot
+fn three_bits(label: usize) -> Point
     requires { ⌜ label < 8 ⌝ }
     ensures { λ r. ⌜ point (r .x) (r .y) ≡ getD threePoints label origin ⌝ }
 {
     match label {
-        0 => Spot { x: 1, y: 1 },
-        1 => Spot { x: 1, y: -1 },
-        2 => Spot { x: -1, y: 1 },
-        3 => Spot { x: -1, y: -1 },
-        4 => Spot { x: -3, y: 1 },
-        5 => Spot { x: 1, y: 3 },
-        6 => Spot { x: -1, y: -3 },
-        _ => Spot { x: 3, y: -1 }, // 7
+        0 => Point { x: 1, y: 1 },
+        1 => Point { x: 1, y: -1 },
+        2 => Point { x: -1, y: 1 },
+        3 => Point { x: -1, y: -1 },
+        4 => Point { x: -3, y: 1 },
+        5 => Point { x: 1, y: 3 },
+        6 => Point { x: -1, y: -3 },
+        _ => Point { x: 3, y: -1 }, // 7
     }
 }
 
@@ -86,13 +86,13 @@ fn coordinate(c: u16, d: u16, v: u16) -> i16
 }
 
 // b = 5: X is (Xc Xd v1 1), Y is (Yc Yd v0 1).
-fn five_bits(label: usize) -> Spot
+fn five_bits(label: usize) -> Point
     requires { ⌜ label < 32 ⌝ }
     ensures { λ r. ⌜ point (r .x) (r .y) ≡ oddPoint 5 (lowestBits 5 label) ⌝ }
 {
     let top = table_10_3(label);
     let v = label as u16;
-    Spot {
+    Point {
         x: coordinate(top / 8, top / 4 % 2, v / 2 % 2),
         y: coordinate(top / 2 % 2, top % 2, v % 2),
     }
@@ -109,7 +109,7 @@ pub fn smallest(b: u8) -> bool
 }
 
 // The point of a label of the smallest constellations. Called by proved code only.
-pub fn small_point(b: u8, label: usize) -> Spot
+pub fn small_point(b: u8, label: usize) -> Point
     requires { ⌜ (isSmallest b ≡ true) × (label < 2 ^ b) ⌝ }
     ensures { λ r. ⌜ point (r .x) (r .y) ≡ smallPoint b label ⌝ }
 {

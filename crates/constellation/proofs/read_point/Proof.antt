@@ -2,12 +2,12 @@
 use native.Mathlib.Omega.{arith}
 use mathlib.Core.Bool.{true, false}
 use mathlib.Core.Path.{_≡_, sym, ap, _∙_}
-use borrow.Author.Tests.{lt-ltb, le-ltb}
 use mir.Syntax.{w16}
 use mir.ValLaws.{toZ-ofZ}
 use Rattle.g9932.specs.Sizes.{point}
 use Rattle.g9932.specs.Points.{labelOf, isLabel}
-use Rattle.g9932.specs.Answers.{readPoint, toneDone}
+use Rattle.g9932.specs.Answers.{toneDone}
+use Rattle.g9932.proofs.OneTone.{read-below, read-above, read-counted}
 use Rattle.constellation.specs.Reading.{FoundLabelIs}
 use Rattle.constellation.proofs.Reading.{label-found, label-none}
 use borrow.Author.Needs.{needs}
@@ -20,29 +20,23 @@ sought c =
     rw (toZ-ofZ w16 (s .args .x) (s .fits .x), toZ-ofZ w16 (s .args .y) (s .fits .y)) at (c .label-of .ensures)
 
 returns : tie.Need-returns
-unfolding readPoint
-returns c = rw (lt-ltb (c .before .args .bits) 1 (c .if1 .taken))
+returns c = let a = c .before .args in sym (read-below (a .bits) (point (a .x) (a .y)) (c .if1 .taken))
 
 returns-2 : tie.Need-returns-2
-unfolding readPoint
-returns-2 c =
-    let b = c .before .before .args .bits in
-    rw (le-ltb b 1 (c .before .if1 .left), lt-ltb 15 b (c .if2 .taken))
+returns-2 c = let a = c .before .before .args in sym (read-above (a .bits) (point (a .x) (a .y)) (c .if2 .taken))
 
 returns-3 : tie.Need-returns-3
-unfolding readPoint
 returns-3 c =
     let a = c .before .before .before .before .args in
     let r = sought (c .before) in
     let e : isLabel (labelOf (a .bits) (point (a .x) (a .y))) ≡ true = sym (r .found) ∙ c .if3 .taken in
-    rw (le-ltb (a .bits) 1 (omega arith), le-ltb 15 (a .bits) (omega arith), label-found (labelOf (a .bits) (point (a .x) (a .y))) e) (ap toneDone (r .label e))
+    rw (read-counted (a .bits) (point (a .x) (a .y)) (omega arith) (omega arith), label-found (labelOf (a .bits) (point (a .x) (a .y))) e) (ap toneDone (r .label e))
 
 returns-4 : tie.Need-returns-4
-unfolding readPoint
 returns-4 c =
     let a = c .before .before .before .before .args in
     let e : isLabel (labelOf (a .bits) (point (a .x) (a .y))) ≡ false = sym (sought (c .before) .found) ∙ c .if3 .left in
-    rw (le-ltb (a .bits) 1 (omega arith), le-ltb 15 (a .bits) (omega arith), label-none (labelOf (a .bits) (point (a .x) (a .y))) e)
+    rw (read-counted (a .bits) (point (a .x) (a .y)) (omega arith) (omega arith), label-none (labelOf (a .bits) (point (a .x) (a .y))) e)
 
 pub read-point-spec : {M : Type 1} → statement M
 read-point-spec = tie.close (tie.spec returns returns-2 (λ c κs. search needs) returns-3 returns-4)

@@ -2,27 +2,22 @@
 use mathlib.Core.Path.{_≡_, sym, _∙_, subst}
 use native.Mathlib.Omega.{arith}
 use borrow.Author.Needs.{needs}
-use borrow.Author.Tests.{lt-ltb, le-ltb}
 use mir.Syntax.{w16}
 use mir.ValLaws.{toZ-ofZ}
-use Rattle.g9932.specs.Answers.{readPoint}
 use Rattle.g9932.specs.Plain.{plainLabel}
 use Rattle.g9932.specs.Sizes.{point}
 use Rattle.g9932.specs.declared.Found.the-variants.{At, Nothing}
+use Rattle.g9932.proofs.OneTone.{read-below, read-above}
 use Rattle.plain_mapper.specs.Bounds.{Below}
 use Rattle.plain_mapper.proofs.Steps.{label-below, read-as}
 use Rattle.plain_mapper.proofs.read_point.Statement.{statement}
 use Rattle.plain_mapper.proofs.read_point.Tie as tie
 
 returns : tie.Need-returns
-unfolding readPoint
-returns c = rw (lt-ltb (c .before .args .bits) 1 (c .if1 .taken))
+returns c = let a = c .before .args in sym (read-below (a .bits) (point (a .x) (a .y)) (c .if1 .taken))
 
 returns-2 : tie.Need-returns-2
-unfolding readPoint
-returns-2 c =
-    let b = c .before .before .args .bits in
-    rw (le-ltb b 1 (c .before .if1 .left), lt-ltb 15 b (c .if2 .taken))
+returns-2 c = let a = c .before .before .args in sym (read-above (a .bits) (point (a .x) (a .y)) (c .if2 .taken))
 
 -- what was found is the plain rule's label
 found-is : (c : tie.After-plain-label)
