@@ -12,3 +12,4 @@ pub mod Origin
 pub mod Spread
 pub mod TopBits
 pub mod DemapByLayout
+pub mod StoredPoints

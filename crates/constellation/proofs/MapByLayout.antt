@@ -1,28 +1,24 @@
 -- The steps of `point_by`: a label lifted to the top of sixteen bits, its word there, and the bits of X and Y scaled back.
 use Prim.Native.Nat.{ℕ, zero, suc, _+_, _-_, _*_, _/_, _%_, _^_, _≤_, _<_}
-use mathlib.Core.Bool.{Bool, true, false, cond}
+use mathlib.Core.Bool.{Bool}
 use mathlib.Core.List.{List, _++_, map}
 use mathlib.Core.Path.{_≡_, refl, sym, ap, ap₂, _∙_}
-use native.Mathlib.Nat.{mul-zero, mul-one, mul-comm, mul-assoc, add-mul, add-comm, mul-le-mul-left, mul-le-mul-right, mod-lt, pow-suc}
+use native.Mathlib.Nat.{mul-zero, mul-comm, mul-assoc, add-mul, add-comm, mul-lt-mul-of-pos-right, lt-of-lt-of-le, mod-lt}
 use native.Mathlib.Omega.{arith}
-use borrow.Author.Tests.{ne-eqb}
-use lib.Arith.{digits-lt}
-use lib.Bits.{bitAnd, and-le-l}
-use lib.Dec.{eqb, ltb}
+use lib.Bits.{bitAnd}
 use lib.ListN.{length}
 use lib.Pow.{pow-pos, pow-mono, pow-add, shr-shr, shl-shr, shr-le, split, high, field}
-use Rattle.g9932.specs.Bits.{weight, num, odd, bits, first}
-use Rattle.g9932.specs.Points.{evens, pointOf}
-use Rattle.g9932.specs.Sizes.{point, origin}
-use Rattle.g9932.specs.declared.Found.the-variants.{At}
+use Rattle.g9932.specs.Bits.{weight, num, odd, bits}
+use Rattle.g9932.specs.Points.{evens}
+use Rattle.g9932.specs.Sizes.{point}
 use Rattle.g9932.proofs.Words.{half-weight}
-use Rattle.constellation.specs.Widened.{plainPairs, mappingLabel, topFive, topFour, widenedLabel, xBits, yBits, signWeight, coordinateOf}
-use Rattle.constellation.specs.Layouts.{lower, upper, layoutOf, silentLayout}
-use Rattle.constellation.specs.MapByLayout.{Mappable, label, silent, MapsTo, Liftable, pairs, none, pairsPoint, layoutPoint, liftedLabel, widenedLifted, scaledCoordinate}
+use Rattle.constellation.specs.Widened.{plainPairs, topFive, topFour, widenedLabel, labelWord, xBits, yBits, signWeight, coordinateOf}
+use Rattle.constellation.specs.Layouts.{lower, upper}
+use Rattle.constellation.specs.MapByLayout.{Mappable, label, silent, MapsByRule, liftedLabel, widenedLifted, scaledCoordinate}
 use Rattle.constellation.proofs.Lanes.{Slot, full, worth, gaps, gaps-worth, full-worth, bits-held, masked, squeeze, squeezed, mask-held, squeeze-held, OfBits, of-bits, twice}
 use Rattle.constellation.proofs.Layouts.{holds, square}
 use Rattle.constellation.proofs.Mapping.{point-word}
-use Rattle.constellation.proofs.Sizes.{evens-long, evens-more, evens-lt, odds-evens, label-lt}
+use Rattle.constellation.proofs.Sizes.{evens-long, evens-more, evens-lt, odds-evens, large-word}
 
 -- ---- every other bit of a word
 
@@ -85,26 +81,17 @@ fewer-x k w h s =
 
 -- ---- a label at the top of sixteen bits
 
--- what stands below it
-abbrev below : ℕ → ℕ → ℕ
-below p l = (3 - l % 4) * 2 ^ p / 2
-
-below-lt : (p l : ℕ) → below p l < 2 ^ suc p
-below-lt p l =
-    let most : (3 - l % 4) * 2 ^ p ≤ 3 * 2 ^ p = mul-le-mul-right (2 ^ p) (omega arith) in
-    omega (arith, pow-pos p, pow-suc 2 p)
-
--- one number above another
-lifted-form : (p l : ℕ) → liftedLabel (2 ^ p) l ≡ l * 2 ^ suc p + below p l
-lifted-form p l = rw (twice l p)
+-- one number above zeros
+lifted-form : (p l : ℕ) → liftedLabel (2 ^ p) l ≡ l * 2 ^ suc p
+lifted-form p l = sym (twice l p)
 
 lifted-high : (p l : ℕ) → liftedLabel (2 ^ p) l / 2 ^ suc p ≡ l
-lifted-high p l = rw (lifted-form p l) (high l (suc p) (below-lt p l))
+lifted-high p l = rw (lifted-form p l) (shl-shr l (suc p))
 
-lifted-five : (k l : ℕ) → k ≤ 6 → liftedLabel (2 ^ (12 - 2 * k)) l / 2048 ≡ topFive k l
+lifted-five : (k l : ℕ) → 1 ≤ k → k ≤ 6 → liftedLabel (2 ^ (12 - 2 * k)) l / 2048 ≡ topFive k l
 unfolding topFive
-lifted-five zero l h = omega arith
-lifted-five (suc j) l h =
+lifted-five zero l o h = absurd (omega arith)
+lifted-five (suc j) l o h =
     let p = 12 - 2 * suc j in
     let n : suc p + 2 * j ≡ 11 = omega arith in
     sym (rw (lifted-high p l, n) at (shr-shr (liftedLabel (2 ^ p) l) (suc p) (2 * j)))
@@ -120,7 +107,7 @@ module _ (k l : ℕ) (h : k ≤ 6) where
   lifted-lt s =
       let n : 2 * k + 3 + suc p ≡ 16 = omega arith in
       let e : 2 ^ (2 * k + 3) * 2 ^ suc p ≡ 65536 = sym (pow-add 2 (2 * k + 3) (suc p)) ∙ ap (λ (m : ℕ). 2 ^ m) n in
-      rw (lifted-form p l, ← e) (digits-lt s (below-lt p l))
+      rw (lifted-form p l, ← e) (mul-lt-mul-of-pos-right s (pow-pos (suc p)))
 
   lifted-low : liftedLabel (2 ^ p) l / 2 % 4096 / 2 ^ p ≡ l % 2 ^ (2 * k)
   lifted-low =
@@ -129,128 +116,59 @@ module _ (k l : ℕ) (h : k ≤ 6) where
       rw (twelve, e) at (field (liftedLabel (2 ^ p) l / 2) (2 * k) p)
 
   -- the word of the label stands at the top
-  widened-lifted-high : widenedLifted (liftedLabel (2 ^ p) l) / 2 ^ p ≡ widenedLabel k l
+  widened-lifted-high : 1 ≤ k → widenedLifted (liftedLabel (2 ^ p) l) / 2 ^ p ≡ widenedLabel k l
   unfolding widenedLabel
-  widened-lifted-high =
+  widened-lifted-high o =
       let t = topFour (topFive k l) in
       let r = liftedLabel (2 ^ p) l / 2 % 4096 in
       let e : t * 2 ^ (2 * k) * 2 ^ p ≡ 4096 * t = mul-assoc t (2 ^ (2 * k)) (2 ^ p) ∙ ap (λ (n : ℕ). t * n) (sym (pow-add 2 (2 * k) p) ∙ ap (λ (n : ℕ). 2 ^ n) twelve) ∙ mul-comm t 4096 in
       let a : 4096 * t + r ≡ (t * 2 ^ (2 * k) + l % 2 ^ (2 * k)) * 2 ^ p + r % 2 ^ p =
       rw (add-mul (t * 2 ^ (2 * k)) (l % 2 ^ (2 * k)) (2 ^ p), e, ← lifted-low) (omega (arith, split r p)) in
-      rw (lifted-five k l h, a) (high (t * 2 ^ (2 * k) + l % 2 ^ (2 * k)) p (mod-lt r (pow-pos p)))
+      rw (lifted-five k l o h, a) (high (t * 2 ^ (2 * k) + l % 2 ^ (2 * k)) p (mod-lt r (pow-pos p)))
 
 -- ---- every tone
+
+-- a label has three bits above k pairs, whose powers the layout holds
+pub record Liftable (s l : ℕ) : Type 0 where
+  pub pairs : ℕ
+  pub few : pairs ≤ 6
+  pub lowerIs : lower s ≡ 2 ^ (6 - pairs)
+  pub upperIs : upper s ≡ 2 ^ pairs
+  pub small : l < 2 ^ (2 * pairs + 3)
+
+pub liftable : (s l : ℕ) → Mappable s l → Liftable s l
+liftable s l (label b h k e i) =
+    record {
+      pairs = plainPairs b;
+      few = omega arith;
+      lowerIs = rw e (holds b h k .lowerIs);
+      upperIs = rw e (holds b h k .upperIs);
+      small = lt-of-lt-of-le i (pow-mono {i = b} {j = 2 * plainPairs b + 3} (omega arith));
+    }
+liftable s l (silent e i) = record { pairs = 0; few = omega arith; lowerIs = rw e refl; upperIs = rw e refl; small = omega arith }
 
 lower-square : (k : ℕ) → k ≤ 6 → 2 ^ (6 - k) * 2 ^ (6 - k) ≡ 2 ^ (12 - 2 * k)
 lower-square k h = let n : 2 * (6 - k) ≡ 12 - 2 * k = omega arith in square (6 - k) ∙ ap (λ (m : ℕ). 2 ^ m) n
 
-pub liftable-label : (s l : ℕ) → Liftable s l → (lower s ≤ 64) × (liftedLabel (lower s * lower s) l < 65536)
-liftable-label s l (pairs k h c m i) =
-    let small : 2 ^ (6 - k) ≤ 2 ^ 6 = pow-mono {i = 6 - k} {j = 6} (omega arith) in
-    rw (c, lower-square k h) (small, lifted-lt k l h i)
-liftable-label s l (none c m) = rw c (omega arith, omega arith)
+module _ {s l : ℕ} (t : Liftable s l) where
+  pub liftable-label : (lower s ≤ 64) × (liftedLabel (lower s * lower s) l < 65536)
+  liftable-label =
+      let small : 2 ^ (6 - t .pairs) ≤ 2 ^ 6 = pow-mono {i = 6 - t .pairs} {j = 6} (omega arith) in
+      rw (t .lowerIs, lower-square (t .pairs) (t .few)) (small, lifted-lt (t .pairs) l (t .few) (t .small))
 
-pub liftable-upper : (s l : ℕ) → Liftable s l → upper s ≤ 64
-liftable-upper s l (pairs k h c m i) = rw m (pow-mono {i = k} {j = 6} h)
-liftable-upper s l (none c m) = rw m (omega arith)
+  pub liftable-upper : (1 ≤ upper s) × (upper s ≤ 64)
+  liftable-upper = rw (t .upperIs) (pow-pos (t .pairs), pow-mono {i = t .pairs} {j = 6} (t .few))
 
-pairs-found : (k : ℕ) → k ≤ 6 → first (λ j. eqb (2 ^ j) (2 ^ k)) 7 ≡ At k
-unfolding first
-pairs-found zero h = refl
-pairs-found (suc zero) h = refl
-pairs-found (suc (suc zero)) h = refl
-pairs-found (suc (suc (suc zero))) h = refl
-pairs-found (suc (suc (suc (suc zero)))) h = refl
-pairs-found (suc (suc (suc (suc (suc zero))))) h = refl
-pairs-found (suc (suc (suc (suc (suc (suc zero)))))) h = refl
-pairs-found (suc (suc (suc (suc (suc (suc (suc k))))))) h = absurd (omega arith)
-
-pairs-point : (s l k : ℕ) → k ≤ 6 → upper s ≡ 2 ^ k → layoutPoint s l ≡ pairsPoint k l
-unfolding layoutPoint
-pairs-point s l k h m = rw (m, pairs-found k h)
-
-silent-point : (s l : ℕ) → upper s ≡ 0 → layoutPoint s l ≡ origin
-unfolding layoutPoint first
-silent-point s l m = rw m
-
-scaled-pow : (k e : ℕ) → scaledCoordinate (2 ^ k) e ≡ coordinateOf (signWeight k) (e * 2 ^ k / 64)
-scaled-pow k e = rw (ne-eqb (2 ^ k) 0 (λ z. absurd (omega (arith, z, pow-pos k))))
-
--- The point that the code makes of a layout and a mapping label.
-pub liftable-point : (s l w : ℕ) → Liftable s l → w < 65536 → w ≡ widenedLifted (liftedLabel (lower s * lower s) l)
-    → point (scaledCoordinate (upper s) (yBits (w / 2))) (scaledCoordinate (upper s) (yBits w)) ≡ layoutPoint s l
-liftable-point s l w (pairs k h c m i) n e =
-    let lifted : w ≡ widenedLifted (liftedLabel (2 ^ (12 - 2 * k)) l) = e ∙ ap (λ (v : ℕ). widenedLifted (liftedLabel v l)) (ap₂ (λ (a b : ℕ). a * b) c c ∙ lower-square k h) in
-    let word : w / 2 ^ (12 - 2 * k) ≡ widenedLabel k l = ap (λ (v : ℕ). v / 2 ^ (12 - 2 * k)) lifted ∙ widened-lifted-high k l h in
-    let x = ap (λ (v : ℕ). v * 2 ^ k / 64) (x-bits w n) ∙ sym (fewer-x k w h n) ∙ ap (λ (v : ℕ). xBits v) word in
-    let y = sym (fewer-y k w h n) ∙ ap (λ (v : ℕ). yBits v) word in
-    rw (m, scaled-pow k (yBits (w / 2)), scaled-pow k (yBits w)) (ap₂ point (ap (coordinateOf (signWeight k)) x) (ap (coordinateOf (signWeight k)) y) ∙ sym (pairs-point s l k h m))
-liftable-point s l w (none c m) n e = rw (m, silent-point s l m)
-
--- ---- a label's own layout
-
--- 0 for a silent tone; the label where it is not silent; the mapping label
-abbrev notSilent : ℕ → ℕ
-notSilent s = 1 - bitAnd (s / 32768) (s / 128 % 2)
-
-abbrev own : ℕ → ℕ → ℕ
-own s l = l * notSilent s
-
-abbrev mapping : ℕ → ℕ → ℕ
-mapping s l = own s l + 2 * (s / 32768 * own s l)
-
-module _ (b : ℕ) (h : 1 ≤ b) (k : b ≤ 15) where
-  not-silent : notSilent (layoutOf b) ≡ 1
-  not-silent = ap (λ (n : ℕ). 1 - n) (holds b h k .notSilent)
-
-  one-label : (l : ℕ) → mapping (layoutOf b) l ≡ mappingLabel b l
-  one-label l = rw (not-silent, holds b h k .one, mul-one) (by (ltb b 2))
-    where
-      by : (c : Bool) → l + 2 * (cond c 1 0 * l) ≡ cond c (3 * l) l
-      by true = omega arith
-      by false = omega arith
-
-  module _ (l : ℕ) (s : l < 2 ^ b) where
-    label-liftable : Liftable (layoutOf b * notSilent (layoutOf b)) (mapping (layoutOf b) l)
-    label-liftable = rw (one-label l, not-silent, mul-one) (pairs (plainPairs b) (omega arith) (holds b h k .lowerIs) (holds b h k .upperIs) (label-lt b l h s))
-
-    label-small : mapping (layoutOf b) l < 65536
-    label-small =
-        let most : 2 ^ (2 * plainPairs b + 3) ≤ 2 ^ 15 = pow-mono {i = 2 * plainPairs b + 3} {j = 15} (omega arith) in
-        rw (one-label l) (omega (arith, label-lt b l h s))
-
-    label-point : layoutPoint (layoutOf b * notSilent (layoutOf b)) (mapping (layoutOf b) l) ≡ pointOf b (bits b l)
-    label-point =
-        rw (one-label l, not-silent, mul-one)
-        (pairs-point (layoutOf b) (mappingLabel b l) (plainPairs b) (omega arith) (holds b h k .upperIs) ∙ sym (point-word b l h k s))
-
--- no product of the steps is too large
-pub record StepsFit (s l : ℕ) : Type 0 where
-  pub both : bitAnd (s / 32768) (s / 128 % 2) ≤ 1
-  pub ownFits : own s l < 65536
-  pub mappingFits : mapping s l < 65536
-  pub layoutFits : s * notSilent s < 65536
-  pub liftable : Liftable (s * notSilent s) (mapping s l)
-
-pub mappable-fits : (s l : ℕ) → s < 65536 → l < 65536 → Mappable s l → StepsFit s l
-mappable-fits s l h k m =
-    let a : l * notSilent s ≤ l * 1 = mul-le-mul-left l (omega arith) in
-    let b : s * notSilent s ≤ s * 1 = mul-le-mul-left s (omega arith) in
-    record {
-      both = omega (arith, and-le-l (s / 32768) (s / 128 % 2));
-      ownFits = omega arith;
-      mappingFits = of m .0;
-      layoutFits = omega arith;
-      liftable = of m .1;
-    }
-  where
-    of : Mappable s l → (mapping s l < 65536) × Liftable (s * notSilent s) (mapping s l)
-    of (label b f t e i) = rw e (label-small b f t l i, label-liftable b f t l i)
-    of (silent e) = rw e (omega arith, none refl refl)
-
-pub maps-to : (s l : ℕ) → MapsTo s l (layoutPoint (s * notSilent s) (mapping s l))
-maps-to s l =
-    record {
-      tone = λ b h k e i. rw e (label-point b h k l i);
-      silent = λ e. rw e (silent-point 0 (mapping silentLayout l) refl);
-    }
+-- The point that the code makes of a layout and a label of 9 bits or more.
+pub maps-by-rule : (s l w : ℕ) → w < 65536 → w ≡ widenedLifted (liftedLabel (lower s * lower s) l)
+    → MapsByRule s l (point (scaledCoordinate (upper s) (yBits (w / 2))) (scaledCoordinate (upper s) (yBits w)))
+maps-by-rule s l w n e b h i o z =
+    let k = plainPairs b in
+    let few : k ≤ 6 = omega arith in
+    let c : lower s ≡ 2 ^ (6 - k) = rw o (holds b (omega arith) i .lowerIs) in
+    let m : upper s ≡ 2 ^ k = rw o (holds b (omega arith) i .upperIs) in
+    let lifted : w ≡ widenedLifted (liftedLabel (2 ^ (12 - 2 * k)) l) = e ∙ ap (λ (v : ℕ). widenedLifted (liftedLabel v l)) (ap₂ (λ (a b : ℕ). a * b) c c ∙ lower-square k few) in
+    let word : w / 2 ^ (12 - 2 * k) ≡ labelWord b l = ap (λ (v : ℕ). v / 2 ^ (12 - 2 * k)) lifted ∙ widened-lifted-high k l few (omega arith) ∙ sym (large-word b l (omega arith)) in
+    let x = ap (λ (v : ℕ). v * 2 ^ k / 64) (x-bits w n) ∙ sym (fewer-x k w few n) ∙ ap (λ (v : ℕ). xBits v) word in
+    let y = sym (fewer-y k w few n) ∙ ap (λ (v : ℕ). yBits v) word in
+    rw m (ap₂ point (ap (coordinateOf (signWeight k)) x) (ap (coordinateOf (signWeight k)) y) ∙ sym (point-word b l (omega arith) i z))

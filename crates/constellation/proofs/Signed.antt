@@ -2,13 +2,13 @@
 use Prim.Native.Nat.{ℕ, zero, suc, _+_, _-_, _*_, _/_, _%_, _^_, _≤_, _<_}
 use mathlib.Core.Bool.{Bool, true, false, cond}
 use mathlib.Core.Path.{_≡_, refl, sym, ap, _∙_}
-use native.Mathlib.Nat.{pow-suc, mul-zero, mul-le-mul, mul-assoc, div-add-mod, add-mul-mod-self-right}
+use native.Mathlib.Nat.{pow-suc, mul-le-mul, mul-assoc, div-add-mod, add-mul-mod-self-right}
 use native.Mathlib.Omega.{arith}
 use borrow.Author.Tests.{le-ltb, ltb-true, ltb-false, ne-eqb, eqb-true, eqb-false, eq-eqb}
 use lib.Arith.{digits-mod}
 use lib.Bits.{bitAnd, and-mask}
 use lib.Dec.{T, eqb, ltb}
-use lib.IntN.{ℤ, pos, negsuc, natAbs, subℕ, _+ℤ_, _-ℤ_, +ℤ-assoc, +ℤ-negℤ-cancel}
+use lib.IntN.{ℤ, pos, negsuc, natAbs, subℕ, one, _+ℤ_, _-ℤ_, _*ℤ_, +ℤ-assoc, +ℤ-idl, +ℤ-idr, +ℤ-negℤ-cancel, *ℤ-one, *ℤ-zero}
 use lib.Pow.{pow-add}
 use lib.Signed.{mag, nonNeg}
 use mir.Syntax.{w16, w32}
@@ -38,32 +38,82 @@ pub coordinate-law : (h e : ℕ) → 1 ≤ h → h ≤ 256 → e < 256 → (toZ 
 coordinate-law h e o p q =
     (rw (toZ-pos w16 (2 * e + 1) (omega arith), toZ-pos w16 h (omega arith)) (sub-pos (2 * e + 1) h o), record { sfits = coordinate-mag h e p q })
 
--- ---- a coordinate of scaled bits; the one below them is 0 where the tone is silent
+-- ---- a coordinate of scaled bits
 
 scaled-lt : (m e : ℕ) → e < 256 → m ≤ 64 → e * m ≤ 16320
 scaled-lt m e p q = mul-le-mul {n₁ = e} {m₁ = m} {n₂ = 255} {m₂ = 64} (omega arith) q
 
-pub record ScaledIs (m e one : ℕ) : Type 0 where
+pub record ScaledIs (m e : ℕ) : Type 0 where
   pub product : e * m ≤ 16320
-  pub small : one ≤ 1
-  pub is : toZ w16 (2 * (e * m / 64) + one) -ℤ toZ w16 (4 * m) ≡ scaledCoordinate m e
+  pub is : toZ w16 (2 * (e * m / 64) + 1) -ℤ toZ w16 (4 * m) ≡ scaledCoordinate m e
   pub fits : SFits w16 (scaledCoordinate m e)
 
-pub scaled-silent : (m e one : ℕ) → m ≡ 0 → one ≡ 0 → ScaledIs m e one
-scaled-silent m e one z o =
-    record {
-      product = rw (z, mul-zero e) (omega arith);
-      small = omega arith;
-      is = rw (z, o, mul-zero e) refl;
-      fits = rw z (record { sfits = omega arith });
-    }
-
-pub scaled-tone : (m e one : ℕ) → (m ≡ 0 → ⊥) → m ≤ 64 → e < 256 → one ≡ 1 → ScaledIs m e one
-scaled-tone m e one h p q o =
+pub scaled-law : (m e : ℕ) → 1 ≤ m → m ≤ 64 → e < 256 → ScaledIs m e
+scaled-law m e h p q =
     let n = scaled-lt m e q p in
     let r = coordinate-law (4 * m) (e * m / 64) (omega arith) (omega arith) (omega arith) in
-    let z = ne-eqb m 0 h in
-    record { product = n; small = omega arith; is = rw (o, z) (r .0); fits = rw z (r .1) }
+    record { product = n; is = r .0; fits = r .1 }
+
+-- ---- a coordinate of a stored byte
+
+pub byte-law : (e : ℕ) → e < 256 → (toZ w16 e -ℤ pos 16 ≡ subℕ e 16) × SFits w16 (subℕ e 16)
+byte-law e h = (rw (toZ-pos w16 e (omega arith)) refl, record { sfits = go (ltb e 16) })
+  where
+    go : (c : Bool) → mag (cond c (negsuc (16 - suc e)) (pos (e - 16))) < 32768
+    go true = omega arith
+    go false = omega arith
+
+-- ---- one of two coordinates, by products with 1 and 0
+
+-- what the code's width leaves of a number
+abbrev held : ℤ → ℤ
+held z = toZ w16 (ofZ w16 z)
+
+abbrev first-part : ℤ → ℕ → ℤ
+first-part a n = held a *ℤ toZ w16 n
+
+abbrev other-part : ℤ → ℕ → ℤ
+other-part b n = held b *ℤ held (pos 1 -ℤ toZ w16 n)
+
+pub record OneOf (first : Bool) (a b : ℤ) (n : ℕ) : Type 0 where
+  pub firstFits : SFits w16 (first-part a n)
+  pub restFits : SFits w16 (pos 1 -ℤ toZ w16 n)
+  pub otherFits : SFits w16 (other-part b n)
+  pub sumFits : SFits w16 (held (first-part a n) +ℤ held (other-part b n))
+  pub is : held (held (first-part a n) +ℤ held (other-part b n)) ≡ cond first a b
+
+module _ (a b : ℤ) (f : SFits w16 a) (g : SFits w16 b) where
+  a-held : held a ≡ a
+  a-held = toZ-ofZ w16 a f
+
+  b-held : held b ≡ b
+  b-held = toZ-ofZ w16 b g
+
+  pub first-one : OneOf true a b 1
+  unfolding one
+  first-one =
+      let p : first-part a 1 ≡ a = rw a-held (*ℤ-one a) in
+      let q : other-part b 1 ≡ pos 0 = *ℤ-zero (held b) in
+      record {
+        firstFits = rw p f;
+        restFits = record { sfits = omega arith };
+        otherFits = rw q (record { sfits = omega arith });
+        sumFits = rw (p, q, a-held, +ℤ-idr a) f;
+        is = rw (p, q, a-held, +ℤ-idr a, a-held);
+      }
+
+  pub other-one : OneOf false a b 0
+  unfolding one
+  other-one =
+      let p : first-part a 0 ≡ pos 0 = *ℤ-zero (held a) in
+      let q : other-part b 0 ≡ b = rw b-held (*ℤ-one b) in
+      record {
+        firstFits = rw p (record { sfits = omega arith });
+        restFits = record { sfits = omega arith };
+        otherFits = rw q g;
+        sumFits = rw (p, q, b-held, +ℤ-idl b) g;
+        is = rw (p, q, b-held, +ℤ-idl b, b-held);
+      }
 
 -- ---- the bits of a coordinate
 

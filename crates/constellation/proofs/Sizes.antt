@@ -4,7 +4,7 @@ use mathlib.Core.Bool.{Bool, true, false, cond}
 use mathlib.Core.Path.{_≡_, refl}
 use native.Mathlib.Nat.{pow-suc, zero-add, suc-add, lt-of-lt-of-le, mod-lt}
 use native.Mathlib.Omega.{arith}
-use borrow.Author.Tests.{leb-false, ltb-true, ltb-false}
+use borrow.Author.Tests.{leb-false, ltb-true, ltb-false, le-ltb}
 use lib.Arith.{digits-lt}
 use lib.Dec.{ltb, leb}
 use lib.Pow.{pow-pos, pow-mono, pow-add, shr-lt}
@@ -101,6 +101,10 @@ bits-lt k w h s =
 
 pub word-lt : (b l : ℕ) → 1 ≤ b → l < 2 ^ b → labelWord b l < 2 ^ (4 + 2 * plainPairs b)
 word-lt b l h k = widened-lt (plainPairs b) (mappingLabel b l) (label-lt b l h k)
+
+-- from 2 bits on a label is its own mapping label
+pub large-word : (b l : ℕ) → 2 ≤ b → labelWord b l ≡ widenedLabel (plainPairs b) l
+large-word b l h = rw (le-ltb b 2 h)
 
 pub word-16 : (k w : ℕ) → k ≤ 6 → w < 2 ^ (4 + 2 * k) → w < 65536
 word-16 k w h s = lt-of-lt-of-le s (pow-mono {i = 4 + 2 * k} {j = 16} (omega arith))

@@ -3,3 +3,4 @@ pub mod Reading
 pub mod Layouts
 pub mod MapByLayout
 pub mod DemapByLayout
+pub mod Stored

@@ -1,49 +1,32 @@
 -- The point of a label by a layout (specs/Layouts), and the steps to it.
-use Prim.Native.Nat.{ℕ, _+_, _-_, _*_, _/_, _%_, _^_, _≤_, _<_}
-use mathlib.Core.Bool.{cond}
+use Prim.Native.Nat.{ℕ, _+_, _*_, _/_, _%_, _^_, _≤_, _<_}
 use mathlib.Core.Path.{_≡_}
-use lib.Dec.{eqb}
-use lib.IntN.{ℤ, pos}
-use Rattle.g9932.specs.Bits.{bits, first}
+use lib.IntN.{ℤ}
+use Rattle.g9932.specs.Bits.{bits}
 use Rattle.g9932.specs.Points.{pointOf}
-use Rattle.g9932.specs.Sizes.{Point, point, origin}
-use Rattle.g9932.specs.declared.Found.{Found}
-use Rattle.g9932.specs.declared.Found.the-variants.{At, Nothing}
-use Rattle.constellation.specs.Layouts.{lower, upper, layoutOf, silentLayout}
-use Rattle.constellation.specs.Widened.{topFour, widenedLabel, xBits, yBits, signWeight, coordinateOf}
+use Rattle.g9932.specs.Sizes.{Point, origin}
+use Rattle.constellation.specs.Layouts.{layoutOf, silentLayout}
+use Rattle.constellation.specs.Widened.{topFour, coordinateOf}
 
--- the label goes with the layout
+-- the label goes with the layout; a silent tone's is two drawn bits, which do not count
 pub data Mappable (s l : ℕ) : Type 0 where
   label : (b : ℕ) → 1 ≤ b → b ≤ 15 → s ≡ layoutOf b → l < 2 ^ b → Mappable s l
-  silent : s ≡ silentLayout → Mappable s l
+  silent : s ≡ silentLayout → l < 4 → Mappable s l
 
 -- the point of a label, by the layout of b bits; a silent tone's is the origin
 pub record MapsTo (s l : ℕ) (p : Point) : Type 0 where
   pub tone : (b : ℕ) → 1 ≤ b → b ≤ 15 → s ≡ layoutOf b → l < 2 ^ b → p ≡ pointOf b (bits b l)
   pub silent : s ≡ silentLayout → p ≡ origin
 
--- ---- the steps of the code: a mapping label, with the layout, or with 0 for a silent tone
+-- the same from 9 bits on, where the table has no points
+abbrev pub MapsByRule : ℕ → ℕ → Point → Type 0
+MapsByRule s l p = (b : ℕ) → 9 ≤ b → b ≤ 15 → s ≡ layoutOf b → l < 2 ^ b → p ≡ pointOf b (bits b l)
 
--- the label has three bits above k pairs, or the tone is silent
-pub data Liftable (s l : ℕ) : Type 0 where
-  pairs : (k : ℕ) → k ≤ 6 → lower s ≡ 2 ^ (6 - k) → upper s ≡ 2 ^ k → l < 2 ^ (2 * k + 3) → Liftable s l
-  none : lower s ≡ 0 → upper s ≡ 0 → Liftable s l
+-- ---- the steps of the code
 
--- the point of a label with k pairs
-abbrev pub pairsPoint : ℕ → ℕ → Point
-pairsPoint k l = point (coordinateOf (signWeight k) (xBits (widenedLabel k l))) (coordinateOf (signWeight k) (yBits (widenedLabel k l)))
-
-abbrev pub foundPoint : Found → ℕ → Point
-foundPoint (At k) l = pairsPoint k l
-foundPoint Nothing l = origin
-
--- the point of a mapping label: its pairs are those whose power the layout holds
-unfoldable pub layoutPoint : ℕ → ℕ → Point
-layoutPoint s l = foundPoint (first (λ k. eqb (2 ^ k) (upper s)) 7) l
-
--- a label above the bits below it, m being 4 to the (6 less the pairs)
+-- a label with its top bit in bit 15, m being 4 to the (6 less the pairs)
 abbrev pub liftedLabel : ℕ → ℕ → ℕ
-liftedLabel m l = 2 * (l * m) + (3 - l % 4) * m / 2
+liftedLabel m l = 2 * (l * m)
 
 -- the word of a lifted label
 abbrev pub widenedLifted : ℕ → ℕ
@@ -51,4 +34,4 @@ widenedLifted a = 4096 * topFour (a / 2048) + a / 2 % 4096
 
 -- a coordinate of bits at the top of eight, m being 2 to the pairs
 abbrev pub scaledCoordinate : ℕ → ℕ → ℤ
-scaledCoordinate m e = cond (eqb m 0) (pos 0) (coordinateOf (4 * m) (e * m / 64))
+scaledCoordinate m e = coordinateOf (4 * m) (e * m / 64)

@@ -27,7 +27,7 @@ struct TopBits {
 }
 
 // One of two numbers.
-fn pick(first: bool, a: u16, b: u16) -> u16
+pub fn pick(first: bool, a: u16, b: u16) -> u16
     ensures { λ r. ⌜ r ≡ cond first a b ⌝ }
 {
     if first { a } else { b }

@@ -1,6 +1,8 @@
 // Constellations of 1 to 15 bits: one label to a point, one point to a label, without a search.
 pub mod demap;
 pub mod map;
+pub mod points;
+pub mod stored;
 
 ghost use mathlib.Core.Path.{_≡_};
 ghost use Prim.Native.Nat.{_+_, _*_, _/_, _%_, _^_, _<_, _≤_};
@@ -10,7 +12,7 @@ ghost use Rattle.g9932.specs.Bits.{bits as lowestBits, num};
 ghost use Rattle.g9932.specs.Sizes.{point};
 ghost use Rattle.g9932.specs.Points.{pointOf, labelOf};
 ghost use Rattle.g9932.specs.Answers.{mapLabel, readPoint, mappedOf, labelledOf};
-ghost use Rattle.constellation.specs.Widened.{plainPairs, mappingLabel, topFour, widenedLabel, xBits, yBits, interleaved, signWeight, coordinateOf};
+ghost use Rattle.constellation.specs.Widened.{plainPairs, topFour, widenedLabel, xBits, yBits, interleaved, signWeight, coordinateOf};
 ghost use Rattle.constellation.specs.Reading.{FoundLabelIs, RaisedCoordinate, NarrowedWord, ownLabel, topSix, inGrid};
 ghost use Rattle.constellation.specs.Layouts.{silentLayout, layoutList};
 use g9932::Labelled;
@@ -91,17 +93,6 @@ fn plain_pairs(b: u32) -> u32
     if b < 2 { 0 } else { b / 2 - 1 }
 }
 
-// The mapping label: that of an odd bit count from 3 that has the same point.
-fn mapping_label(b: u32, label: u32) -> u32
-    requires { ⌜ label < 32768 ⌝ }
-    ensures { λ r. ⌜ r ≡ mappingLabel b label ⌝ }
-{
-    if b < 2 {
-        return 3 * label;
-    }
-    label
-}
-
 // What widens the top three bits, by the top five.
 fn widening(q: u32) -> u32
     requires { ⌜ q < 32 ⌝ }
@@ -147,18 +138,38 @@ fn coordinate_of(weight: u32, e: u32) -> i16
     (2 * e + 1) as i16 - weight as i16
 }
 
-// The point of a label. Called by proved code only.
-pub fn point_of(b: u32, label: u32) -> Coordinates
-    requires { ⌜ (1 ≤ b) × (b ≤ 15) × (label < 2 ^ b) ⌝ }
+// The point of a label of 1 to 8 bits, from the table.
+fn point_from_table(b: u32, label: u32) -> Coordinates
+    requires { ⌜ (1 ≤ b) × (b ≤ 8) × (label < 2 ^ b) ⌝ }
+    ensures { λ r. ⌜ point (r .x) (r .y) ≡ pointOf b (lowestBits b label) ⌝ }
+{
+    let table = points::point_table();
+    stored::stored_point(table[((1u32 << b) - 2 + label) as usize])
+}
+
+// The point of a label of 9 to 15 bits, by the rule.
+fn point_by_rule(b: u32, label: u32) -> Coordinates
+    requires { ⌜ (9 ≤ b) × (b ≤ 15) × (label < 2 ^ b) ⌝ }
     ensures { λ r. ⌜ point (r .x) (r .y) ≡ pointOf b (lowestBits b label) ⌝ }
 {
     let k = plain_pairs(b);
-    let both = deinterleave(widened_label(k, mapping_label(b, label)));
+    let both = deinterleave(widened_label(k, label));
     let h = sign_weight(k);
     Coordinates {
         x: coordinate_of(h, both / 65536),
         y: coordinate_of(h, both % 65536),
     }
+}
+
+// The point of a label. Called by proved code only.
+pub fn point_of(b: u32, label: u32) -> Coordinates
+    requires { ⌜ (1 ≤ b) × (b ≤ 15) × (label < 2 ^ b) ⌝ }
+    ensures { λ r. ⌜ point (r .x) (r .y) ≡ pointOf b (lowestBits b label) ⌝ }
+{
+    if b < 9 {
+        return point_from_table(b, label);
+    }
+    point_by_rule(b, label)
 }
 
 // Maps one label: refusal 16.

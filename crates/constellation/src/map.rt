@@ -1,18 +1,18 @@
-// Points of many labels. Plain arithmetic on sixteen bits, the same steps for every bit count: a loop over it takes eight tones at a time.
+// Points of many labels of 9 bits or more, by the rule. Plain arithmetic on sixteen bits, the same steps for every bit count: a loop over it
+// takes eight tones at a time, and may give it tones of fewer bits too, of which it tells nothing.
 ghost use mathlib.Core.Path.{_≡_};
 ghost use Prim.Native.Nat.{_*_, _<_, _≤_};
 ghost use Rattle.g9932.specs.Sizes.{point};
 ghost use Rattle.constellation.specs.Widened.{topFour, yBits};
-ghost use Rattle.constellation.specs.MapByLayout.{Mappable, MapsTo, Liftable, layoutPoint, liftedLabel, widenedLifted, scaledCoordinate};
+ghost use Rattle.constellation.specs.MapByLayout.{Mappable, MapsByRule, liftedLabel, widenedLifted, scaledCoordinate};
 use super::Coordinates;
 
-// A label with its top bit in bit 15; below it stands what a three-bit label's top five bits have. c is 2 to the (6 less the pairs).
+// A label with its top bit in bit 15. c is 2 to the (6 less the pairs).
 fn lifted_label(c: u16, label: u16) -> u16
     requires { ⌜ (c ≤ 64) × (liftedLabel (c * c) label < 65536) ⌝ }
     ensures { λ r. ⌜ r ≡ liftedLabel (c * c) label ⌝ }
 {
-    let m = c * c;
-    2 * (label * m) + (3 - label % 4) * m / 2
+    2 * (label * (c * c))
 }
 
 // Table 10-3 by the top five bits, in turn: Xc Yc Xd Yd, Xc and Yc complemented. A label whose top bit is 1 lies further out in X where
@@ -52,19 +52,18 @@ fn evens(word: u16) -> u16
     (fours | (fours >> 4)) & 0x00ff
 }
 
-// A coordinate, from its bits at the top of eight; m is 2 to the pairs, or 0 for a silent tone.
+// A coordinate, from its bits at the top of eight; m is 2 to the pairs.
 fn scaled_coordinate(e: u16, m: u16) -> i16
-    requires { ⌜ (e < 256) × (m ≤ 64) ⌝ }
+    requires { ⌜ (e < 256) × (1 ≤ m) × (m ≤ 64) ⌝ }
     ensures { λ r. ⌜ r ≡ scaledCoordinate m e ⌝ }
 {
-    let one = if m == 0 { 0u16 } else { 1u16 };
-    (2 * ((e * m) >> 6) + one) as i16 - (4 * m) as i16
+    (2 * ((e * m) >> 6) + 1) as i16 - (4 * m) as i16
 }
 
-// The point of a mapping label, by the powers of a layout; the origin where these are 0.
-fn widened_point(layout: u16, label: u16) -> Coordinates
-    requires { ⌜ Liftable layout label ⌝ }
-    ensures { λ r. ⌜ point (r .x) (r .y) ≡ layoutPoint layout label ⌝ }
+// The point of a label of 9 bits or more, by the layout of its tone. Called by proved code only.
+pub fn point_by(layout: u16, label: u16) -> Coordinates
+    requires { ⌜ Mappable layout label ⌝ }
+    ensures { λ r. ⌜ MapsByRule layout label (point (r .x) (r .y)) ⌝ }
 {
     let w = widened_lifted(lifted_label(layout % 128, label));
     let m = layout / 256 % 128;
@@ -72,16 +71,4 @@ fn widened_point(layout: u16, label: u16) -> Coordinates
         x: scaled_coordinate(evens(w / 2), m),
         y: scaled_coordinate(evens(w), m),
     }
-}
-
-// The point of a label, by the layout of its tone. A tone of 1 bit is mapped by three times its label; a silent tone has both of the
-// bits 7 and 15, and gets the point of layout 0. Called by proved code only.
-pub fn point_by(layout: u16, label: u16) -> Coordinates
-    requires { ⌜ Mappable layout label ⌝ }
-    ensures { λ r. ⌜ MapsTo layout label (point (r .x) (r .y)) ⌝ }
-{
-    let one = layout / 32768;
-    let not_silent = 1 - (one & (layout / 128 % 2));
-    let own = label * not_silent;
-    widened_point(layout * not_silent, own + 2 * (one * own))
 }

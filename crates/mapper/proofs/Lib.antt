@@ -3,4 +3,6 @@ pub mod CutLoop
 pub mod CollectLoop
 pub mod SharedLabels
 pub mod FillerLoop
+pub mod Parts
 pub mod PointLoop
+pub mod BlockLoops

@@ -1,51 +1,50 @@
 -- Points by place: each place before i has its point, or its label, or none.
-use Prim.Native.Nat.{ℕ, _+_, _≤_, _<_, _-_}
+use Prim.Native.Nat.{ℕ, _+_, _≤_, _<_}
 use native.Mathlib.Omega.{arith}
 use borrow.Author.Count.{below-more}
 use mathlib.Core.Bool.{Bool, true, false, _&&_, and-eq-true-iff, true≢false}
 use mathlib.Core.List.{List}
 use mathlib.Core.Path.{_≡_, refl, _∙_, sym}
 use lib.IntN.{ℤ, pos}
-use lib.ListN.{length, set, length-set, take, drop, length-drop, getD}
-use lib.Seq.{getD-set-same, getD-set-other, length-take-le, getD-take, getD-drop}
+use lib.ListN.{length, set, length-set, getD}
+use lib.Seq.{getD-set-same, getD-set-other}
 use Rattle.constellation.proofs.DemapByLayout.{on-or-off}
 use Rattle.constellation.specs.DemapByLayout.{Demaps}
-use Rattle.constellation.specs.MapByLayout.{MapsTo}
 use Rattle.constellation.specs.declared.demap.PointLabel.{PointLabel}
 use Rattle.g9932.specs.Sizes.{entry, Point, point}
 use Rattle.g9932.specs.declared.Found.{Found}
 use Rattle.g9932.specs.declared.Found.the-variants.{Nothing}
-use Rattle.mapper.specs.Writing.{PutsPoints}
+use Rattle.mapper.proofs.Parts.{part, length-part, part-at}
 use Rattle.mapper.specs.Reading.{pointAt, DemapNeeds, LabelIs, Off, Told, DemapsAll, OffAt, DemapsPoints, OnOrOff, DemapAllNeeds}
 
--- ---- points put
+-- ---- points put: each place before i has one as it should, and the others are as they came
 
-pub record Putting (layouts labels : List ℕ) (n : ℕ) (xs ys : List ℤ) (i : ℕ) : Type 0 where
-  pub xsLength : length xs ≡ n
-  pub ysLength : length ys ≡ n
-  pub soFar : (j : ℕ) → j < i → MapsTo (entry layouts j) (entry labels j) (pointAt xs ys j)
+pub record Putting (P : ℕ → Point → Type 0) (xs₀ ys₀ xs ys : List ℤ) (i : ℕ) : Type 0 where
+  pub xsLength : length xs ≡ length xs₀
+  pub ysLength : length ys ≡ length xs₀
+  pub soFar : (j : ℕ) → j < i → P j (pointAt xs ys j)
+  pub left : (j : ℕ) → i ≤ j → pointAt xs ys j ≡ pointAt xs₀ ys₀ j
 
-pub put-start : (layouts labels : List ℕ) (xs ys : List ℤ) → length ys ≡ length xs → Putting layouts labels (length xs) xs ys 0
-put-start layouts labels xs ys h = record { xsLength = refl; ysLength = h; soFar = λ j l. absurd (omega arith) }
+pub put-start : (P : ℕ → Point → Type 0) (xs ys : List ℤ) → length ys ≡ length xs → Putting P xs ys xs ys 0
+put-start P xs ys h = record { xsLength = refl; ysLength = h; soFar = λ j l. absurd (omega arith); left = λ j l. refl }
 
-module _ {layouts labels : List ℕ} {n : ℕ} {xs ys : List ℤ} {i : ℕ} (g : Putting layouts labels n xs ys i) where
-  pub put-end : n ≤ i → PutsPoints layouts labels xs ys
-  put-end h = record { points = λ j l. g .soFar j (omega (arith, g .xsLength)) }
+module _ {P : ℕ → Point → Type 0} {xs₀ ys₀ xs ys : List ℤ} {i : ℕ} (g : Putting P xs₀ ys₀ xs ys i) where
+  pub put-end : length xs₀ ≤ i → (j : ℕ) → j < length xs → P j (pointAt xs ys j)
+  put-end h j l = g .soFar j (omega (arith, g .xsLength))
 
-  pub put-step : i < n → (x y : ℤ) → MapsTo (entry layouts i) (entry labels i) (point x y) → Putting layouts labels n (set xs i x) (set ys i y) (i + 1)
-  put-step h x y maps =
-      record { xsLength = length-set xs i x ∙ g .xsLength; ysLength = length-set ys i y ∙ g .ysLength; soFar = below-more put i before here }
+  pub put-step : i < length xs₀ → (x y : ℤ) → P i (point x y) → Putting P xs₀ ys₀ (set xs i x) (set ys i y) (i + 1)
+  put-step h x y here =
+      record {
+        xsLength = length-set xs i x ∙ g .xsLength;
+        ysLength = length-set ys i y ∙ g .ysLength;
+        soFar = below-more (λ j. P j (pointAt (set xs i x) (set ys i y) j)) i
+            (λ j k. rw (other j (λ e. absurd (omega arith))) (g .soFar j k))
+            (rw (getD-set-same xs i x (pos 0) (omega (arith, g .xsLength)), getD-set-same ys i y (pos 0) (omega (arith, g .ysLength))) here);
+        left = λ j k. other j (λ e. absurd (omega arith)) ∙ g .left j (omega arith);
+      }
     where
-      put : ℕ → Type 0
-      put j = MapsTo (entry layouts j) (entry labels j) (pointAt (set xs i x) (set ys i y) j)
-
-      here : put i
-      here = rw (getD-set-same xs i x (pos 0) (omega (arith, g .xsLength)), getD-set-same ys i y (pos 0) (omega (arith, g .ysLength))) maps
-
-      before : (j : ℕ) → j < i → put j
-      before j k =
-          let n : (j ≡ i → ⊥) = λ e. absurd (omega arith) in
-          rw (getD-set-other xs i j x (pos 0) n, getD-set-other ys i j y (pos 0) n) (g .soFar j k)
+      other : (j : ℕ) → (j ≡ i → ⊥) → pointAt (set xs i x) (set ys i y) j ≡ pointAt xs ys j
+      other j n = rw (getD-set-other xs i j x (pos 0) n, getD-set-other ys i j y (pos 0) n)
 
 -- ---- points demapped
 
@@ -125,27 +124,24 @@ module _ {layouts : List ℕ} {xs ys : List ℤ} {labels : List ℕ} {all : Bool
 
 -- ---- one place
 
-abbrev part : {A : Type 0} → List A → ℕ → List A
-part l i = take (i + 1 - i) (drop i l)
+abbrev one : {A : Type 0} → List A → ℕ → List A
+one l i = part l i (i + 1)
 
-length-part : {A : Type 0} (l : List A) (i : ℕ) → i < length l → length (part l i) ≡ 1
-length-part l i h = let e : i + 1 - i ≡ 1 = omega arith in rw e (length-take-le 1 (drop i l) (omega (arith, length-drop i l)))
+length-one : {A : Type 0} (l : List A) (i : ℕ) → i < length l → length (one l i) ≡ 1
+length-one l i h = omega (arith, length-part l i (i + 1) (omega arith))
 
-part-at : {A : Type 0} (l : List A) (i : ℕ) (d : A) → getD (part l i) 0 d ≡ getD l i d
-part-at l i d =
-    let e : i + 1 - i ≡ 1 = omega arith in
-    let z : i + 0 ≡ i = omega arith in
-    rw (e, getD-take 1 (drop i l) 0 d (omega arith), getD-drop i l 0 d, z)
+one-at : {A : Type 0} (l : List A) (i : ℕ) (d : A) → getD (one l i) 0 d ≡ getD l i d
+one-at l i d = let z : i + 0 ≡ i = omega arith in rw z at (part-at l i (i + 1) 0 d (omega arith))
 
 module _ (layouts : List ℕ) (xs ys : List ℤ) (i : ℕ) (needs : DemapNeeds layouts xs ys) (h : i < length xs) where
-  one-point : pointAt (part xs i) (part ys i) 0 ≡ pointAt xs ys i
-  one-point = rw (part-at xs i (pos 0), part-at ys i (pos 0))
+  one-point : pointAt (one xs i) (one ys i) 0 ≡ pointAt xs ys i
+  one-point = rw (one-at xs i (pos 0), one-at ys i (pos 0))
 
-  pub one-needs : (labels : List ℕ) → length labels ≡ 1 → DemapAllNeeds (part layouts i) (part xs i) (part ys i) labels
+  pub one-needs : (labels : List ℕ) → length labels ≡ 1 → DemapAllNeeds (one layouts i) (one xs i) (one ys i) labels
   one-needs labels n =
-      let x = length-part xs i h in
-      let y = length-part ys i (omega (arith, needs .ysLength)) in
-      let l = length-part layouts i (omega (arith, needs .layoutsLength)) in
+      let x = length-one xs i h in
+      let y = length-one ys i (omega (arith, needs .ysLength)) in
+      let l = length-one layouts i (omega (arith, needs .layoutsLength)) in
       record {
         points =
             record {
@@ -153,14 +149,14 @@ module _ (layouts : List ℕ) (xs ys : List ℤ) (i : ℕ) (needs : DemapNeeds l
               ysLength = y ∙ sym x;
               ofTones = λ k j.
                   let z : k ≡ 0 = omega (arith, x) in
-                  rw (z, part-at layouts i 0) (needs .ofTones i h);
+                  rw (z, one-at layouts i 0) (needs .ofTones i h);
             };
         labelsLength = n ∙ sym x;
       }
 
-  pub one-found : (labels : List ℕ) (r : Bool) → DemapsAll (part layouts i) (part xs i) (part ys i) labels r → OnOrOff (entry layouts i) (pointAt xs ys i) r
-  one-found labels true d = (entry labels 0, rw (part-at layouts i 0, one-point) at (d .every refl 0 (omega (arith, length-part xs i h))))
+  pub one-found : (labels : List ℕ) (r : Bool) → DemapsAll (one layouts i) (one xs i) (one ys i) labels r → OnOrOff (entry layouts i) (pointAt xs ys i) r
+  one-found labels true d = (entry labels 0, rw (one-at layouts i 0, one-point) at (d .every refl 0 (omega (arith, length-one xs i h))))
   one-found labels false d =
       let s = d .some refl in
-      let z : s .0 ≡ 0 = omega (arith, s .1, length-part xs i h) in
-      (s .2 .0, rw (z, part-at layouts i 0, one-point) at (s .2 .1))
+      let z : s .0 ≡ 0 = omega (arith, s .1, length-one xs i h) in
+      (s .2 .0, rw (z, one-at layouts i 0, one-point) at (s .2 .1))

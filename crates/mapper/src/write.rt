@@ -1,9 +1,9 @@
-// Frame bits to labels, and labels to points.
+// Frame bits to labels by place.
 ghost use mathlib.Core.Path.{_≡_};
 ghost use mathlib.Core.List.{_++_};
 ghost use Prim.Native.Nat.{_≤_};
 ghost use lib.ListN.{length, take, drop};
-ghost use Rattle.mapper.specs.Writing.{CutNeeds, CutsLabels, splitOnes, FillerNeeds, SetsFiller, PutNeeds, PutsPoints};
+ghost use Rattle.mapper.specs.Writing.{CutNeeds, CutsLabels, splitOnes, FillerNeeds, SetsFiller};
 use frame::by_place::place_at;
 use frame::by_place::put_label;
 use frame::masks::lowest_by;
@@ -57,21 +57,4 @@ pub fn set_filler(drawing: &[u16], register: u32, labels: &mut [u16]) -> u32
         k += 1;
     }
     next
-}
-
-// The points of the labels, by the layouts of the places. The steps are the same at every place: the compiler takes several places
-// at a time. Called by proved code only.
-pub fn put_points(layouts: &[u16], labels: &[u16], xs: &mut [i16], ys: &mut [i16])
-    requires { ⌜ PutNeeds (now layouts) (now labels) (now xs) (now ys) ⌝ }
-    ensures { λ _. ⌜ PutsPoints (now (layouts .entry)) (now (labels .entry)) (now (xs .exit)) (now (ys .exit)) ⌝ }
-{
-    let mut i = 0;
-    while i < xs.len() {
-        let p = constellation::map::point_by(layouts[i], labels[i]);
-        let x = p.x;
-        let y = p.y;
-        xs[i] = x;
-        ys[i] = y;
-        i += 1;
-    }
 }

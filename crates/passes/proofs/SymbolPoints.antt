@@ -53,7 +53,7 @@ write-at (c ∷ cs) r (l ∷ ls) n (suc k) h =
 pub mappable : (c : Class) (r l : ℕ) → ClassBits c → (1 ≤ load c → l < 2 ^ load c) → Mappable (classLayout c) (filled c r l)
 mappable (Data n) r l h s = label n (h .0) (h .1) refl (s (h .0))
 mappable Monitored r l h s = label 2 (omega arith) (omega arith) refl (num-lt (drawn 2 r))
-mappable Silent r l h s = silent refl
+mappable Silent r l h s = silent refl (num-lt (drawn 2 r))
 
 -- and its point
 pub mapped : (c : Class) (r l : ℕ) (p : Point) → ClassBits c → (1 ≤ load c → l < 2 ^ load c) → MapsTo (classLayout c) (filled c r l) p → p ≡ tonePoint r c (bits (load c) l)

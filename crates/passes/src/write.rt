@@ -37,7 +37,7 @@ fn write_points(
 {
     mapper::write::split_shared(labels, shared_from);
     let after = mapper::write::set_filler(drawing, register, labels);
-    mapper::write::put_points(layouts, labels, xs, ys);
+    mapper::points::put_points(layouts, labels, xs, ys);
     after
 }
 

@@ -1,17 +1,23 @@
--- `mapper::write::put_points` meets its contract. The invariant: each place before i has its point. The measure is the places left.
+-- `mapper::points::put_by_rule` meets its contract. The invariant: each place before i has its point. The measure is the places left.
 use native.Mathlib.Omega.{arith}
-use Prim.Native.Nat.{_-_}
+use Prim.Native.Nat.{ℕ, _-_}
+use mathlib.Core.List.{List}
 use mathlib.Core.Path.{sym, _∙_}
 use mir.ValLaws.{toZ-ofZ}
 use mir.Syntax.{w16}
 use lib.ListN.{length}
+use Rattle.constellation.specs.MapByLayout.{MapsByRule}
+use Rattle.g9932.specs.Sizes.{entry, Point}
 use Rattle.mapper.proofs.PointLoop.{Putting, put-start, put-step, put-end}
 use borrow.Author.Needs.{needs}
-use Rattle.mapper.proofs.write.put_points.Statement.{statement}
-use Rattle.mapper.proofs.write.put_points.Tie as tie
+use Rattle.mapper.proofs.points.put_by_rule.Statement.{statement}
+use Rattle.mapper.proofs.points.put_by_rule.Tie as tie
+
+abbrev ruled : List ℕ → List ℕ → ℕ → Point → Type 0
+ruled layouts labels j p = MapsByRule (entry layouts j) (entry labels j) p
 
 abbrev Inv-loop : tie.InvT-loop
-Inv-loop layouts labels xs₀ ys₀ i₀ xs ys i = Putting layouts labels (length xs₀) xs ys i
+Inv-loop layouts labels xs₀ ys₀ i₀ xs ys i = Putting (ruled layouts labels) xs₀ ys₀ xs ys i
 
 abbrev μ-loop : tie.MeasureT-loop
 μ-loop layouts labels xs₀ ys₀ i₀ xs ys i = length xs₀ - i
@@ -19,7 +25,7 @@ abbrev μ-loop : tie.MeasureT-loop
 loop-holds : tie.Need-loop-holds Inv-loop μ-loop
 loop-holds c =
     let s = c .before .before in
-    put-start (s .args .layouts .now) (s .args .labels .now) (s .args .xs .now) (s .args .ys .now) (s .pre .ysLength)
+    put-start (ruled (s .args .layouts .now) (s .args .labels .now)) (s .args .xs .now) (s .args .ys .now) (s .pre .ysLength)
 
 shared-slice-read-point-by : tie.Need-shared-slice-read-point-by Inv-loop μ-loop
 shared-slice-read-point-by c = omega (arith, c .before .before .before .before .before .pre .layoutsLength, c .before .before .loop .inv .xsLength)
@@ -57,10 +63,10 @@ same-length-2 : tie.Need-same-length-2 Inv-loop μ-loop
 same-length-2 c = c .before .loop .inv .ysLength ∙ sym (c .before .before .before .before .pre .ysLength)
 
 returns : tie.Need-returns Inv-loop μ-loop
-returns c = put-end (c .before .loop .inv) (omega (arith, c .before .loop .inv .xsLength))
+returns c = record { points = put-end (c .before .loop .inv) (omega (arith, c .before .loop .inv .xsLength)) }
 
-pub put-points-spec : {M : Type 1} → statement M
-put-points-spec =
+pub put-by-rule-spec : {M : Type 1} → statement M
+put-by-rule-spec =
     tie.close
     (tie.spec
     Inv-loop
