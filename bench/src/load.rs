@@ -27,11 +27,12 @@ pub enum Monitored {
     Nothing,
 }
 
-pub const LOADS: [Load; 6] = [
+pub const LOADS: [Load; 7] = [
     load("15 bits coded", 1, (15, 15)),
     UNCODED,
     MIXED,
     load("8 bits coded", 1, (8, 8)),
+    load("2 bits coded", 1, (2, 2)),
     ROTATING,
     HALF_SILENT,
 ];

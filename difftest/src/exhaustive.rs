@@ -147,7 +147,8 @@ pub fn largest_symbols(comparison: &mut Comparison) -> Result<(), Mismatch> {
     Ok(())
 }
 
-fn loaded(mode: Mode, counts: &[u8]) -> GivenTables {
+/// Tables with these bit counts in the order of t. The first tone of 0 bits is monitored, the others are silent.
+pub fn loaded(mode: Mode, counts: &[u8]) -> GivenTables {
     let first_zero = counts.iter().position(|&bits| bits == 0);
     let gain = |(k, &bits): (usize, &u8)| match bits {
         0 if Some(k) != first_zero => 0,

@@ -24,6 +24,7 @@ pub mod random;
 pub mod received;
 pub mod rows;
 pub mod run;
+pub mod runs;
 pub mod seen;
 pub mod starts;
 pub mod tables;

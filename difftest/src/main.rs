@@ -8,6 +8,7 @@ use difftest::exhaustive::{few_frames, largest_symbols, one_tone};
 use difftest::first_monitored::{behind_any, every_coordinate};
 use difftest::rows::{every_byte, every_length};
 use difftest::run::random_cases;
+use difftest::runs::every_run;
 use difftest::tally::{largest_figures, long_run};
 use difftest::under_test::Library;
 use std::process::ExitCode;
@@ -49,6 +50,7 @@ fn run(cases: u64, seed: u64) -> Result<(), String> {
     let exhaustive = one_tone(&mut comparison, 15)
         .and_then(|()| few_frames(&mut comparison))
         .and_then(|()| largest_symbols(&mut comparison))
+        .and_then(|()| every_run(&mut comparison))
         .and_then(|()| every_coordinate(&mut comparison))
         .and_then(|()| behind_any(&mut comparison))
         .and_then(|()| every_length(&mut comparison))
