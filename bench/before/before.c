@@ -1,7 +1,7 @@
 /*
  * Two builds of the library in the same rounds: encoding, reading and mapping one label, each by the build before and by
  * this one, which go first in turn. The ratio is taken in each round; printed are medians, and the middle half of the
- * ratios. Both must write the same points and read the same frame.
+ * ratios. Both builds must answer alike.
  */
 #define _POSIX_C_SOURCE 199309L
 #include "clevisroot.h"
@@ -65,12 +65,12 @@ static void fill(const load *l)
     for (size_t k = 0; k < TONES; k++) {
         size_t counts = l->last - l->first + 1u;
         uint8_t b = (uint8_t)(l->first + (l->rising ? k * counts / TONES : next_random() % counts));
-        if (l->half_silent && next_random() % 2 == 0)
-            b = 0;
-        ones += b == 1;
-        bits[k] = b;
-        gains[k] = b > 0 || (!l->half_silent && next_random() % 2 == 0) ? 512 : 0;
+        uint16_t gain = b > 0 || next_random() % 2 == 0 ? 512 : 0;
+        int silent = l->half_silent && next_random() % 2 == 0;
+        bits[k] = silent ? 0 : b;
+        gains[k] = silent ? 0 : gain;
         tones[k] = (uint16_t)k;
+        ones += bits[k] == 1;
     }
     for (size_t k = 0; ones % 2 == 1; k++) { /* 1-bit tones come in pairs */
         ones -= bits[k] == 1;
@@ -172,22 +172,44 @@ static void measure(const char *what, const char *of, call *before, call *after,
            1e9 * is[ROUNDS / 2], ratio[ROUNDS / 2], ratio[ROUNDS / 4], ratio[3 * ROUNDS / 4]);
 }
 
+static void hold(int alike, const char *of)
+{
+    if (!alike) {
+        printf("the builds differ: %s\n", of);
+        exit(1);
+    }
+}
+
+static int same_answer(clevisroot_answer one, clevisroot_answer other)
+{
+    return one.number == other.number && one.place == other.place && one.size == other.size &&
+           one.reg == other.reg;
+}
+
 /* Both builds write the same points, and both read the frame from them. */
-static void same(const load *l)
+static void same_symbol(const load *l)
 {
     static int16_t x_before[TONES], y_before[TONES];
-    encode_before(0);
+    clevisroot_answer before = before_clevisroot_encode(ENCODE);
     memcpy(x_before, x, sizeof x);
     memcpy(y_before, y, sizeof y);
-    encode_after(0);
-    int alike = memcmp(x, x_before, sizeof x) == 0 && memcmp(y, y_before, sizeof y) == 0;
+    hold(same_answer(before, clevisroot_encode(ENCODE)) && memcmp(x, x_before, sizeof x) == 0 &&
+             memcmp(y, y_before, sizeof y) == 0,
+         l->name);
     memset(back, 0, sizeof back);
-    alike = alike && read_before(0) == 0 && memcmp(frame, back, frame_len) == 0;
+    before = before_clevisroot_read(READ);
+    hold(memcmp(frame, back, frame_len) == 0, l->name);
     memset(back, 0, sizeof back);
-    alike = alike && read_after(0) == 0 && memcmp(frame, back, frame_len) == 0;
-    if (!alike) {
-        printf("the builds differ: %s\n", l->name);
-        exit(1);
+    hold(same_answer(before, clevisroot_read(READ)) && memcmp(frame, back, frame_len) == 0, l->name);
+}
+
+/* Both builds give every label of these bits the same point. */
+static void same_points(const char *name)
+{
+    for (uint32_t label = 0; label < 1u << label_bits; label++) {
+        clevisroot_point before = before_clevisroot_map_label(label_bits, label);
+        clevisroot_point after = clevisroot_map_label(label_bits, label);
+        hold(before.number == after.number && before.x == after.x && before.y == after.y, name);
     }
 }
 
@@ -197,13 +219,14 @@ int main(void)
            "after", "ratio");
     for (size_t k = 0; k < sizeof loads / sizeof *loads; k++) {
         fill(&loads[k]);
-        same(&loads[k]);
+        same_symbol(&loads[k]);
         measure("encode", loads[k].name, encode_before, encode_after, SYMBOLS);
         measure("read", loads[k].name, read_before, read_after, SYMBOLS);
     }
     for (label_bits = 1; label_bits <= 15; label_bits++) {
         char name[16];
         snprintf(name, sizeof name, "%u bits", (unsigned)label_bits);
+        same_points(name);
         measure("map label", name, map_before, map_after, LABELS);
     }
     return 0;

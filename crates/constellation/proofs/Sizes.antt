@@ -30,9 +30,6 @@ unfolding widenedLabel
 widened-lt k l h =
     rw (pow-add 2 4 (2 * k)) (digits-lt {m = 16} (four-lt (topFive k l) (five-lt k l h)) (mod-lt l (pow-pos (2 * k))))
 
-pub label-16 : (k l : ℕ) → k ≤ 6 → l < 2 ^ (2 * k + 3) → l < 32768
-label-16 k l h s = lt-of-lt-of-le s (pow-mono {i = 2 * k + 3} {j = 15} (omega arith))
-
 pub label-lt : (b l : ℕ) → 1 ≤ b → l < 2 ^ b → mappingLabel b l < 2 ^ (2 * plainPairs b + 3)
 label-lt b l h k = go (ltb b 2) refl
   where

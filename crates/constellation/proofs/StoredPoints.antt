@@ -7,7 +7,6 @@ use native.Mathlib.Nat.{mul-le-mul, mul-le-mul-left}
 use native.Mathlib.Omega.{arith}
 use borrow.Author.Tests.{not-false, lt-ltb, ltb-true, ltb-false}
 use lib.Dec.{eqb, ltb}
-use lib.ListN.{length}
 use lib.Pow.{pow-mono}
 use Rattle.g9932.specs.Bits.{bits, odd, first}
 use Rattle.g9932.specs.Points.{pointOf, samePoint}
@@ -38,8 +37,8 @@ none-at (At k) e = absurd (true≢false e)
 none-at Nothing e = refl
 
 -- The computed test, made the rule.
-pub stored : (t : List ℕ) → length t ≡ 510 → firstWrong t ≡ Nothing → Stored t
-stored t n e = record { long = n; rule = at }
+pub stored : (t : List ℕ) → firstWrong t ≡ Nothing → Stored t
+stored t e = record { rule = at }
   where
     at : (b l : ℕ) → 1 ≤ b → b ≤ 8 → l < 2 ^ b → storedPoint (entry t (firstEntry b + l)) ≡ pointOf b (bits b l)
     at zero l h k s = absurd (omega arith)

@@ -14,14 +14,11 @@ use Rattle.constellation.specs.Reading.{NarrowedWord, topSix}
 use Rattle.constellation.proofs.Mapping.{rule}
 use Rattle.constellation.proofs.Sizes.{five-lt, four-lt}
 
--- the top five bits by one rule
-pub five-law : (k l : ℕ) → (32 * l + (24 - 8 * (l % 4))) / 2 ^ (2 * k + 3) ≡ topFive k l
+-- the top five bits, where there is a pair
+pub five-law : (k l : ℕ) → 1 ≤ k → l / 2 ^ (2 * k - 2) ≡ topFive k l
 unfolding topFive
-five-law zero l = omega arith
-five-law (suc j) l =
-    let e : 5 + 2 * j ≡ 2 * suc j + 3 = omega arith in
-    let f : (32 * l + (24 - 8 * (l % 4))) / 32 ≡ l = omega arith in
-    sym (rw (f, e) at (shr-shr (32 * l + (24 - 8 * (l % 4))) 5 (2 * j)))
+five-law zero l h = absurd (omega arith)
+five-law (suc j) l h = let e : 2 * suc j - 2 ≡ 2 * j = omega arith in rw e refl
 
 -- the top three of them
 three-law : (k l : ℕ) → topFive k l / 4 ≡ l / 2 ^ (2 * k)

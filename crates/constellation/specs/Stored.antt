@@ -5,7 +5,6 @@ use mathlib.Core.List.{List}
 use mathlib.Core.Path.{_≡_}
 use lib.Dec.{eqb, ltb}
 use lib.IntN.{subℕ}
-use lib.ListN.{length}
 use Rattle.g9932.specs.Bits.{bits}
 use Rattle.g9932.specs.Points.{pointOf}
 use Rattle.g9932.specs.Sizes.{Point, point, entry}
@@ -21,12 +20,11 @@ firstEntry b = 2 ^ b - 2
 
 -- a table of all points of 1 to 8 bits, as the mapping rule has them
 pub record Stored (t : List ℕ) : Type 0 where
-  pub long : length t ≡ 510
   pub rule : (b l : ℕ) → 1 ≤ b → b ≤ 8 → l < 2 ^ b → storedPoint (entry t (firstEntry b + l)) ≡ pointOf b (bits b l)
 
 -- ---- by a layout
 
--- the table has the points of the layouts below that of 9 bits, bit 15 left out; a silent tone's is among them
+-- a layout of 1 to 8 bits, or a silent tone's: bit 15 left out, it is below that of 9 bits
 abbrev pub isStored : ℕ → Bool
 isStored s = ltb (s % 32768) (layoutOf 9)
 
@@ -39,6 +37,6 @@ pub record EntryOf (s l e : ℕ) : Type 0 where
 abbrev pub originEntry : ℕ
 originEntry = 256 * 16 + 16
 
--- the point of a stored entry where the table has the layout's points; else the point that stands there already
+-- the entry's point for 1 to 8 bits, (0, 0) for a silent tone; else the point that stands there
 abbrev pub storedOr : ℕ → ℕ → Point → Point
 storedOr s e p = cond (isStored s) (storedPoint (cond (eqb s silentLayout) originEntry e)) p

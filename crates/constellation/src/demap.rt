@@ -1,12 +1,12 @@
 // Labels of points by a tone's layout (specs/Layouts), in numbers of sixteen bits and with no branch: a loop over many points takes eight at a
 // time.
 ghost use mathlib.Core.Path.{_≡_};
-ghost use mathlib.Core.Bool.{cond};
 ghost use Prim.Native.Nat.{_*_, _<_};
 ghost use lib.IntN.{pos, _+ℤ_};
 ghost use Rattle.g9932.specs.Points.{samePoint};
 ghost use Rattle.g9932.specs.Sizes.{point, origin};
 ghost use Rattle.constellation.specs.DemapByLayout.{Power, IsLayout, OnAxis, spreadByte, LiftedWord, TopsBy, LoweredLabel, Demaps};
+use super::pick;
 
 // Whether the constellation has a point, and the label where it has.
 pub struct PointLabel {
@@ -24,13 +24,6 @@ struct AxisBits {
 struct TopBits {
     on: bool,
     three: u16,
-}
-
-// One of two numbers.
-pub fn pick(first: bool, a: u16, b: u16) -> u16
-    ensures { λ r. ⌜ r ≡ cond first a b ⌝ }
-{
-    if first { a } else { b }
 }
 
 // Whether a point is (0, 0).

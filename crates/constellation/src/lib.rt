@@ -5,6 +5,7 @@ pub mod points;
 pub mod stored;
 
 ghost use mathlib.Core.Path.{_≡_};
+ghost use mathlib.Core.Bool.{cond};
 ghost use Prim.Native.Nat.{_+_, _*_, _/_, _%_, _^_, _<_, _≤_};
 ghost use lib.Bits.{bitXor};
 ghost use lib.Dec.{eqb};
@@ -86,6 +87,13 @@ pub struct FoundLabel {
     pub label: u32,
 }
 
+// One of two numbers.
+fn pick(first: bool, a: u16, b: u16) -> u16
+    ensures { λ r. ⌜ r ≡ cond first a b ⌝ }
+{
+    if first { a } else { b }
+}
+
 // How many pairs of plain bits stand below the three top bits of a label.
 fn plain_pairs(b: u32) -> u32
     ensures { λ r. ⌜ r ≡ plainPairs b ⌝ }
@@ -102,13 +110,12 @@ fn widening(q: u32) -> u32
     ((table >> (4 * (q % 16))) % 16) as u32
 }
 
-// The word of a label with k pairs: the bits of X and Y in turn.
+// The word of a label with k pairs, one at least: the bits of X and Y in turn.
 fn widened_label(k: u32, label: u32) -> u32
-    requires { ⌜ (k ≤ 6) × (label < 2 ^ (2 * k + 3)) ⌝ }
+    requires { ⌜ (1 ≤ k) × (k ≤ 6) × (label < 2 ^ (2 * k + 3)) ⌝ }
     ensures { λ r. ⌜ r ≡ widenedLabel k label ⌝ }
 {
-    let q = (32 * label + (24 - 8 * (label % 4))) >> (2 * k + 3);
-    label ^ (widening(q) << (2 * k))
+    label ^ (widening(label >> (2 * k - 2)) << (2 * k))
 }
 
 // The bits of X, in the upper half, and those of Y.
@@ -227,7 +234,7 @@ fn narrowed_word(k: u32, word: u32, six: u32) -> u32
     word ^ (narrowing << (2 * k))
 }
 
-// The label of b bits, from its mapping label.
+// The label of b bits, from its mapping label (specs/Widened).
 fn own_label(b: u32, label: u32) -> u32
     ensures { λ r. ⌜ r ≡ ownLabel b label ⌝ }
 {

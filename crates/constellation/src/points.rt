@@ -1,8 +1,8 @@
 // The stored points of 1 to 8 bits.
 ghost use Rattle.constellation.specs.Stored.{Stored};
 
-// The points of all labels of 1 bit, then of 2 and so on to 8: 2 + 4 + 8 to 256. The point of a label of b bits stands at 2 to the b - 2 +
-// label, X + 16 in the lower byte and Y + 16 in the upper one.
+// The points of all labels of 1 bit, then of 2 and so on to 8: 2 + 4 + 8 to 256. The point of a label of b bits stands at 2^b - 2 + label,
+// X + 16 in the lower byte and Y + 16 in the upper one.
 const POINTS: [u16; 510] = [
     // 1 bit
     0x1111,

@@ -6,8 +6,8 @@ ghost use Rattle.g9932.specs.Sizes.{point};
 ghost use Rattle.constellation.specs.MapByLayout.{Mappable};
 ghost use Rattle.constellation.specs.Stored.{storedPoint, isStored, EntryOf, storedOr};
 use super::Coordinates;
-use super::demap::pick;
 use super::is_silent;
+use super::pick;
 
 // The layout of 9 bits: those of fewer are below it, bit 15 left out.
 const NINE_BITS: u16 = 0x0888;
@@ -22,7 +22,7 @@ pub fn is_stored(layout: u16) -> bool
     layout % 32768 < NINE_BITS
 }
 
-// Where the table has the point of a label of 1 to 8 bits: 2 to the b - 2 + label. Of other tones some place in the table. Called by proved
+// Where the table has the point of a label of 1 to 8 bits: at 2^b - 2 + label. Of other tones some place in the table. Called by proved
 // code only.
 pub fn entry_of(layout: u16, label: u16) -> u16
     requires { ⌜ Mappable layout label ⌝ }
@@ -30,7 +30,7 @@ pub fn entry_of(layout: u16, label: u16) -> u16
 {
     let m = layout / 256 % 128;
     let four = 4 * (m * m);
-    let labels = four + four * (layout / 128 % 2);
+    let labels = four + four * (layout / 128 % 2); // 2^b, or 4 for 1 bit
     let first = pick(is_stored(layout), labels - (2 + 2 * (layout / 32768)), 0);
     first + label % 256
 }

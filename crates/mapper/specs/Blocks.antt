@@ -15,7 +15,7 @@ use Rattle.mapper.specs.Reading.{pointAt}
 abbrev pub mostPlaces : ℕ
 mostPlaces = 128
 
--- each place has the point that the rule gives
+-- each place of 9 bits or more has its point
 pub record PutsByRule (layouts labels : List ℕ) (xs ys : List ℤ) : Type 0 where
   pub points : (i : ℕ) → i < length xs → MapsByRule (entry layouts i) (entry labels i) (pointAt xs ys i)
 
@@ -54,7 +54,7 @@ pub record TableNeeds (table layouts labels entries : List ℕ) (xs ys : List �
   pub put : PutNeeds layouts labels xs ys
   pub entriesLength : length entries ≡ length xs
 
--- where the places that the table has no points of have theirs, all have
+-- every place has its point, if those of 9 bits or more had theirs before
 pub record PutsFromTable (layouts labels : List ℕ) (xs ys xs' ys' : List ℤ) : Type 0 where
   pub points : (i : ℕ) → i < length xs' → (isStored (entry layouts i) ≡ false → MapsByRule (entry layouts i) (entry labels i) (pointAt xs ys i))
       → MapsTo (entry layouts i) (entry labels i) (pointAt xs' ys' i)

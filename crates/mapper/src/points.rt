@@ -6,6 +6,9 @@ ghost use lib.ListN.{length};
 ghost use Rattle.mapper.specs.Writing.{PutNeeds, PutsPoints};
 ghost use Rattle.mapper.specs.Blocks.{PutsByRule, mostPlaces, CountsStored, FindNeeds, FindsEntries, LookNeeds, LooksUp, PutStoredNeeds, PutsStored, TableNeeds, PutsFromTable, BlockEnd};
 
+// The places of a block.
+const BLOCK: usize = 128;
+
 // The points of the labels by the rule: right for tones of 9 bits or more.
 fn put_by_rule(layouts: &[u16], labels: &[u16], xs: &mut [i16], ys: &mut [i16])
     requires { ⌜ PutNeeds (now layouts) (now labels) (now xs) (now ys) ⌝ }
@@ -126,10 +129,10 @@ fn block_end(from: usize, places: usize) -> usize
     requires { ⌜ from < places ⌝ }
     ensures { λ r. ⌜ BlockEnd from places r ⌝ }
 {
-    if places - from < 128 {
+    if places - from < BLOCK {
         return places;
     }
-    from + 128
+    from + BLOCK
 }
 
 // The points of the labels, by the layouts of the places. The table is lent to all blocks. Called by proved code only.
@@ -138,7 +141,7 @@ pub fn put_points(layouts: &[u16], labels: &[u16], xs: &mut [i16], ys: &mut [i16
     ensures { λ _. ⌜ PutsPoints (now (layouts .entry)) (now (labels .entry)) (now (xs .exit)) (now (ys .exit)) ⌝ }
 {
     let table = constellation::points::point_table();
-    let mut entries = [0u16; 128];
+    let mut entries = [0u16; BLOCK];
     let mut i = 0;
     while i < xs.len() {
         let end = block_end(i, xs.len());

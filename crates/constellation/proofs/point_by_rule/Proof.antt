@@ -34,7 +34,7 @@ widened-label-requires : tie.Need-widened-label-requires
 widened-label-requires c κs =
     let s = c .before in
     let k = plainPairs (s .args .b) in
-    (omega arith, rw (c .plain-pairs .ensures) (lt-of-lt-of-le (s .pre .2) (pow-mono {i = s .args .b} {j = 2 * k + 3} (omega arith))))
+    (omega arith, omega arith, rw (c .plain-pairs .ensures) (lt-of-lt-of-le (s .pre .2) (pow-mono {i = s .args .b} {j = 2 * k + 3} (omega arith))))
 
 deinterleave-requires : tie.Need-deinterleave-requires
 deinterleave-requires c κs =

@@ -8,7 +8,7 @@ use Rattle.constellation.proofs.points.point_table.Tie as tie
 
 returns : tie.Need-returns
 unfolding weight num odd bits first twosComplement pointOf
-returns c = stored _ refl refl
+returns c = stored _ refl
 
 pub point-table-spec : {M : Type 1} → statement M
 point-table-spec = tie.close (tie.spec returns)

@@ -8,11 +8,6 @@ use Rattle.mapper.proofs.BlockLoops.{Covered, cover-start, entries-part
 use borrow.Author.Needs.{needs}
 use Rattle.mapper.proofs.points.put_points.Statement.{statement}
 use Rattle.mapper.proofs.points.put_points.Tie as tie
-use Rattle.mapper.proofs.points.put_points.Reads as reads
-use Rattle.mapper.proofs.points.put_points.Lts as lts
-use Rattle.constellation.proofs.points.point_table.Reads as point-table-reads
-use Rattle.mapper.proofs.points.block_end.Reads as block-end-reads
-use Rattle.mapper.proofs.points.put_block.Reads as put-block-reads
 
 abbrev Inv-loop : tie.InvT-loop
 Inv-loop layouts labels xs₀ ys₀ table entries₀ i₀ xs ys entries i = Covered layouts labels xs₀ ys₀ xs ys entries i
@@ -20,52 +15,27 @@ Inv-loop layouts labels xs₀ ys₀ table entries₀ i₀ xs ys entries i = Cove
 abbrev μ-loop : tie.MeasureT-loop
 μ-loop layouts labels xs₀ ys₀ table entries₀ i₀ xs ys entries i = length xs₀ - i
 
--- src/points.rt:140:17
--- src/points.rt:143:5
 loop-holds : tie.Need-loop-holds Inv-loop μ-loop
 loop-holds c = let a = c .before .before .before .args in cover-start (a .layouts .now) (a .labels .now) (a .xs .now) (a .ys .now) _ refl
 
--- src/points.rt:144:13
--- src/points.rt:147:13
--- src/points.rt:147:13
--- src/points.rt:147:13
--- src/points.rt:147:13
--- src/points.rt:148:13
--- src/points.rt:148:13
--- src/points.rt:148:13
--- src/points.rt:148:13
--- src/points.rt:149:28
--- src/points.rt:149:13
--- src/points.rt:149:13
 slice-aggregate-put-block : tie.Need-slice-aggregate-put-block Inv-loop μ-loop
 slice-aggregate-put-block c =
     let b = c .before .before .before .before in
     let l = b .before .before in
     sym (entries-part (l .before .point-table .ensures) (l .before .before .before .before .pre) (l .loop .inv) (b .block-end .ensures))
 
--- src/points.rt:150:13
--- src/points.rt:150:13
--- src/points.rt:150:13
--- src/points.rt:150:13
--- src/points.rt:151:13
--- src/points.rt:151:13
--- src/points.rt:151:13
--- src/points.rt:151:13
--- src/points.rt:145:9
 put-block-requires : tie.Need-put-block-requires Inv-loop μ-loop
 put-block-requires c κs =
     let b = c .before .before .before .before .before .before in
     let l = b .before .before in
     block-needs (l .before .point-table .ensures) (l .before .before .before .before .pre) (l .loop .inv) (b .block-end .ensures)
 
--- src/points.rt:143:5
 loop-less : tie.Need-loop-less Inv-loop μ-loop
 loop-less c =
     let b = c .before .before .before .before .before .before .before .before .before .before in
     let l = b .before .before in
     omega (arith, b .block-end .ensures .after, b .block-end .ensures .inside, l .loop .inv .xsLength)
 
--- src/points.rt:143:5
 loop-again : tie.Need-loop-again Inv-loop μ-loop
 loop-again c =
     let p = c .before .before .before .put-block in
@@ -74,15 +44,12 @@ loop-again c =
     block-step (l .before .point-table .ensures) (l .before .before .before .before .pre) (l .loop .inv) (b .block-end .ensures)
     (p .kept .1 .1 .1 .1 .0) (p .kept .1 .1 .1 .1 .1 .0) (length-front (l .loop .entries) (p .last .1 .1 .1 .0) (b .block-end .result - l .loop .i) (p .kept .1 .1 .1 .0) ∙ l .loop .inv .entriesLength) (p .ensures)
 
--- src/points.rt:136:1
 same-length : tie.Need-same-length Inv-loop μ-loop
 same-length c = c .before .loop .inv .xsLength
 
--- src/points.rt:136:1
 same-length-2 : tie.Need-same-length-2 Inv-loop μ-loop
 same-length-2 c = c .before .loop .inv .ysLength
 
--- src/points.rt:136:1
 returns : tie.Need-returns Inv-loop μ-loop
 returns c = record { points = λ i h. c .before .loop .inv .points i (omega (arith, h)) }
 
