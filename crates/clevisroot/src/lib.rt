@@ -1,5 +1,7 @@
 // The library for C. include/clevisroot.h says in a person's words what each function does.
 // The answers come first, then the functions that fill them, then the calls, in the header's order.
+#![tactic(auto)]
+
 ghost use Rattle.std.specs.Prelude.{◌≡◌, ◌≤◌};
 ghost use Rattle.g9932.specs.Sizes.{tables, most_tones, point};
 ghost use Rattle.g9932.specs.Refusals.{number_of, place_of, refused, table_verdict};

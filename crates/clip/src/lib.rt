@@ -1,4 +1,6 @@
 // Is the clip the wrong way round? The first monitored tone in t' tells, and no other point is looked at.
+#![tactic(auto)]
+
 ghost use Rattle.std.specs.Prelude.{◌≡◌, length};
 ghost use Rattle.g9932.specs.Clip.{clip_against, clip_of, clip_check, clip_report_of};
 ghost use Rattle.g9932.specs.Filler.{drawn};

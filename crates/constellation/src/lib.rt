@@ -1,4 +1,6 @@
 // Constellations of 1 to 15 bits: one label to a point, one point to a label, without a search.
+#![tactic(auto)]
+
 pub mod demap;
 pub mod map;
 pub mod points;

@@ -3,6 +3,8 @@
 // Coordinates are raised by 1,024, so that they are positive; a raised coordinate of 2 u + 1 has the place u. Coordinates and places have
 // sixteen bits and the steps are the same for every tone, so that a loop over many takes several at a time. Proved code alone calls what has
 // a `requires`.
+#![tactic(auto)]
+
 ghost use Rattle.std.specs.Prelude.{cond, ◌≡◌, ◌+◌, ◌*◌, ◌≤◌, ◌<◌, min, max};
 ghost use Rattle.constellation.specs.Layouts.{ToneLayout};
 ghost use Rattle.g9932.specs.Sizes.{point};

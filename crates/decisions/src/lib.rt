@@ -1,6 +1,8 @@
 // The labels that are decided for received points. Costs and labels go by place in t', in loops whose steps are the same at every place: the
 // compiler takes several places at a time. Between them the trellis is searched pair by pair. Proved code alone calls what has a
 // `requires`.
+#![tactic(auto)]
+
 ghost use Rattle.std.specs.Prelude.{List, ◌≡◌, ◌<◌, length, drop};
 ghost use Rattle.cosets.specs.Meters.{Meter};
 ghost use Rattle.g9932.specs.Sizes.{entry, points};

@@ -1,5 +1,7 @@
 // The trellis code decoded: labels back to a frame's bits. Exact reading checks each pair against the code; labels along a path through the
 // trellis need no check. Proved code alone calls what has a `requires`.
+#![tactic(auto)]
+
 ghost use Rattle.std.specs.Prelude.{◌≡◌, false, ◌^◌, ◌≤◌, ◌<◌, length, get_or};
 ghost use Rattle.frame.specs.Labels.{labels_at, Placed, Rising};
 ghost use Rattle.g9932.specs.Sizes.{most_tones};

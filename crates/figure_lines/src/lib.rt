@@ -1,4 +1,6 @@
 // What the page of bench figures has on one table. The caller prints how the line begins; the register is at reset.
+#![tactic(auto)]
+
 mod half_turn; // what half a turn does
 mod opposites; // coordinates with their signs changed
 mod quarter_turn; // what a quarter turn does

@@ -1,4 +1,6 @@
 // Prints the bench figures of document 01 as the proved operations work them out, one to a line.
+#![tactic(auto)]
+
 mod bench; // the bench tables
 
 use bench::{equal_tones, table_a, table_a_of_twos};

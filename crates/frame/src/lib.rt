@@ -1,4 +1,6 @@
 // Packed bits: the FRAME test, and bits got and put by words, lowest first.
+#![tactic(auto)]
+
 pub mod by_place;
 pub mod masks;
 

@@ -68,6 +68,8 @@ value_bits (fin t m e) s a c h v =
     let n : m * up e * 2 ^ 149 / down e ≡ a * 2 ^ 149 / c =
     div_same (m * up e * 2 ^ 149) (down e) (a * 2 ^ 149) c (down_pos e) h (mul_right_comm (m * up e) (2 ^ 149) c ∙ ap (λ (k : ℕ). k * 2 ^ 149) v.1 ∙ mul_right_comm a (down e) (2 ^ 149)) in
     rw (v.0, n)
+value_bits nan s a c h v = elim v [ ]
+value_bits (inf _) s a c h v = elim v [ ]
 
 -- so two floats of one sign and one size are one
 pub same_value : (x y : Float) (s : Bool) (a c b d : ℕ) → 0 < c → 0 < d → T (fits binary32 x) → T (fits binary32 y)
@@ -121,6 +123,8 @@ quotient (fin t m e) z h v =
 
     over : (a d : ℕ) → a * d * 512 ≡ a * (1 * 512 * d)
     over a d = mul_assoc a d 512 ∙ ap (λ (k : ℕ). a * k) (mul_comm d 512)
+quotient nan z h v = elim v [ ]
+quotient (inf _) z h v = elim v [ ]
 
 -- The cast and the division of the code: of a whole number below 2 to the 24 in size, neither rounds.
 pub no_rounding : (z : ℤ) → nat_abs z < 2 ^ 24 → div binary32 (of_int binary32 z) five_twelve ≡ over512 z
@@ -151,6 +155,10 @@ lt_over a b = go (over512 (pos a)) (over512 (pos b)) (times_over (pos a)) (times
         (below_is (m * up e * down d) (n * up d * down e) a b (down e * down d) (mul-pos (down_pos e) (down_pos d))
         (mul_right_comm (m * up e) (down d) 512 ∙ ap (λ (k : ℕ). k * down d) v.1 ∙ mul_assoc a (down e) (down d))
         (mul_right_comm (n * up d) (down e) 512 ∙ ap (λ (k : ℕ). k * down e) w.1 ∙ mul_assoc b (down d) (down e) ∙ ap (λ (k : ℕ). b * k) (mul_comm (down d) (down e))))
+    go nan y v w = elim v [ ]
+    go (inf _) y v w = elim v [ ]
+    go (fin s m e) nan v w = elim w [ ]
+    go (fin s m e) (inf _) v w = elim w [ ]
 
 -- which ones are below 0
 pub negative_over : (z : ℤ) → lt (over512 z) (over512 (pos 0)) ≡ is_negative z
@@ -164,6 +172,10 @@ negative_over (negsuc n) = go (over512 (negsuc n)) (over512 (pos 0)) (times_over
         let i : 0 < m * up e = omega (arith, v.1) in
         let j : 0 < m * up e * down d = mul-pos i (down_pos d) in
         rw (v.0, w.0) (lt-ltb 0 (m * up e * down d + k * up d * down e) (omega arith))
+    go nan y v w = elim v [ ]
+    go (inf _) y v w = elim v [ ]
+    go (fin s m e) nan v w = elim w [ ]
+    go (fin s m e) (inf _) v w = elim w [ ]
 
 -- the size of a negative one
 pub size_over : (n : ℕ) → neg (over512 (negsuc n)) ≡ over512 (pos (suc n))

@@ -1,4 +1,6 @@
 // Reading points that were received off the grid: the frame whose written points are nearest to them.
+#![tactic(auto)]
+
 mod inputs;
 mod range;
 

@@ -1,4 +1,6 @@
 // Checking the tables, and the re-ordered tables t' and b' (document 01).
+#![tactic(auto)]
+
 ghost use Rattle.std.specs.Prelude.{◌≡◌};
 ghost use Rattle.g9932.specs.Sizes.{tables};
 ghost use Rattle.g9932.specs.Refusals.{table_verdict};

@@ -1,5 +1,7 @@
 // A second mapper, written the plain way and not tuned: the map for b bits calls itself for b - 2 bits, and so does reading. It
 // shares no table, constant or helper with crate constellation, and gives the same answers.
+#![tactic(auto)]
+
 pub mod small;
 
 ghost use Rattle.std.specs.Prelude.{true, ◌≡◌, ◌^◌, ◌<◌, ◌≤◌, pos, ◌+ℤ◌, ◌-ℤ◌, ◌*ℤ◌};

@@ -1,5 +1,7 @@
 // The plan of a symbol: what its passes need of the tables, made once. By place in t' it has the layout of the tone there; by entry of
 // b' that is not 0, the entry's bits and the place of its tone; and the places that draw filler bits.
+#![tactic(auto)]
+
 mod filing;
 
 ghost use Rattle.std.specs.Prelude.{◌≡◌};

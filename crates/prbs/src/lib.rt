@@ -1,4 +1,6 @@
 // The filler bit generator: the pseudo-random sequence that 0-bit tones draw, and monitored ones carry.
+#![tactic(auto)]
+
 ghost use Rattle.std.specs.Prelude.{◌≡◌, ◌*◌};
 ghost use Rattle.g9932.specs.Filler.{draw_of, after_draws};
 ghost use Rattle.g9932.specs.Answers.{draw_answer, drawn_of};

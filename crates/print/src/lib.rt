@@ -1,4 +1,6 @@
 // Numbers, points and answers as text on standard output. Every word of a list has a space before it.
+#![tactic(auto)]
+
 mod outcome; // answers
 
 ghost use Rattle.std.specs.Prelude.{◌≡◌, pos, ◌+ℤ◌};

@@ -1,4 +1,6 @@
 // Encoding and reading one symbol: the order of the refusals, and the parts put together.
+#![tactic(auto)]
+
 mod encoding;
 pub mod reading;
 

@@ -1,4 +1,6 @@
 // The bit, gain and tone tables: what stands at a place and at a sub-carrier, counts over the tones, and refusals 1 to 8.
+#![tactic(auto)]
+
 ghost use Rattle.std.specs.Prelude.{◌≡◌, ◌≤◌, ◌<◌, length};
 ghost use Rattle.g9932.specs.Bits.{weight};
 ghost use Rattle.g9932.specs.Sizes.{entry, tone_of};

@@ -1,4 +1,6 @@
 // The pair report, for the hand-held only: how the symbols of a pair were read, and how many of their bits are wrong.
+#![tactic(auto)]
+
 pub mod wrong_bits;
 
 ghost use Rattle.std.specs.Prelude.{◌≡◌, ◌<◌};

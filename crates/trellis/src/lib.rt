@@ -1,4 +1,6 @@
 // The trellis code: a frame's bits to the labels of the entries of b', pair by pair.
+#![tactic(auto)]
+
 mod pairs;
 
 ghost use Rattle.std.specs.Prelude.{◌≡◌, false, ◌+◌, ◌*◌, ◌^◌, ◌≤◌, ◌<◌, length, get_or, set};
