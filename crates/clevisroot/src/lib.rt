@@ -20,7 +20,7 @@ use tally::{Tallied, Tally};
 
 // What the calls with tables answer: 0 or the refusal, its place, L and the register.
 #[repr(C)]
-#[derive(Drop)]
+#[derive(Clone, Copy)]
 pub struct SymbolAnswer {
     pub number: u32,
     pub place: u32,
@@ -30,7 +30,7 @@ pub struct SymbolAnswer {
 
 // What reading received points answers: the same, and the total of squared distances.
 #[repr(C)]
-#[derive(Drop)]
+#[derive(Clone, Copy)]
 pub struct NearestAnswer {
     pub number: u32,
     pub place: u32,
@@ -41,7 +41,7 @@ pub struct NearestAnswer {
 
 // What the clip check answers: 0 or the refusal, its place, which way round the clip is, and the register as it came.
 #[repr(C)]
-#[derive(Drop)]
+#[derive(Clone, Copy)]
 pub struct ClipAnswer {
     pub number: u32,
     pub place: u32,
@@ -51,7 +51,7 @@ pub struct ClipAnswer {
 
 // What mapping one label answers.
 #[repr(C)]
-#[derive(Drop)]
+#[derive(Clone, Copy)]
 pub struct PointAnswer {
     pub number: u32,
     pub x: i16,
@@ -60,7 +60,7 @@ pub struct PointAnswer {
 
 // What reading one point answers.
 #[repr(C)]
-#[derive(Drop)]
+#[derive(Clone, Copy)]
 pub struct LabelAnswer {
     pub number: u32,
     pub label: u32,
@@ -68,7 +68,7 @@ pub struct LabelAnswer {
 
 // What drawing a filler bit answers.
 #[repr(C)]
-#[derive(Drop)]
+#[derive(Clone, Copy)]
 pub struct DrawAnswer {
     pub number: u32,
     pub bit: u32,
@@ -77,7 +77,7 @@ pub struct DrawAnswer {
 
 // What counting a symbol answers: 0 or the refusal, and the tally to go on with.
 #[repr(C)]
-#[derive(Drop)]
+#[derive(Clone, Copy)]
 pub struct TallyAnswer {
     pub number: u32,
     pub tally: Tally,

@@ -16,14 +16,14 @@ use tables::sizes::Sized;
 
 // How far the look along t has come: the place in t' of the next tone that has not 1 bit, and how many silent tones stand before it there.
 // No 1-bit tone does.
-#[derive(Drop)]
+#[derive(Clone, Copy)]
 pub struct Along {
     pub place: Place,
     pub silent: usize,
 }
 
 // What the look along t finds: the first monitored tone, or that there is none.
-#[derive(Drop)]
+#[derive(Clone, Copy)]
 pub enum Looked {
     At(Along),
     Nowhere,

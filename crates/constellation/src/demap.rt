@@ -8,21 +8,21 @@ ghost use Rattle.constellation.specs.DemapByLayout.{Power, IsLayout, OnAxis, spr
 use super::pick;
 
 // Whether the constellation has a point, and the label where it has.
-#[derive(Drop)]
+#[derive(Clone, Copy)]
 pub struct PointLabel {
     pub on: bool,
     pub label: u16,
 }
 
 // The bits of a coordinate, and whether it is one with these bits.
-#[derive(Drop)]
+#[derive(Clone, Copy)]
 struct AxisBits {
     on: bool,
     bits: u16,
 }
 
 // The top three bits of a label, and whether the constellation has a word with such top bits.
-#[derive(Drop)]
+#[derive(Clone, Copy)]
 struct TopBits {
     on: bool,
     three: u16,

@@ -59,14 +59,14 @@ pub fn layout_table() -> [u16; 16]
 }
 
 // The coordinates of a point.
-#[derive(Drop)]
+#[derive(Clone, Copy)]
 pub struct Coordinates {
     pub x: i16,
     pub y: i16,
 }
 
 // The label of a point, where the constellation has the point.
-#[derive(Drop)]
+#[derive(Clone, Copy)]
 pub struct FoundLabel {
     pub found: bool,
     pub label: u32,

@@ -20,7 +20,7 @@ const ONE: u16 = 0x8140;
 const THREE: u16 = 0x01c0;
 
 // A point by its places on the axes, with its squared distance.
-#[derive(Drop)]
+#[derive(Clone, Copy)]
 pub struct Near {
     pub u: u16,
     pub w: u16,
@@ -72,7 +72,7 @@ fn square_at(x: u16, u: u16) -> u32
 }
 
 // A received point, its coordinates raised by 1,024.
-#[derive(Drop)]
+#[derive(Clone, Copy)]
 pub struct Received {
     pub x: u16,
     pub y: u16,
@@ -93,7 +93,7 @@ fn in_rectangle(s: Received, ax: u16, ay: u16, v1: u16, v0: u16) -> Near
 }
 
 // Half the shorter and half the longer side of a constellation, in places, and whether it is that of 3 bits.
-#[derive(Drop)]
+#[derive(Clone, Copy)]
 pub struct Shape {
     pub inner: u16,
     pub outer: u16,
@@ -124,7 +124,7 @@ fn nearest(h: Shape, s: Received, v1: u16, v0: u16) -> Near
 }
 
 // The squared distances of a coordinate from the nearest place of each parity, by the shorter and the longer side.
-#[derive(Drop)]
+#[derive(Clone, Copy)]
 pub struct Sides {
     pub inner0: u32,
     pub inner1: u32,
@@ -133,7 +133,7 @@ pub struct Sides {
 }
 
 // The cost of each number (v1 v0) of a label's two lowest bits; of 1 bit, c0 and c3 are those of its bit, and c1 and c2 mean nothing.
-#[derive(Drop)]
+#[derive(Clone, Copy)]
 pub struct Costs {
     pub c0: u32,
     pub c1: u32,
@@ -250,7 +250,7 @@ pub fn label_of(layout: u16, found: u16, low: u16) -> u16
 }
 
 // A coset, by its two lowest bits, and its cost.
-#[derive(Drop)]
+#[derive(Clone, Copy)]
 pub struct Coset {
     pub low: u16,
     pub cost: u32,

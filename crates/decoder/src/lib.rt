@@ -15,7 +15,7 @@ use g9932::{Found, TrellisState};
 use trellis::{entry, label, power, weight, zero_state};
 
 // The word that a pair's labels imply: u0 to u3 and, as a number, u4 upward.
-#[derive(Drop)]
+#[derive(Clone, Copy)]
 pub struct PairWord {
     pub u0: bool,
     pub u1: bool,
@@ -84,14 +84,14 @@ fn next_state(s: TrellisState, u1: bool, u2: bool) -> TrellisState
 }
 
 // The reader between two pairs: the state, and the writer of frame bits.
-#[derive(Drop)]
+#[derive(Clone, Copy)]
 pub struct Reader {
     pub state: TrellisState,
     pub writer: BitWriter,
 }
 
 // A pair read: whether it obeys the code, and the reader after it.
-#[derive(Drop)]
+#[derive(Clone, Copy)]
 pub struct PairRead {
     pub obeys: bool,
     pub reader: Reader,
@@ -151,7 +151,7 @@ fn entry_label(labels: &[u16], places: &[u16], i: usize) -> u32
 }
 
 // Pairs read: the first that breaks the code, and the writer after the last.
-#[derive(Drop)]
+#[derive(Clone, Copy)]
 pub struct PairsRead {
     pub broken: Found,
     pub writer: BitWriter,

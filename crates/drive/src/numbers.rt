@@ -7,7 +7,7 @@ ghost use Rattle.drive.specs.Numbers.{Drivable, whole_by, PutNeeds, PutsNumbers}
 use g9932::Signal;
 
 // The numbers of a place.
-#[derive(Drop)]
+#[derive(Clone, Copy)]
 pub struct Numbers {
     pub x: f32,
     pub y: f32,

@@ -15,7 +15,7 @@ const RESET: u32 = 8388607;
 
 // What is printed of a table: L, t' and b', the points of a frame of one byte, the register after it, what given points are
 // read as, or what half a turn or a quarter turn does.
-#[derive(Drop)]
+#[derive(Clone, Copy)]
 pub enum Figure {
     Size(Mode),
     Order,

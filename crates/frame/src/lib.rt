@@ -162,7 +162,7 @@ fn store64(bytes: &mut [u8], i: usize, w: u64)
 
 // Puts bits one after the other: whole bytes stand before `next`, and `fill` bits wait in `acc`.
 // What a buffer holds from `next` on is unspecified until `finish`; a buffer has eight bytes more than are put.
-#[derive(Drop)]
+#[derive(Clone, Copy)]
 pub struct BitWriter {
     pub acc: u64,
     pub fill: usize,

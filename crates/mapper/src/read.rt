@@ -64,7 +64,7 @@ pub fn demap_points(layouts: &[u16], xs: &[i16], ys: &[i16], labels: &mut [u16])
 }
 
 // Filler bits read: the first place that 14 refuses, and the register after the draws.
-#[derive(Drop)]
+#[derive(Clone, Copy)]
 pub struct FillerRead {
     pub monitor: Found,
     pub register: u32,

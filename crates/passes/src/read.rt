@@ -7,7 +7,7 @@ use g9932::{Answer, Found, Mode, Place, Refusal};
 use plan::PlanSizes;
 
 // The places read: what 13 or 14 refuses, or else the register after the draws, with the labels by place.
-#[derive(Drop)]
+#[derive(Clone, Copy)]
 pub enum PlacesRead {
     Refused(Refusal),
     Done(u32),

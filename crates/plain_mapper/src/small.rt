@@ -6,7 +6,7 @@ ghost use Rattle.g9932.specs.Points.{one_points, even_point, three_points, table
 ghost use Rattle.g9932.specs.Plain.{smallest as isSmallest, small_point};
 
 // A point, in a constellation or not.
-#[derive(Drop)]
+#[derive(Clone, Copy)]
 pub struct Point {
     pub x: i16,
     pub y: i16,

@@ -8,7 +8,7 @@ ghost use Rattle.plan.specs.Plan.{is_placed, EmptyNeeds, FilesEmpty, ToneNeeds, 
 use g9932::{Class, Place, Tone};
 
 // Where the next tone goes in each list.
-#[derive(Drop)]
+#[derive(Clone, Copy)]
 pub struct Cursors {
     pub place: Place,
     pub entry: usize,

@@ -12,7 +12,7 @@ use g9932::{Mode, Place, Refusal};
 use tables::sizes::Sized;
 
 // L, and how far the lists of a plan reach: its entries, the first of the places that share entries, and the places that draw.
-#[derive(Drop)]
+#[derive(Clone, Copy)]
 pub struct PlanSizes {
     pub size: usize,
     pub entry_count: usize,
@@ -21,7 +21,7 @@ pub struct PlanSizes {
 }
 
 // The answer of planning.
-#[derive(Drop)]
+#[derive(Clone, Copy)]
 pub enum Planned {
     Lists(PlanSizes),
     Refused(Refusal),

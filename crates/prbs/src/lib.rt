@@ -21,7 +21,7 @@ fn next_bit(register: u32) -> FillerBit
 }
 
 // The two bits of a 0-bit tone as a label, v0 the lower, and the register after them.
-#[derive(Drop)]
+#[derive(Clone, Copy)]
 pub struct FillerLabel {
     pub label: u32,
     pub register: u32,

@@ -3,7 +3,7 @@ use super::{entry, point, refused, refused_at, text};
 use g9932::{Answer, Checked, Mapped, Refusal, number_of, place_of};
 
 // What an operation answers: a refusal's number and place, or 0 and 0; and L, the register, or the byte of a frame.
-#[derive(Drop)]
+#[derive(Clone, Copy)]
 pub struct Outcome {
     pub refusal: u32,
     pub place: u64,

@@ -87,7 +87,7 @@ pub fn one_if(test: bool) -> u16
 }
 
 // Sums over the tones: of the bits, of the loaded tones, and of the 1-bit tones.
-#[derive(Drop)]
+#[derive(Clone, Copy)]
 struct Counts {
     pub sum: usize,
     pub loaded: usize,

@@ -179,7 +179,7 @@ fn any_index_fault(bits: &[u8], gains: &[u16], tones: &[u16], seen: &[bool; MOST
 }
 
 // 4 BITS, 5 STRAY or 6 GAIN, looked for by itself.
-#[derive(Drop)]
+#[derive(Clone, Copy)]
 enum Rule {
     Bits,
     Stray,

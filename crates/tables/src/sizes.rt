@@ -9,7 +9,7 @@ use super::lists::check_lists;
 use g9932::{Checked, Mode, Refusal};
 
 // What the tables make of a frame: L, the entries of b' that are not 0, and the tones that share such an entry with another; or a refusal.
-#[derive(Drop)]
+#[derive(Clone, Copy)]
 pub enum Sized {
     Frame {
         size: usize,

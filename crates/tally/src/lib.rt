@@ -20,7 +20,7 @@ const MOST_FIGURE: u32 = 4294967295;
 
 // The report of a pair: symbols given, symbols refused, frames read wrong, wrong bits, and the number of the first refused symbol.
 #[repr(C)]
-#[derive(Drop)]
+#[derive(Clone, Copy)]
 pub struct Tally {
     pub symbols: u32,
     pub refused: u32,
@@ -30,7 +30,7 @@ pub struct Tally {
 }
 
 // The answer to an entry: the tally with it, or a refusal and the tally as it came.
-#[derive(Drop)]
+#[derive(Clone, Copy)]
 pub enum Tallied {
     Counted(Tally),
     Refused { tally: Tally, refusal: Refusal },

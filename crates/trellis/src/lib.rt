@@ -40,14 +40,14 @@ pub fn label(b0: bool, b1: bool, high: u32) -> u32
 }
 
 // The coder between two pairs: its state and the next frame bit.
-#[derive(Drop)]
+#[derive(Clone, Copy)]
 pub struct Coder {
     pub state: TrellisState,
     pub at: usize,
 }
 
 // A pair coded: its labels, and the coder after it.
-#[derive(Drop)]
+#[derive(Clone, Copy)]
 pub struct PairCode {
     pub v: u32,
     pub w: u32,

@@ -40,11 +40,11 @@ pub fn step_table() -> [u8; 128]
 }
 
 // A state of the encoder as one number: S0 + 2 S1 + 4 S2 + 8 S3.
-#[derive(Drop)]
+#[derive(Clone, Copy)]
 pub struct StateNumber(pub usize);
 
 // What a step hands back: the next state, and the two lowest bits of the labels v and w.
-#[derive(Drop)]
+#[derive(Clone, Copy)]
 pub struct NumberStep {
     pub next: StateNumber,
     pub v: u32,
@@ -86,7 +86,7 @@ fn state_of(k: usize) -> TrellisState
 }
 
 // A free pair coded: its labels, and the state after it.
-#[derive(Drop)]
+#[derive(Clone, Copy)]
 pub struct FreePair {
     pub v: u32,
     pub w: u32,

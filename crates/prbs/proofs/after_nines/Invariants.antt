@@ -1,0 +1,14 @@
+-- `prbs::after_nines` meets its contract. The invariant: the draws that are left lead to the same register. The measure is how often nine
+-- are left.
+use Prim.Native.Nat.{ℕ, ◌*◌, ◌-◌}
+use mathlib.Core.Path.{◌≡◌, refl, sym, ap, ◌∙◌}
+use native.Mathlib.Omega.{arith}
+use Rattle.g9932.specs.Filler.{after_draws}
+use Rattle.prbs.proofs.Draws.{draws_on}
+use Rattle.prbs.proofs.after_nines.Given as goal
+
+abbrev pub invariant-loop-left : goal.invariant-loop-left
+invariant-loop-left l = after_draws (18 * l.left) l.next ≡ after_draws (18 * l.nines) l.register
+
+abbrev pub decreases-loop-left : goal.decreases-loop-left
+decreases-loop-left l = l.left
