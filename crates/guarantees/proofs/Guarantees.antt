@@ -302,7 +302,7 @@ module _ (T : Tables) (ok : AcceptedTables T) where
   -- Coded, an entry of b' is 0 or at least 2. So no pair holds an entry of 1, and only the first may hold a 0, as its x. (Uncoded there
   -- are no pairs.)
   pub no_one_lem : T.mode ≡ Coded → (k : ℕ) → k < length (reordered_bits_of T) → entry (reordered_bits_of T) k ≢ 1
-  no_one_lem = Totals.no_one T ok
+  no_one_lem = Totals.no_one_lem T ok
 
   pub no_one_in_pairs : (k : ℕ) → k < length (pairs_in T) → ((pair_at T k).x ≢ 1) × ((pair_at T k).y ≢ 1)
   no_one_in_pairs = Totals.no_one_in_pairs T ok
@@ -405,7 +405,7 @@ plain_label_lem = Plain.plain_label_lem
 
 -- So an operation that maps or reads by the plain rule gives the point, label or refusal of document 01, for all inputs:
 pub plain_map_lem : (b l : ℕ) → plain_map b l ≡ map_label b l
-plain_map_lem = Plain.plain_map
+plain_map_lem = Plain.plain_map_lem
 
 pub plain_read_lem : (b : ℕ) (p : Point) → plain_read b p ≡ read_point b p
 plain_read_lem = Plain.plain_read_lem

@@ -1,0 +1,52 @@
+-- `constellation::point_by_rule` meets its contract: the word of the label, taken apart.
+use native.Mathlib.Omega.{arith}
+use Prim.Native.Nat.{◌+◌, ◌*◌, ◌≤◌}
+use mathlib.Core.Path.{◌≡◌, sym, ap, ap₂, ◌∙◌}
+use native.Mathlib.Nat.{lt_of_lt_of_le}
+use lib.Pow.{pow_mono, pow_pos}
+use mir.Syntax.{w16}
+use mir.ValLaws.{to_z-of_z}
+use Rattle.g9932.specs.Sizes.{point}
+use Rattle.constellation.specs.Widened.{plain_pairs, widened_label, label_word, sign_weight, coordinate_of}
+use Rattle.constellation.proofs.Mapping.{point_word, Parts, parts_law}
+use Rattle.constellation.proofs.Sizes.{large_word, word_lt, word_16, half_le}
+use Rattle.constellation.proofs.point_by_rule.Goals as goal
+use Rattle.constellation.proofs.point_by_rule.Goals.{After-deinterleave-both, After-sign_weight-h, After-widened_label}
+
+word : (c : After-widened_label) → c.widened_label.result ≡ label_word c.args.b c.args.label
+word c =
+    c.widened_label.ensures ∙ ap (λ k. widened_label k c.args.label) c.plain_pairs-k.ensures ∙ sym (large_word c.args.b c.args.label (omega arith))
+
+parts : (c : After-deinterleave-both) → Parts c.args.b c.args.label c.deinterleave-both.result
+parts c =
+    parts_law c.args.b c.args.label c.deinterleave-both.result (omega arith) c.requires.1 c.requires.2 (rw (word (BARE After-widened_label)) at c.deinterleave-both.ensures)
+
+sizes : (c : After-sign_weight-h) → (1 ≤ c.sign_weight-h.result) × (c.sign_weight-h.result ≤ 256) × (c.sign_weight-h.result ≡ sign_weight (plain_pairs c.args.b))
+sizes c =
+    let k = plain_pairs c.args.b in
+    let e : c.sign_weight-h.result ≡ sign_weight k = c.sign_weight-h.ensures ∙ ap sign_weight c.plain_pairs-k.ensures in
+    (omega (arith, pow_pos k), omega (arith, half_le k (omega arith)), e)
+
+pub widened_label-requires : goal.widened_label-requires
+widened_label-requires c =
+    let k = plain_pairs c.args.b in
+    (omega arith, omega arith, rw c.plain_pairs-k.ensures (lt_of_lt_of_le c.requires.2 (pow_mono {i = c.args.b} {j = 2 * k + 3} (omega arith))))
+
+pub deinterleave-both-requires : goal.deinterleave-both-requires
+deinterleave-both-requires c =
+    rw (word c) (word_16 (plain_pairs c.args.b) (label_word c.args.b c.args.label) (omega arith) (word_lt c.args.b c.args.label (omega arith) c.requires.2))
+
+pub coordinate_of-requires : goal.coordinate_of-requires
+coordinate_of-requires c = ((sizes c).0, (sizes c).1, (parts (goal.at.coordinate_of-requires c).After-deinterleave-both).x_small)
+
+pub coordinate_of-requires-2 : goal.coordinate_of-requires-2
+coordinate_of-requires-2 c = ((sizes (goal.at.coordinate_of-requires-2 c).After-sign_weight-h).0, (sizes (goal.at.coordinate_of-requires-2 c).After-sign_weight-h).1, (parts (goal.at.coordinate_of-requires-2 c).After-deinterleave-both).y_small)
+
+pub returns : goal.returns
+returns c =
+    let x = to_z-of_z w16 c.coordinate_of.result (record { sfits = c.coordinate_of.type_inv }) in
+    let y = to_z-of_z w16 c.coordinate_of-2.result (record { sfits = c.coordinate_of-2.type_inv }) in
+    ap₂ point
+    (x ∙ c.coordinate_of.ensures ∙ ap₂ coordinate_of (sizes (goal.at.returns c).After-sign_weight-h).2 (parts (goal.at.returns c).After-deinterleave-both).x)
+    (y ∙ c.coordinate_of-2.ensures ∙ ap₂ coordinate_of (sizes (goal.at.returns c).After-sign_weight-h).2 (parts (goal.at.returns c).After-deinterleave-both).y)
+    ∙ sym (point_word c.args.b c.args.label (omega arith) c.requires.1 c.requires.2)
