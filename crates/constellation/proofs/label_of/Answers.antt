@@ -26,14 +26,14 @@ sizes c =
 both_small : (c : After-coordinate_bits-ey) → let weight = c.sign_weight-h.result in
     (c.coordinate_bits-ex.result < weight) × (c.coordinate_bits-ey.result < weight)
 both_small c =
-    let h = (sizes (BARE After-sign_weight-h)).1 in
+    let h = (sizes c.before.before.before.before).1 in
     (rw c.coordinate_bits-ex.ensures (mod-lt _ h), rw c.coordinate_bits-ey.ensures (mod-lt _ h))
 
 word : (c : After-interleave-word) → c.interleave-word.result < 2 ^ (4 + 2 * c.plain_pairs-k.result)
 word c =
     let k = c.plain_pairs-k.result in
     let e = c.sign_weight-h.ensures in
-    let l = both_small (BARE After-coordinate_bits-ey) in
+    let l = both_small c.before in
     rw c.interleave-word.ensures (interleaved_word k c.coordinate_bits-ex.result c.coordinate_bits-ey.result (omega arith) (omega arith) (omega arith))
 
 pub raised_coordinate-u-requires : goal.raised_coordinate-u-requires

@@ -19,7 +19,7 @@ word c =
 
 parts : (c : After-deinterleave-both) → Parts c.args.b c.args.label c.deinterleave-both.result
 parts c =
-    parts_law c.args.b c.args.label c.deinterleave-both.result (omega arith) c.requires.1 c.requires.2 (rw (word (BARE After-widened_label)) at c.deinterleave-both.ensures)
+    parts_law c.args.b c.args.label c.deinterleave-both.result (omega arith) c.requires.1 c.requires.2 (rw (word c.before) at c.deinterleave-both.ensures)
 
 sizes : (c : After-sign_weight-h) → (1 ≤ c.sign_weight-h.result) × (c.sign_weight-h.result ≤ 256) × (c.sign_weight-h.result ≡ sign_weight (plain_pairs c.args.b))
 sizes c =
