@@ -7,7 +7,7 @@ use Rattle.tables.proofs.lists.check_indices.Goals as goal
 
 pub returns-then-not-any_index_fault : goal.returns-then-not-any_index_fault
 returns-then-not-any_index_fault c =
-    indices_passed c.args.bits.now c.args.gains.now c.args.tones.now (sym c.any_index_fault.ensures ∙ not-true _ c.if-not-any_index_fault.true)
+    indices_passed c.args.bits.now c.args.gains.now c.args.tones.now (sym c.any_index_fault.ensures ∙ c.if-not-any_index_fault.true)
 
 pub returns-in-At : goal.returns-in-At
 returns-in-At c = found_here 4 _ (sym c.first_index.ensures ∙ c.in-At.is)
