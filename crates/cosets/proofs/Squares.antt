@@ -1,5 +1,5 @@
 -- The square of a signed difference is that of the gap.
-use Prim.Native.Nat.{ℕ, suc, ◌-◌, ◌*◌, ◌≤◌}
+use Prim.Native.Nat.{ℕ, zero, suc, ◌-◌, ◌*◌, ◌≤◌}
 use mathlib.Core.Bool.{Bool, true, false, cond}
 use mathlib.Core.Path.{◌≡◌, refl, ap}
 use native.Mathlib.Omega.{arith}
@@ -58,6 +58,7 @@ square_of z g l m e =
     r = to_z-of_z w32 (pos (g * g)) f
 
 pub square_gap : (x n : ℕ) → x ≤ 2047 → 1 ≤ n → n ≤ 2047 → SquareIs (to_z w16 x -ℤ to_z w16 n) (gap x n)
+square_gap x zero h l m = elim l [ ]
 square_gap x (suc n) h l m = rw (to_z_pos w16 x (omega arith), to_z_pos w16 (suc n) (omega arith)) (go (ltb x (suc n)) refl)
   where
     go : (c : Bool) → ltb x (suc n) ≡ c → SquareIs (cond c (negsuc (suc n - suc x)) (pos (x - suc n))) (gap x (suc n))
