@@ -21,9 +21,9 @@ loop-i-preserved c =
     let g = tone_more c.args.least cs t c.loop-i.invariant.3 w in
     let arrays : Arrays _ _ _ _ =
     record {
-      layouts_length = c.file_tone-at.auto.1.1.1.1.0 ∙ c.loop-i.invariant.2.layouts_length;
-      entries_length = c.file_tone-at.auto.1.1.1.1.1.0 ∙ c.loop-i.invariant.2.entries_length;
-      places_length = c.file_tone-at.auto.1.1.1.1.1.1.0 ∙ c.loop-i.invariant.2.places_length;
-      drawing_length = c.file_tone-at.auto.1.1.1.1.1.1.1.0 ∙ c.loop-i.invariant.2.drawing_length;
+      layouts_length = c.file_tone-at.auto.layouts ∙ c.loop-i.invariant.2.layouts_length;
+      entries_length = c.file_tone-at.auto.entries ∙ c.loop-i.invariant.2.entries_length;
+      places_length = c.file_tone-at.auto.places ∙ c.loop-i.invariant.2.places_length;
+      drawing_length = c.file_tone-at.auto.drawing ∙ c.loop-i.invariant.2.drawing_length;
     } in
     (omega (arith, c.loop-i.invariant.0, one_place c.args.least cs t c.loop-i.invariant.3 w), omega (arith, i), arrays, rw (classes_more c.args.least c.args.bits.now c.args.gains.now c.args.tones.now c.loop-i.i (omega (arith, i))) g)

@@ -11,9 +11,7 @@ use Rattle.trellis.proofs.Steps.{state_back, step_v, step_w, step_next}
 use Rattle.trellis.specs.Steps.{state_at}
 use Rattle.paths.specs.Paths.{Inputs, after, low_by}
 use Rattle.paths.specs.Survivors.{index_of, inputs_of, survivor}
-use borrow.Author.Rules.{rules}
-use Rattle.paths.proofs.follow_pair.Statement.{statement}
-use Rattle.paths.proofs.follow_pair.Tie as tie
+use Rattle.paths.proofs.follow_pair.Goals as goal
 
 -- the number of a number's state
 number-back : (n : ℕ) → n < 16 → index_of (state_at n) ≡ n
@@ -24,19 +22,13 @@ number-back n h =
     let top : n / 8 % 2 ≡ n / 8 = omega arith in
     omega (arith, weight_odd n, weight_odd (n / 2), weight_odd (n / 4), weight_odd (n / 8))
 
-cast-step : tie.Need-overflow-cast-step
-cast-step c =
-    let a = c.before.before.before.args in
-    omega (arith, c.shared-slice-known2.given (16 * a.j + a.state.0))
-
-returns : tie.Need-returns
+pub returns : goal.returns
 returns c =
-    let a = c.before.before.before.before.args in
-    let s : TrellisState = state_at a.state.0 in
-    let k : ℕ = get_or a.survivors.now (16 * a.j + a.state.0) 0 in
+    let s : TrellisState = state_at c.args.state.0 in
+    let k : ℕ = get_or c.args.survivors.now (16 * c.args.j + c.args.state.0) 0 in
     let u : Inputs = inputs_of k in
-    let e : u ≡ survivor a.survivors.now a.j s =
-    ap (λ (n : ℕ). inputs_of (get_or a.survivors.now (16 * a.j + n) 0)) (sym (number-back a.state.0 c.before.before.before.before.requires.1)) in
+    let e : u ≡ survivor c.args.survivors.now c.args.j s =
+    ap (λ (n : ℕ). inputs_of (get_or c.args.survivors.now (16 * c.args.j + n) 0)) (sym (number-back c.args.state.0 c.requires.1)) in
     let r = c.step.ensures in
     record {
       next_small = omega (arith, r.next_is, r.small);
@@ -44,6 +36,3 @@ returns c =
       v_is = r.v_is ∙ step_v s u.u1 u.u2 u.u3 _ refl ∙ ap (λ (z : Inputs). weight (low_by s z).v0 + 2 * weight (low_by s z).v1) e;
       w_is = r.w_is ∙ step_w s u.u1 u.u2 u.u3 _ refl ∙ ap (λ (z : Inputs). weight (low_by s z).w0 + 2 * weight (low_by s z).w1) e;
     }
-
-pub follow-pair-spec : {M : Type 1} → statement M
-follow-pair-spec = tie.close (tie.spec (λ c. search rules) (λ c. search rules) (λ c. search rules) cast-step (λ c κs. search rules) returns)
