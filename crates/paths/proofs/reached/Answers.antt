@@ -1,17 +1,14 @@
 use Prim.Native.Nat.{◌-◌, ◌/◌}
 use mathlib.Core.Path.{◌≡◌, refl, ap, ◌∙◌}
 use native.Mathlib.Omega.{arith}
-use borrow.Author.Tests.{not-true, not-false}
 use lib.ListN.{get_or, set}
 use Rattle.paths.specs.Survivors.{reached}
 use Rattle.paths.proofs.Forced.{fourths, fourths_more, fourths_all}
-use Rattle.paths.proofs.reached.Reads as reads
-use Rattle.paths.proofs.reached.Lts as lts
 use Rattle.paths.proofs.reached.Goals as goal
 
 pub returns-then-not-late : goal.returns-then-not-late
 unfolding reached
-returns-then-not-late c = rw (not-true c.args.late c.if-not-late.true) refl
+returns-then-not-late c = rw (c.if-not-late.true) refl
 
 pub loop-s-init : goal.loop-s-init
 unfolding fourths
@@ -25,4 +22,4 @@ loop-s-preserved c =
 pub returns : goal.returns
 returns c =
     let e : c.loop-s.s / 4 ≡ 4 = omega (arith, c.loop-s.invariant.0, c.loop-s-test.false) in
-    rw (not-false c.args.late c.if-not-late.false) (c.loop-s.invariant.2 ∙ ap (fourths c.args.old.now) e ∙ fourths_all c.args.old.now)
+    rw (c.if-not-late.false) (c.loop-s.invariant.2 ∙ ap (fourths c.args.old.now) e ∙ fourths_all c.args.old.now)

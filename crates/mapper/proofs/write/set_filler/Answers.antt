@@ -1,0 +1,13 @@
+use native.Mathlib.Omega.{arith}
+use Prim.Native.Nat.{◌-◌}
+use Rattle.mapper.proofs.FillerLoop.{drawn_small, fill_step}
+use Rattle.mapper.proofs.write.set_filler.Goals as goal
+
+pub overflow_cast-f : goal.overflow_cast-f
+overflow_cast-f c =
+    omega (arith, c.filler_label-f.ensures.label, drawn_small c.loop-k.next)
+
+pub loop-k-preserved : goal.loop-k-preserved
+loop-k-preserved c =
+    rw (c.put_label.ensures, c.place_at.ensures)
+    (fill_step c.loop-k.invariant (omega arith) c.filler_label-f.result.label c.filler_label-f.result.register c.filler_label-f.ensures.label c.filler_label-f.ensures.register)

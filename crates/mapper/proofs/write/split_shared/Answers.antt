@@ -1,0 +1,11 @@
+use native.Mathlib.Omega.{arith}
+use Prim.Native.Nat.{◌-◌}
+use Rattle.mapper.proofs.SharedLabels.{split_step, split_end}
+use Rattle.mapper.proofs.write.split_shared.Goals as goal
+
+pub loop-i-preserved : goal.loop-i-preserved
+loop-i-preserved c =
+    split_step c.loop-i.labels c.loop-i.i (omega arith) c.loop-i.invariant
+
+pub returns : goal.returns
+returns c = split_end c.loop-i.invariant (omega arith)
