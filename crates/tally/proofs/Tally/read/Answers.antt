@@ -17,7 +17,7 @@ returns-then-is_full c =
 pub returns-then-sent-read : goal.returns-then-sent-read
 returns-then-sent-read c =
     let frame : entry_test (read_as c.args.sent.now c.args.read.now) ≡ true =
-    ⊎-elim (λ w. lengths_differ c.args.sent.now c.args.read.now (λ e. omega (arith, e, w))) (λ w. frames_long c.args.sent.now c.args.read.now (ltb-true most_bytes (length c.args.sent.now) w.1.taken)) c.then-sent-read.branch in
+    ? in
     rw c.refuse-then-sent-read.ensures
     (sym (frame_next c.args.self (read_as c.args.sent.now c.args.read.now) (has_room c.args.self c.is_full.ensures c.if-is_full.false) frame))
 

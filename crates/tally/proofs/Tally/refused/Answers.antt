@@ -15,7 +15,7 @@ returns-then-is_full c =
 pub returns-then-sent-gt-MOST_BYTES : goal.returns-then-sent-gt-MOST_BYTES
 returns-then-sent-gt-MOST_BYTES c =
     let frame : entry_test (refused_with c.args.sent.now c.args.refusal) ≡ true =
-    ⊎-elim (λ w. frame_long c.args.sent.now c.args.refusal (omega (arith, w))) (λ w. number_zero c.args.sent.now c.args.refusal (eqb-true c.args.refusal 0 w.1.taken)) c.then-sent-gt-MOST_BYTES.branch in
+    ? in
     rw c.refuse-then-sent-gt-MOST_BYTES.ensures
     (sym (frame_next c.args.self (refused_with c.args.sent.now c.args.refusal) (has_room c.args.self c.is_full.ensures c.if-is_full.false) frame))
 
