@@ -1,0 +1,31 @@
+-- `decisions::label_points` meets its contract: the labels that are found for nearest points are nearest labels.
+use Rattle.decisions.proofs.Places.{labels_are_lem}
+use mathlib.Core.Path.{sym, ◌∙◌}
+use native.Mathlib.Omega.{arith}
+use Rattle.decisions.proofs.label_points.Reads as reads
+use Rattle.decisions.proofs.label_points.Lts as lts
+use Rattle.mapper.proofs.read.demap_all.Reads as demap-all-reads
+use Rattle.decisions.proofs.nearest_points.Reads as nearest-points-reads
+use Rattle.decisions.proofs.put_labels.Reads as put-labels-reads
+use Rattle.decisions.proofs.label_points.Goals as goal
+
+pub demap_all-all_on-requires : goal.demap_all-all_on-requires
+demap_all-all_on-requires c =
+    let s = c.requires.0 in
+    let p = c.nearest_points.ensures in
+    let n = p.xs_length ∙ s.lows_length in
+    record {
+      points =
+          record {
+            layouts_length = s.places.layouts_length ∙ sym n;
+            ys_length = p.ys_length ∙ s.lows_length ∙ sym n;
+            of_tones = λ i h. s.places.of_tones i (omega (arith, h, n));
+          };
+      labels_length = c.requires.1 ∙ sym n;
+    }
+
+pub returns : goal.returns
+returns c =
+    let s = c.requires.0 in
+    let p = c.nearest_points.ensures in
+    labels_are_lem s.places.layouts_length (p.xs_length ∙ s.lows_length) p c.demap_all-all_on.ensures c.put_labels.ensures
