@@ -1,9 +1,10 @@
 //! build.rs in a made-up repository: with and without `rt`, with an archive that is missing, fresh
 //! or older than its sources.
 
+use std::env;
 use std::fs;
 use std::path::{Path, PathBuf};
-use std::process::{Command, Output};
+use std::process::{self, Command, Output};
 use std::sync::OnceLock;
 use std::time::{Duration, SystemTime};
 
@@ -20,13 +21,19 @@ fn build_script() -> &'static Path {
     })
 }
 
+/// Outside the checkout, in which `rt ci` takes no other crates, and gone with its test.
 struct Repository(PathBuf);
+
+impl Drop for Repository {
+    fn drop(&mut self) {
+        let _ = fs::remove_dir_all(&self.0);
+    }
+}
 
 impl Repository {
     /// One crate beside the library's, a folder for programs that is all of PATH, and one for the output.
     fn new(name: &str) -> Repository {
-        let root = Path::new(env!("CARGO_TARGET_TMPDIR")).join(name);
-        let _ = fs::remove_dir_all(&root);
+        let root = env::temp_dir().join(format!("clevisroot-{}-{name}", process::id()));
         let folders = "ffi crates/one/src crates/clevisroot/out target/staticlib bin out";
         for folder in folders.split(' ') {
             fs::create_dir_all(root.join(folder)).expect("a folder can be made");
