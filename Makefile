@@ -22,7 +22,7 @@ CXXFLAGS ?= -g -O1
 
 OWN := target/staticlib/libclevisroot.a
 ARCHIVE := $(or $(CLEVISROOT_ARCHIVE),$(OWN))
-SOURCES := crates.txt $(shell find crates -mindepth 2 -name must-fail -prune -o -print)
+SOURCES := crates.txt $(shell find crates -mindepth 2 \( -name must-fail -o -name out \) -prune -o -print)
 HEADERS := include/clevisroot.h include/clevisroot_names.h
 VERSION := $(shell sed -n 's/.*CLEVISROOT_VERSION_TEXT "\(.*\)"/\1/p' include/clevisroot.h)
 BUILD := target/c
@@ -32,12 +32,13 @@ EXAMPLES := pair_report clip quarter
 .PHONY: all install uninstall programs check
 all: $(ARCHIVE)
 
+# any x86-64 machine: without --cpu the code would need a newer one
 $(OWN): $(SOURCES)
 	@command -v rt >/dev/null || { echo "make: rt, which proves and compiles the library, is not in PATH."; \
 	    echo "Install the Rattle kit (README.md, \"What you need\"), or set CLEVISROOT_ARCHIVE to a libclevisroot.a"; \
 	    echo "that was built elsewhere."; exit 1; }
-	rt staticlib clevisroot
-	@touch $@
+	cd crates/clevisroot && rt lib --cpu=x86-64
+	install -D -m 644 crates/clevisroot/out/libclevisroot.a $@
 
 # ---- installing
 

@@ -1,6 +1,6 @@
 //! Links the static library: the archive that CLEVISROOT_ARCHIVE names (a full path, or one from the
-//! repository root), or else target/staticlib/libclevisroot.a there. `rt staticlib` writes the latter
-//! where it is missing, or older than crates/ and crates.txt.
+//! repository root), or else target/staticlib/libclevisroot.a there. The latter is a copy of what
+//! `rt lib` writes, which runs where it is missing, or older than crates/ and crates.txt.
 
 use std::env;
 use std::fs::{self, OpenOptions};
@@ -62,16 +62,22 @@ fn own_archive(root: &Path) -> Result<PathBuf, String> {
         return Ok(archive);
     }
     match write_archive(root) {
-        Ok(status) if status.success() => {}
-        Ok(status) => return Err(format!("rt staticlib clevisroot: {status}")),
+        Ok(status) if status.success() => copy_written(root, &archive)?,
+        Ok(status) => return Err(format!("rt lib, in {CRATE}: {status}")),
         Err(error) if error.kind() != io::ErrorKind::NotFound => {
-            return Err(format!("rt staticlib clevisroot: {error}"))
+            return Err(format!("rt lib, in {CRATE}: {error}"))
         }
         Err(_) if missing => return Err(NO_RT.to_string()),
         Err(_) => warn_stale(&archive, "rt is not there to build it again, so it is used"),
     }
     Ok(archive)
 }
+
+/// The crate of the static library.
+const CRATE: &str = "crates/clevisroot";
+
+/// Code for any x86-64 machine: without --cpu it would need a newer one. The Makefile has the same.
+const RT_LIB: [&str; 2] = ["lib", "--cpu=x86-64"];
 
 const NO_RT: &str = "the static library, target/staticlib/libclevisroot.a, is not built yet, and \
 `rt`, which proves and compiles it, is not in PATH.
@@ -118,17 +124,26 @@ fn modified(path: &Path) -> Option<SystemTime> {
 
 fn write_archive(root: &Path) -> io::Result<ExitStatus> {
     let mut rt = Command::new("rt");
-    rt.args(["staticlib", "clevisroot"]).current_dir(root);
+    rt.args(RT_LIB).current_dir(root.join(CRATE));
     let Some(mut terminal) = terminal() else {
         return rt.status();
     };
     rt.stdout(terminal.try_clone()?);
     rt.stderr(terminal.try_clone()?);
     let mut running = rt.spawn()?;
-    let told =
-        "clevisroot: rt proves and compiles the static library; 4 to 5 minutes the first time";
+    let told = "clevisroot: rt proves and compiles the static library; minutes the first time";
     let _ = writeln!(terminal, "{told}");
     running.wait()
+}
+
+/// A copy of what `rt lib` wrote, where everything that is not proved looks for it.
+fn copy_written(root: &Path, archive: &Path) -> Result<(), String> {
+    let written = root.join(CRATE).join("out/libclevisroot.a");
+    let folder = archive.parent().expect("the archive is in a folder");
+    fs::create_dir_all(folder)
+        .and_then(|()| fs::copy(&written, archive))
+        .map(|_| ())
+        .map_err(|error| format!("{}: {error}", written.display()))
 }
 
 /// The terminal, if there is one: cargo keeps what a build script prints, and nobody would see rt's

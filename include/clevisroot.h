@@ -1,8 +1,8 @@
 /*
  * Clevisroot: the symbol core of a VDSL2 tester (G.993.2 clause 10.3).
  *
- * Machines: x86-64 only, as ELF objects with the System V calling convention, because that is all
- * that today's compiler emits. For an Arm board there is no archive to link: run the core on an
+ * Machines: x86-64 only, as ELF objects with the System V calling convention, because it is built
+ * and tested for nothing else. For an Arm board there is no archive to link: run the core on an
  * x86-64 host beside it, or write your own from docs/RULES.md and hold it to this one.
  *
  * It checks bit, gain and tone tables, re-orders them, turns a frame of bits into one integer

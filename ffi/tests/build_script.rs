@@ -1,9 +1,10 @@
 //! build.rs in a made-up repository: with and without `rt`, with an archive that is missing, fresh
 //! or older than its sources.
 
+use std::env;
 use std::fs;
 use std::path::{Path, PathBuf};
-use std::process::{Command, Output};
+use std::process::{self, Command, Output};
 use std::sync::OnceLock;
 use std::time::{Duration, SystemTime};
 
@@ -20,14 +21,21 @@ fn build_script() -> &'static Path {
     })
 }
 
+/// Outside the checkout, in which `rt ci` takes no other crates, and gone with its test.
 struct Repository(PathBuf);
 
+impl Drop for Repository {
+    fn drop(&mut self) {
+        let _ = fs::remove_dir_all(&self.0);
+    }
+}
+
 impl Repository {
-    /// One crate, a folder for programs that is all of PATH, and a folder for the output.
+    /// One crate beside the library's, a folder for programs that is all of PATH, and one for the output.
     fn new(name: &str) -> Repository {
-        let root = Path::new(env!("CARGO_TARGET_TMPDIR")).join(name);
-        let _ = fs::remove_dir_all(&root);
-        for folder in ["ffi", "crates/one/src", "target/staticlib", "bin", "out"] {
+        let root = env::temp_dir().join(format!("clevisroot-{}-{name}", process::id()));
+        let folders = "ffi crates/one/src crates/clevisroot/out target/staticlib bin out";
+        for folder in folders.split(' ') {
             fs::create_dir_all(root.join(folder)).expect("a folder can be made");
         }
         let repository = Repository(root);
@@ -55,7 +63,7 @@ impl Repository {
     fn install_rt(&self) {
         use std::os::unix::fs::PermissionsExt;
         let rt = self.0.join("bin/rt");
-        let script = "#!/bin/sh\necho \"$@\" >> calls\n: > target/staticlib/libclevisroot.a\n";
+        let script = "#!/bin/sh\necho \"$@\" >> ../../calls\n: > out/libclevisroot.a\n";
         fs::write(&rt, script).expect("a script can be written");
         fs::set_permissions(&rt, fs::Permissions::from_mode(0o755)).expect("it can be run");
     }
@@ -105,7 +113,7 @@ fn a_missing_archive_is_built() {
     repository.install_rt();
     let ran = repository.run(None);
     assert!(ran.status.success());
-    assert_eq!(repository.calls_of_rt(), "staticlib clevisroot\n");
+    assert_eq!(repository.calls_of_rt(), "lib --cpu=x86-64\n");
     assert!(stdout(&ran).contains("cargo:rustc-link-lib=static=clevisroot"));
     assert!(repository.0.join("out/libclevisroot.a").exists());
 }
@@ -128,7 +136,7 @@ fn an_archive_older_than_a_source_is_built_again() {
         repository.write(OWN, 50);
         repository.write(source, 10);
         assert!(repository.run(None).status.success());
-        assert_eq!(repository.calls_of_rt(), "staticlib clevisroot\n");
+        assert_eq!(repository.calls_of_rt(), "lib --cpu=x86-64\n");
     }
 }
 
@@ -139,7 +147,7 @@ fn an_archive_of_a_source_that_was_taken_away_is_built_again() {
     repository.write(OWN, 50);
     fs::remove_file(repository.0.join("crates/one/src/more.rt")).expect("it can be removed");
     assert!(repository.run(None).status.success());
-    assert_eq!(repository.calls_of_rt(), "staticlib clevisroot\n");
+    assert_eq!(repository.calls_of_rt(), "lib --cpu=x86-64\n");
 }
 
 #[test]

@@ -67,6 +67,7 @@ fn an_input_is_not_overwritten_by_whatever_name() {
     let call = format!("\"$TOOL\" encode {set} {frame} --out {folder}/o > {folder}/o");
     refused(&shell(&call), "--out names the file that is printed to");
     assert_eq!(fs::read_to_string(&frame).unwrap(), "01\n");
+    fs::remove_file(&soft).unwrap(); // `rt ci` takes no link in the checkout
 }
 
 #[test]
@@ -182,6 +183,7 @@ fn links_stay_links_and_modes_stay() {
     let ran = run(&["encode", A, "examples/bench-a.hex", "--out", &target]);
     assert_eq!(ran.status, 66);
     assert_eq!(names(&folder), ["link.csv", "real.csv"]);
+    fs::remove_file(&link).unwrap(); // `rt ci` takes no link in the checkout
 }
 
 #[test]
