@@ -21,16 +21,16 @@ pub returns-then-frame_refused : goal.returns-then-frame_refused
 unfolding encode_inputs
 returns-then-frame_refused c =
     let room = room_none c.args.x_len c.args.y_len c.args.nsc c.if-x_len-nsc.false c.if-y_len-nsc.false in
-    inputs_refused c.in-Lists.is _ (test_past 10 room (test_here 11 _ (sym c.Frame-refused.ensures ∙ c.if-frame_refused.true)))
+    inputs_refused c.in-Lists.is _ (test_past 10 room (test_here 11 _ (sym c.frame_refused.ensures ∙ c.if-frame_refused.true)))
 
 pub returns-then-seed_refused : goal.returns-then-seed_refused
 unfolding encode_inputs
 returns-then-seed_refused c =
     let room = room_none c.args.x_len c.args.y_len c.args.nsc c.if-x_len-nsc.false c.if-y_len-nsc.false in
-    inputs_refused c.in-Lists.is _ (test_past 10 room (test_past 11 (sym c.Frame-refused.ensures ∙ c.if-frame_refused.false) (test_here 12 _ (sym c.seed_refused.ensures ∙ c.if-seed_refused.true))))
+    inputs_refused c.in-Lists.is _ (test_past 10 room (test_past 11 (sym c.frame_refused.ensures ∙ c.if-frame_refused.false) (test_here 12 _ (sym c.seed_refused.ensures ∙ c.if-seed_refused.true))))
 
 pub returns-in-Lists : goal.returns-in-Lists
 unfolding encode_inputs
 returns-in-Lists c =
     let room = room_none c.args.x_len c.args.y_len c.args.nsc c.if-x_len-nsc.false c.if-y_len-nsc.false in
-    inputs_pass_lem c.in-Lists.is (test_past 10 room (test_past 11 (sym c.Frame-refused.ensures ∙ c.if-frame_refused.false) (test_past 12 (sym c.seed_refused.ensures ∙ c.if-seed_refused.false) refl)))
+    inputs_pass_lem c.in-Lists.is (test_past 10 room (test_past 11 (sym c.frame_refused.ensures ∙ c.if-frame_refused.false) (test_past 12 (sym c.seed_refused.ensures ∙ c.if-seed_refused.false) refl)))

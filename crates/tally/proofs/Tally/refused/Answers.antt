@@ -1,5 +1,6 @@
 -- `Tally::refused` meets its contract.
 use mathlib.Core.Bool.{true}
+use mathlib.Core.Logic.{inl, inr}
 use mathlib.Core.Path.{◌≡◌, sym}
 use native.Mathlib.Omega.{arith}
 use borrow.Author.Tests.{eqb-true, eqb-false}
@@ -15,7 +16,10 @@ returns-then-is_full c =
 pub returns-then-sent-gt-MOST_BYTES : goal.returns-then-sent-gt-MOST_BYTES
 returns-then-sent-gt-MOST_BYTES c =
     let frame : entry_test (refused_with c.args.sent.now c.args.refusal) ≡ true =
-    ? in
+    elim c.then-sent-gt-MOST_BYTES.either [
+      inl h ↦ frame_long c.args.sent.now c.args.refusal h
+      | inr h ↦ number_zero c.args.sent.now c.args.refusal h.1
+    ] in
     rw c.refuse-then-sent-gt-MOST_BYTES.ensures
     (sym (frame_next c.args.self (refused_with c.args.sent.now c.args.refusal) (has_room c.args.self c.is_full.ensures c.if-is_full.false) frame))
 
@@ -23,4 +27,4 @@ pub returns : goal.returns
 returns c =
     rw c.with_symbol.ensures
     (sym (counted c.args.self (refused_with c.args.sent.now c.args.refusal) (has_room c.args.self c.is_full.ensures c.if-is_full.false)
-    (refusal_passes c.args.sent.now c.args.refusal (omega arith) (eqb-false c.args.refusal 0 c.if-refusal-eq0.false))))
+    (refusal_passes c.args.sent.now c.args.refusal (omega arith) c.if-refusal-eq0.false)))
