@@ -3,7 +3,6 @@ use mathlib.Core.Bool.{true}
 use mathlib.Core.Logic.{inl, inr}
 use mathlib.Core.Path.{◌≡◌, sym}
 use native.Mathlib.Omega.{arith}
-use borrow.Author.Tests.{lt-ltb, le-ltb}
 use lib.ListN.{length}
 use Rattle.g9932.specs.Sizes.{most_bytes}
 use Rattle.tally.specs.PairReport.{read_as, entry_test}
@@ -20,7 +19,7 @@ returns-then-sent-read c =
     let frame : entry_test (read_as c.args.sent.now c.args.read.now) ≡ true =
     elim c.then-sent-read.either [
       inl h ↦ lengths_differ c.args.sent.now c.args.read.now h
-      | inr h ↦ frames_long c.args.sent.now c.args.read.now (lt-ltb most_bytes (length c.args.sent.now) h.1)
+      | inr h ↦ frames_long c.args.sent.now c.args.read.now h.1
     ] in
     rw c.refuse-then-sent-read.ensures
     (sym (frame_next c.args.self (read_as c.args.sent.now c.args.read.now) (has_room c.args.self c.is_full.ensures c.if-is_full.false) frame))
@@ -29,4 +28,4 @@ pub returns : goal.returns
 returns c =
     rw (c.with_symbol.ensures, c.wrong_bits.ensures)
     (sym (counted c.args.self (read_as c.args.sent.now c.args.read.now) (has_room c.args.self c.is_full.ensures c.if-is_full.false)
-    (frames_pass c.args.sent.now c.args.read.now c.if-sent-read.false (le-ltb most_bytes (length c.args.sent.now) c.if-sent-gt-MOST_BYTES.false))))
+    (frames_pass c.args.sent.now c.args.read.now c.if-sent-read.false c.if-sent-gt-MOST_BYTES.false)))

@@ -3,7 +3,6 @@ use mathlib.Core.Bool.{true}
 use mathlib.Core.Logic.{inl, inr}
 use mathlib.Core.Path.{◌≡◌, sym}
 use native.Mathlib.Omega.{arith}
-use borrow.Author.Tests.{eqb-true, eqb-false}
 use Rattle.tally.specs.PairReport.{refused_with, entry_test}
 use Rattle.tally.proofs.Answers.{full_first, frame_next, counted}
 use Rattle.tally.proofs.Entries.{is_full, has_room, refusal_passes, frame_long, number_zero}
