@@ -13,19 +13,31 @@ use Rattle.g9932.proofs.Accepted.{Accepted, accepted_tables}
 use Rattle.g9932.proofs.PointLists.{point_at_lem}
 use Rattle.clip.proofs.Look.{FoundIn, finds_all, none_monitored}
 use Rattle.clip.proofs.tell.Goals as goal
-use Rattle.clip.proofs.tell.Goals.{In-At}
+use Rattle.clip.proofs.tell.Goals.{Start, After-look_along-monitored, In-At}
 
 -- the tables are accepted
-facts : (s : tie.Start) → Accepted (tables Coded s.args.bits.now s.args.gains.now s.args.tones.now)
+facts : (s : Start) → Accepted (tables Coded s.args.bits.now s.args.gains.now s.args.tones.now)
 facts s = accepted_tables (tables Coded s.args.bits.now s.args.gains.now s.args.tones.now) s.requires.tables
 
 -- what is found is the first monitored tone
+module _ (c : After-look_along-monitored) where
+  abbrev T : Tables
+  T = tables Coded c.args.bits.now c.args.gains.now c.args.tones.now
+
+  found : FoundIn T c.look_along-monitored.result
+  found = rw c.look_along-monitored.ensures (finds_all c.args.bits.now c.args.gains.now c.args.tones.now)
+
 -- and it has a place in t'
 inside : (c : In-At) → c.in-At.at.place.0 < length c.args.tones.now
-inside c = let f = rw c.in-At.is at (found c.before.before.before) in f.2
+inside c =
+    let f : FoundIn (tables Coded c.args.bits.now c.args.gains.now c.args.tones.now) c.look_along-monitored.result =
+    rw c.look_along-monitored.ensures (finds_all c.args.bits.now c.args.gains.now c.args.tones.now) in
+    let g = rw c.in-At.is at f in g.2
 
 small : (c : In-At) → c.in-At.at.place.0 < most_tones
-small c = let a = facts c.before.before.before.before.before.before.before.before.before in omega (arith, inside c, a.tones_most, a.table_most)
+small c =
+    let a = accepted_tables (tables Coded c.args.bits.now c.args.gains.now c.args.tones.now) c.requires.tables in
+    omega (arith, inside c, a.tones_most, a.table_most)
 
 pub any_monitored-requires : goal.any_monitored-requires
 any_monitored-requires c = (facts (goal.at.any_monitored-requires c).Start).gains_length
@@ -39,13 +51,6 @@ pub look_along-monitored-requires : goal.look_along-monitored-requires
 look_along-monitored-requires c =
     let a = facts (goal.at.look_along-monitored-requires c).Start in
     record { below = a.tones_below; gains = a.gains_length; most = omega (arith, a.tones_most, a.table_most) }
-
-module _ (c : tie.After-look-along) where
-  abbrev T : Tables
-  T = tables Coded c.args.bits.now c.args.gains.now c.args.tones.now
-
-  found : FoundIn T c.look-along.result
-  found = rw c.look-along.ensures (finds_all c.args.bits.now c.args.gains.now c.args.tones.now)
 
 pub offset_bounds-xs-p : goal.offset_bounds-xs-p
 offset_bounds-xs-p c = record { fits = omega (arith, small c) }

@@ -12,4 +12,4 @@ loop-i-preserved c =
     let h : c.loop-i.i < length c.args.xs.now = omega (arith, c.loop-i.invariant.xs_length) in
     let d = c.requires.drivable c.loop-i.i h in
     let e = rw (read_back _ d.x_most, read_back _ d.y_most) at c.signal_of.ensures in
-    put_step c.loop-i.invariant h _ _ (c.Numbers-of.ensures.0 ∙ ap x_of e, c.Numbers-of.ensures.1 ∙ ap y_of e)
+    put_step c.loop-i.invariant h _ _ (c.numbers_of-n.ensures.0 ∙ ap x_of e, c.numbers_of-n.ensures.1 ∙ ap y_of e)
