@@ -9,7 +9,7 @@ ghost use Rattle.std.specs.Int.Signed.{mag, shr_z};
 ghost use Rattle.g9932.specs.Bits.{or_at, first};
 ghost use Rattle.g9932.specs.Sizes.{point, origin};
 ghost use Rattle.g9932.specs.Points.{same_point};
-ghost use Rattle.g9932.specs.Plain.{smallest as isSmallest, small_point, block_corner, in_block, plain_point, corner_at, corner_of, low_label, of_block, fourfold as fourfoldOf, plain_label};
+ghost use Rattle.g9932.specs.Plain.{smallest as is_smallest, small_point, block_corner, in_block, plain_point, corner_at, corner_of, low_label, of_block, fourfold as fourfold_of, plain_label};
 ghost use Rattle.g9932.specs.Answers.{map_label, read_point, mapped_of, labelled_of};
 ghost use Rattle.plain_mapper.specs.Bounds.{Below, Within};
 
@@ -124,7 +124,7 @@ fn or_at(found: Found, here: bool, label: usize) -> Found
 
 // The label below `end` of one of the smallest constellations that has the point, if one has.
 fn small_label(b: u8, end: usize, p: Point) -> Found
-    requires { (isSmallest b ≡ true) × (end ≤ 2 ^ b) }
+    requires { (is_smallest b ≡ true) × (end ≤ 2 ^ b) }
     ensures { result ≡ first (λ l. same_point (small_point b l) (point p.x p.y)) end }
 {
     if end == 0 {
@@ -206,7 +206,7 @@ fn low_label(p: Point, corner: Point) -> Found
 // The label 4n + k, or none where n or k is missing.
 fn fourfold(block: Found, low: Found) -> Found
     requires { Below 32768 block × Below 4 low }
-    ensures { result ≡ fourfoldOf block low }
+    ensures { result ≡ fourfold_of block low }
 {
     match block {
         Found::At(n) => match low {

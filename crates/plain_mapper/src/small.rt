@@ -1,9 +1,9 @@
 // The smallest constellations, written out as document 01 has them: 1 bit, which stands on its own, 2, 3 and 5 bits.
 ghost use Rattle.std.specs.Prelude.{true, ◌≡◌, ◌+◌, ◌*◌, ◌^◌, ◌<◌, ◌≤◌, pos, ◌-ℤ◌, get_or};
-ghost use Rattle.g9932.specs.Bits.{bits as lowestBits};
+ghost use Rattle.g9932.specs.Bits.{bits as lowest_bits};
 ghost use Rattle.g9932.specs.Sizes.{point, origin};
 ghost use Rattle.g9932.specs.Points.{one_points, even_point, three_points, table10_3, odd_point};
-ghost use Rattle.g9932.specs.Plain.{smallest as isSmallest, small_point};
+ghost use Rattle.g9932.specs.Plain.{smallest as is_smallest, small_point};
 
 // A point, in a constellation or not.
 #[derive(Clone, Copy)]
@@ -26,7 +26,7 @@ fn one_bit(label: usize) -> Point
 // b = 2: X is (v1 1), Y is (v0 1).
 fn two_bits(label: usize) -> Point
     requires { label < 4 }
-    ensures { point result.x result.y ≡ even_point (lowestBits 2 label) }
+    ensures { point result.x result.y ≡ even_point (lowest_bits 2 label) }
 {
     match label {
         0 => Point { x: 1, y: 1 },
@@ -85,7 +85,7 @@ fn coordinate(c: u16, d: u16, v: u16) -> i16
 // b = 5: X is (Xc Xd v1 1), Y is (Yc Yd v0 1).
 fn five_bits(label: usize) -> Point
     requires { label < 32 }
-    ensures { point result.x result.y ≡ odd_point 5 (lowestBits 5 label) }
+    ensures { point result.x result.y ≡ odd_point 5 (lowest_bits 5 label) }
 {
     let top = table_10_3(label);
     let v = label as u16;
@@ -97,7 +97,7 @@ fn five_bits(label: usize) -> Point
 
 // Whether b is 2, 3 or 5, or 1 on its own: there the recursion ends.
 pub fn smallest(b: u8) -> bool
-    ensures { result ≡ isSmallest b }
+    ensures { result ≡ is_smallest b }
 {
     match b {
         1 | 2 | 3 | 5 => true,
@@ -107,7 +107,7 @@ pub fn smallest(b: u8) -> bool
 
 // The point of a label of the smallest constellations. Called by proved code only.
 pub fn small_point(b: u8, label: usize) -> Point
-    requires { (isSmallest b ≡ true) × (label < 2 ^ b) }
+    requires { (is_smallest b ≡ true) × (label < 2 ^ b) }
     ensures { point result.x result.y ≡ small_point b label }
 {
     match b {

@@ -19,4 +19,4 @@ returns-in-2 c = rw c.in-2.is
 
 pub returns-in_default : goal.returns-in_default
 unfolding bits odd twos_complement num weight
-returns-in_default c = let e : c.args.label ≡ 3 = omega (arith, c.requires, c.in_default.rest) in rw e
+returns-in_default c = let e : c.args.label ≡ 3 = omega arith in rw e
