@@ -29,7 +29,10 @@ pub enum Figure {
 
 // L, or the refusal of the tables.
 fn size(rt: &impl Print, mode: Mode, bits: &[u8], gains: &[u16], tones: &[u16]) -> io::Result<()> {
-    print::size(rt, print::checked(ordering::check_tables(mode, bits, gains, tones)))
+    print::size(
+        rt,
+        print::checked(ordering::check_tables(mode, bits, gains, tones)),
+    )
 }
 
 // Bytes as the numbers that `print::list` takes.

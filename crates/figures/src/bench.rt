@@ -73,5 +73,7 @@ pub fn equal_tones(rt: &impl Print, count: usize, bits: u8, figure: Figure) -> i
     let mut xs = [0i16; MOST_TONES];
     let mut ys = [0i16; MOST_TONES];
     in_order(&mut tones);
-    print_cut(rt, figure, count, &all_bits, &gains, &tones, &mut xs, &mut ys)
+    print_cut(
+        rt, figure, count, &all_bits, &gains, &tones, &mut xs, &mut ys,
+    )
 }

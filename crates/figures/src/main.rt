@@ -94,7 +94,10 @@ fn half_turns(rt: &impl Print) -> io::Result<()> {
 fn quarter_turns(rt: &impl Print) -> io::Result<()> {
     text(rt, b"\ntable A, two 1-bit tones, tone 4 monitored")?;
     table_a(rt, 512, Figure::QuarterTurn)?;
-    text(rt, b"\ntable A, 2 bits on 3 and 6, no 1-bit tone, tone 4 monitored")?;
+    text(
+        rt,
+        b"\ntable A, 2 bits on 3 and 6, no 1-bit tone, tone 4 monitored",
+    )?;
     table_a_of_twos(rt, Figure::QuarterTurn)?;
     text(rt, b"\nfive 2-bit tones, none monitored, N odd")?;
     equal_tones(rt, 5, 2, Figure::QuarterTurn)?;
@@ -113,9 +116,15 @@ fn main(rt: HostRuntime) -> io::Result<()> {
     one_tone(&rt)?;
     labels(&rt)?;
     large_tables(&rt)?;
-    text(&rt, b"\nhalf a turn: frame 0 written, every point turned, read")?;
+    text(
+        &rt,
+        b"\nhalf a turn: frame 0 written, every point turned, read",
+    )?;
     half_turns(&rt)?;
-    text(&rt, b"\na quarter turn: frame 0 written, every point turned, read")?;
+    text(
+        &rt,
+        b"\na quarter turn: frame 0 written, every point turned, read",
+    )?;
     quarter_turns(&rt)?;
     text(&rt, b"\n")
 }
