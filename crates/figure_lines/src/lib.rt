@@ -9,6 +9,7 @@ use g9932::Mode;
 use half_turn::half_turn;
 use print::{Outcome, answered, frame, list, number, points, refused, text, with_byte};
 use quarter_turn::quarter_turn;
+use std::io;
 
 // The register at reset: all 23 bits are 1.
 const RESET: u32 = 8388607;
@@ -27,8 +28,11 @@ pub enum Figure {
 }
 
 // L, or the refusal of the tables.
-fn size(mode: Mode, bits: &[u8], gains: &[u16], tones: &[u16]) {
-    print::size(print::checked(ordering::check_tables(mode, bits, gains, tones)));
+fn size(rt: &impl Print, mode: Mode, bits: &[u8], gains: &[u16], tones: &[u16]) -> io::Result<()> {
+    print::size(
+        rt,
+        print::checked(ordering::check_tables(mode, bits, gains, tones)),
+    )
 }
 
 // Bytes as the numbers that `print::list` takes.
@@ -44,7 +48,7 @@ fn widened(list: [u8; 6]) -> [u16; 6] {
 }
 
 // t' and b' of table A.
-fn order(bits: &[u8], gains: &[u16], tones: &[u16]) {
+fn order(rt: &impl Print, bits: &[u8], gains: &[u16], tones: &[u16]) -> io::Result<()> {
     let mut reordered_tones = [0u16; 6];
     let mut reordered_bits = [0u8; 6];
     ordering::reorder(
@@ -56,9 +60,9 @@ fn order(bits: &[u8], gains: &[u16], tones: &[u16]) {
         &mut reordered_bits,
     );
     let wide = widened(reordered_bits);
-    list(&reordered_tones);
-    text(b"\ntable A: bits");
-    list(&wide);
+    list(rt, &reordered_tones)?;
+    text(rt, b"\ntable A: bits")?;
+    list(rt, &wide)
 }
 
 // Writes the points of a frame of one byte that starts at its bit 0, coded, and answers the register.
@@ -92,47 +96,57 @@ fn read(bits: &[u8], gains: &[u16], tones: &[u16], xs: &[i16], ys: &[i16]) -> Ou
 }
 
 // What turned points are read as.
-fn turned(outcome: Outcome) {
-    frame(outcome);
+fn turned(rt: &impl Print, outcome: Outcome) -> io::Result<()> {
+    frame(rt, outcome)?;
     if outcome.refusal == 0 {
-        text(b", the turn is not detected");
+        text(rt, b", the turn is not detected")?;
     }
+    Ok(())
 }
 
 // The points of a frame of one byte, or the refusal.
-fn written(bits: &[u8], gains: &[u16], tones: &[u16], byte: u8, xs: &mut [i16], ys: &mut [i16]) {
+fn written(
+    rt: &impl Print,
+    bits: &[u8],
+    gains: &[u16],
+    tones: &[u16],
+    byte: u8,
+    xs: &mut [i16],
+    ys: &mut [i16],
+) -> io::Result<()> {
     let outcome = encode(bits, gains, tones, byte, xs, ys);
     if outcome.refusal != 0 {
-        return refused(outcome.refusal);
+        return refused(rt, outcome.refusal);
     }
-    text(b" points");
-    points(xs, ys);
+    text(rt, b" points")?;
+    points(rt, xs, ys)
 }
 
 // Points of table A with no tone monitored: every loaded one is (-1, -1).
-fn silent(bits: &[u8], gains: &[u16], tones: &[u16]) {
+fn silent(rt: &impl Print, bits: &[u8], gains: &[u16], tones: &[u16]) -> io::Result<()> {
     let zs = [-1i16, -1, -1, 0, -1, -1];
-    points(&zs, &zs);
-    text(b"\ntable A, gain of 4 is 0:");
-    frame(read(bits, gains, tones, &zs, &zs));
+    points(rt, &zs, &zs)?;
+    text(rt, b"\ntable A, gain of 4 is 0:")?;
+    frame(rt, read(bits, gains, tones, &zs, &zs))
 }
 
-// Prints a figure of a table. The lent lists have an entry for each place.
+// Prints a figure of a table. The lent lists have an entry for each place. A write that fails ends the call with its error.
 pub fn line(
+    rt: &impl Print,
     figure: Figure,
     bits: &[u8],
     gains: &[u16],
     tones: &[u16],
     xs: &mut [i16],
     ys: &mut [i16],
-) {
+) -> io::Result<()> {
     match figure {
-        Figure::Size(mode) => size(mode, bits, gains, tones),
-        Figure::Order => order(bits, gains, tones),
-        Figure::Points(byte) => written(bits, gains, tones, byte, xs, ys),
-        Figure::Register(byte) => number(encode(bits, gains, tones, byte, xs, ys).value),
-        Figure::Silent => silent(bits, gains, tones),
-        Figure::HalfTurn => half_turn(bits, gains, tones, xs, ys),
-        Figure::QuarterTurn => quarter_turn(bits, gains, tones, xs, ys),
+        Figure::Size(mode) => size(rt, mode, bits, gains, tones),
+        Figure::Order => order(rt, bits, gains, tones),
+        Figure::Points(byte) => written(rt, bits, gains, tones, byte, xs, ys),
+        Figure::Register(byte) => number(rt, encode(bits, gains, tones, byte, xs, ys).value),
+        Figure::Silent => silent(rt, bits, gains, tones),
+        Figure::HalfTurn => half_turn(rt, bits, gains, tones, xs, ys),
+        Figure::QuarterTurn => quarter_turn(rt, bits, gains, tones, xs, ys),
     }
 }

@@ -5,6 +5,7 @@ ghost use Rattle.figure_lines.specs.Turned.{Exchanges, TurnsLeft, TurnsRight};
 use super::opposites::put_opposites;
 use super::{encode, read, turned};
 use print::text;
+use std::io;
 
 // (Y, X) for every (X, Y), as far as both lists go.
 fn exchange(xs: &mut [i16], ys: &mut [i16])
@@ -39,23 +40,44 @@ fn turn_right(xs: &mut [i16], ys: &mut [i16])
 }
 
 // The line of the points turned to the left.
-fn left(bits: &[u8], gains: &[u16], tones: &[u16], xs: &mut [i16], ys: &mut [i16]) {
+fn left(
+    rt: &impl Print,
+    bits: &[u8],
+    gains: &[u16],
+    tones: &[u16],
+    xs: &mut [i16],
+    ys: &mut [i16],
+) -> io::Result<()> {
     encode(bits, gains, tones, 0, xs, ys);
     turn_left(xs, ys);
-    text(b"\nturned left:");
-    turned(read(bits, gains, tones, xs, ys));
+    text(rt, b"\nturned left:")?;
+    turned(rt, read(bits, gains, tones, xs, ys))
 }
 
 // The line of the points turned to the right.
-fn right(bits: &[u8], gains: &[u16], tones: &[u16], xs: &mut [i16], ys: &mut [i16]) {
+fn right(
+    rt: &impl Print,
+    bits: &[u8],
+    gains: &[u16],
+    tones: &[u16],
+    xs: &mut [i16],
+    ys: &mut [i16],
+) -> io::Result<()> {
     encode(bits, gains, tones, 0, xs, ys);
     turn_right(xs, ys);
-    text(b"\nturned right:");
-    turned(read(bits, gains, tones, xs, ys));
+    text(rt, b"\nturned right:")?;
+    turned(rt, read(bits, gains, tones, xs, ys))
 }
 
 // Two lines: the points turned to the left, and to the right. The lent lists have an entry for each place.
-pub fn quarter_turn(bits: &[u8], gains: &[u16], tones: &[u16], xs: &mut [i16], ys: &mut [i16]) {
-    left(bits, gains, tones, xs, ys);
-    right(bits, gains, tones, xs, ys);
+pub fn quarter_turn(
+    rt: &impl Print,
+    bits: &[u8],
+    gains: &[u16],
+    tones: &[u16],
+    xs: &mut [i16],
+    ys: &mut [i16],
+) -> io::Result<()> {
+    left(rt, bits, gains, tones, xs, ys)?;
+    right(rt, bits, gains, tones, xs, ys)
 }

@@ -1,6 +1,7 @@
 // What the operations answer, as numbers and as text.
 use super::{entry, point, refused, refused_at, text};
 use g9932::{Answer, Checked, Mapped, Refusal, number_of, place_of};
+use std::io;
 
 // What an operation answers: a refusal's number and place, or 0 and 0; and L, the register, or the byte of a frame.
 #[derive(Clone, Copy)]
@@ -52,27 +53,27 @@ pub fn with_byte(outcome: Outcome, byte: u8) -> Outcome {
 }
 
 // L, or the refusal.
-pub fn size(outcome: Outcome) {
+pub fn size(rt: &impl Print, outcome: Outcome) -> io::Result<()> {
     if outcome.refusal != 0 {
-        return refused(outcome.refusal);
+        return refused(rt, outcome.refusal);
     }
-    text(b" L");
-    entry(outcome.value);
+    text(rt, b" L")?;
+    entry(rt, outcome.value)
 }
 
 // The point of a label, or the refusal.
-pub fn mapped(answer: Mapped) {
+pub fn mapped(rt: &impl Print, answer: Mapped) -> io::Result<()> {
     match answer {
-        Mapped::Point { x, y } => point(x, y),
-        Mapped::Refused(refusal) => refused(number_of(refusal)),
+        Mapped::Point { x, y } => point(rt, x, y),
+        Mapped::Refused(refusal) => refused(rt, number_of(refusal)),
     }
 }
 
 // The frame of one byte, or the refusal with its place.
-pub fn frame(outcome: Outcome) {
+pub fn frame(rt: &impl Print, outcome: Outcome) -> io::Result<()> {
     if outcome.refusal != 0 {
-        return refused_at(outcome.refusal, outcome.place);
+        return refused_at(rt, outcome.refusal, outcome.place);
     }
-    text(b" read as frame");
-    entry(outcome.value);
+    text(rt, b" read as frame")?;
+    entry(rt, outcome.value)
 }
