@@ -8,7 +8,7 @@ pub mod stored;
 
 ghost use Rattle.std.specs.Prelude.{◌≡◌, cond, ◌+◌, ◌*◌, ◌/◌, ◌%◌, ◌^◌, ◌<◌, ◌≤◌, eqb};
 ghost use Rattle.std.specs.Int.Bits.{bit_xor};
-ghost use Rattle.g9932.specs.Bits.{bits as lowestBits, num};
+ghost use Rattle.g9932.specs.Bits.{bits as lowest_bits, num};
 ghost use Rattle.g9932.specs.Sizes.{point};
 ghost use Rattle.g9932.specs.Points.{point_of, label_of};
 ghost use Rattle.g9932.specs.Answers.{map_label, read_point, mapped_of, labelled_of};
@@ -133,7 +133,7 @@ fn coordinate_of(weight: u32, e: u32) -> i16
 // The point of a label of 1 to 8 bits, from the table.
 fn point_from_table(b: u32, label: u32) -> Coordinates
     requires { (1 ≤ b) × (b ≤ 8) × (label < 2 ^ b) }
-    ensures { point result.x result.y ≡ point_of b (lowestBits b label) }
+    ensures { point result.x result.y ≡ point_of b (lowest_bits b label) }
 {
     let table = points::point_table();
     stored::stored_point(table[((1u32 << b) - 2 + label) as usize])
@@ -142,7 +142,7 @@ fn point_from_table(b: u32, label: u32) -> Coordinates
 // The point of a label of 9 to 15 bits, by the rule.
 fn point_by_rule(b: u32, label: u32) -> Coordinates
     requires { (9 ≤ b) × (b ≤ 15) × (label < 2 ^ b) }
-    ensures { point result.x result.y ≡ point_of b (lowestBits b label) }
+    ensures { point result.x result.y ≡ point_of b (lowest_bits b label) }
 {
     let k = plain_pairs(b);
     let both = deinterleave(widened_label(k, label));
@@ -156,7 +156,7 @@ fn point_by_rule(b: u32, label: u32) -> Coordinates
 // The point of a label. Called by proved code only.
 pub fn point_of(b: u32, label: u32) -> Coordinates
     requires { (1 ≤ b) × (b ≤ 15) × (label < 2 ^ b) }
-    ensures { point result.x result.y ≡ point_of b (lowestBits b label) }
+    ensures { point result.x result.y ≡ point_of b (lowest_bits b label) }
 {
     if b < 9 {
         return point_from_table(b, label);
@@ -201,7 +201,7 @@ fn coordinate_bits(k: u32, weight: u32, raised: u32) -> u32
 // The word whose bits of X and Y these are.
 fn interleave(x: u32, y: u32) -> u32
     requires { (x < 256) × (y < 256) }
-    ensures { result ≡ num (interleaved (lowestBits 8 x) (lowestBits 8 y)) }
+    ensures { result ≡ num (interleaved (lowest_bits 8 x) (lowest_bits 8 y)) }
 {
     let halves = 65536 * x + y;
     let fours = (halves | (halves << 4)) & 0x0f0f_0f0f;

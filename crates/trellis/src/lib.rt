@@ -5,7 +5,7 @@ mod pairs;
 
 ghost use Rattle.std.specs.Prelude.{◌≡◌, false, ◌+◌, ◌*◌, ◌^◌, ◌≤◌, ◌<◌, length, get_or, set};
 ghost use Rattle.frame.specs.Labels.{labels_at, Rising, Placed};
-ghost use Rattle.g9932.specs.Bits.{weight as weightOf};
+ghost use Rattle.g9932.specs.Bits.{weight as weight_of};
 ghost use Rattle.g9932.specs.Order.{pair};
 ghost use Rattle.g9932.specs.Sizes.{most_bytes};
 ghost use Rattle.g9932.specs.Trellis.{zero_state};
@@ -18,7 +18,7 @@ pub use pairs::{NumberStep, StateNumber, step_table};
 
 // A bit as a number.
 pub fn weight(b: bool) -> u32
-    ensures { (result ≡ weightOf b) × (result ≤ 1) }
+    ensures { (result ≡ weight_of b) × (result ≤ 1) }
 {
     if b { 1 } else { 0 }
 }

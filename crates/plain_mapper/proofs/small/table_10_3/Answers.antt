@@ -9,7 +9,7 @@ use Rattle.plain_mapper.proofs.small.table_10_3.Goals as goal
 
 pub returns-in-28 : goal.returns-in-28
 unfolding first
-returns-in-28 c = sym (row 7 28 30 refl c.args.label (omega arith) (omega arith))
+returns-in-28 c = sym (row 7 28 30 refl c.args.label (grind arith) (omega arith))
 
 pub returns-in_default : goal.returns-in_default
 unfolding first
