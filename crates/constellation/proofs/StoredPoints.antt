@@ -8,7 +8,7 @@ use native.Mathlib.Omega.{arith}
 use borrow.Author.Tests.{not-false, lt-ltb, ltb-true, ltb-false}
 use lib.Dec.{eqb, ltb}
 use lib.Pow.{pow_mono}
-use Rattle.g9932.specs.Bits.{bits, odd, first}
+use Rattle.g9932.specs.Bits.{bits, first}
 use Rattle.g9932.specs.Points.{point_of, same_point}
 use Rattle.g9932.specs.Sizes.{Point, entry}
 use Rattle.g9932.specs.declared.Found.{Found}

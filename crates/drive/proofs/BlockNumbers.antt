@@ -9,7 +9,7 @@ use mathlib.Core.Option.{Option, none}
 use mathlib.Core.Path.{◌≡◌, refl, sym, ap, ◌∙◌}
 use lib.Dec.{ltb}
 use lib.Ieee.{Float, nan}
-use lib.IntN.{ℤ, pos}
+use lib.IntN.{ℤ}
 use lib.ListN.{length, get_or, take, drop, length-map}
 use lib.Seq.{ext_get_or, length-take-le, take-add, take_all}
 use Rattle.constellation.specs.MapByLayout.{Mappable, MapsTo, label, silent}
@@ -26,7 +26,7 @@ use Rattle.mapper.specs.Reading.{point_at}
 use Rattle.mapper.specs.Writing.{PutsPoints}
 use Rattle.mapper.proofs.Parts.{part, length_part, part_at, put_before, put_inside}
 use Rattle.drive.specs.Numbers.{whole_by, PutNeeds, PutsNumbers}
-use Rattle.drive.specs.Peaks.{Most, peak_by, carried, Lists, Carries}
+use Rattle.drive.specs.Peaks.{peak_by, carried, Lists, Carries}
 use Rattle.drive.specs.Blocks.{Stand, Drives, BlockNeeds, SymbolNeeds, none_yet, DrivesSymbol}
 use Rattle.drive.proofs.Carrying.{carried_append, mapped_at}
 

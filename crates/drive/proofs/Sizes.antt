@@ -1,6 +1,6 @@
 -- Sizes of numbers that are 512ths, as the code compares them.
-use Prim.Native.Nat.{ℕ, suc}
-use mathlib.Core.Bool.{Bool, true, false, cond, true≢false}
+use Prim.Native.Nat.{ℕ}
+use mathlib.Core.Bool.{true, false, true≢false}
 use mathlib.Core.Path.{◌≡◌, refl, sym, ap, ◌∙◌}
 use lib.Dec.{ltb}
 use lib.IntN.{ℤ, pos, negsuc, nat_abs}
@@ -8,7 +8,7 @@ use lib.Ieee.{Float, neg, lt, of_bits, odd}
 use Rattle.g9932.proofs.Over512.{lt_over, negative_over, size_over}
 use Rattle.g9932.specs.Drive.{is_negative, over512, larger}
 use Rattle.g9932.specs.declared.Peak.{Peak}
-use Rattle.drive.specs.Peaks.{Most, peak_by, raise, SizeOf, LargerOf, Raises}
+use Rattle.drive.specs.Peaks.{SizeOf, LargerOf, Raises}
 
 -- the literal 0.0
 pub zero_is : of_bits lib.Ieee.binary32 0 ≡ over512 (pos 0)

@@ -1,6 +1,6 @@
 -- What is driven, place by place, and the promise of driving from its equations.
-use Prim.Native.Nat.{ℕ, zero, suc, ◌-◌, ◌*◌, ◌^◌, ◌≤◌, ◌<◌}
-use mathlib.Core.Bool.{Bool, true, false, cond, true≢false}
+use Prim.Native.Nat.{ℕ, zero, suc, ◌-◌, ◌^◌, ◌≤◌, ◌<◌}
+use mathlib.Core.Bool.{Bool, true, false, cond}
 use mathlib.Core.List.{List, [], ◌∷◌, map}
 use mathlib.Core.Option.{Option, none, some}
 use mathlib.Core.Path.{◌≡◌, refl, sym, ap, ◌∙◌}
@@ -8,12 +8,12 @@ use native.Mathlib.Omega.{arith}
 use borrow.Author.Tests.{eq-eqb}
 use lib.Dec.{eqb}
 use lib.Ieee.{Float, nan}
-use lib.IntN.{ℤ, pos, negsuc, neg_ℤ, nat_abs, ◌*ℤ◌}
+use lib.IntN.{pos, neg_ℤ, nat_abs}
 use lib.ListN.{length, get_or, take, drop, length-map, length-drop}
 use lib.Seq.{length-take-le}
 use Rattle.g9932.specs.Answers.{on_done, encode_verdict}
 use Rattle.g9932.specs.Bits.{num, weight}
-use Rattle.g9932.specs.Drive.{over512, Times512, gained, whole_at, wholes_by, gains_of, driven_wholes, signal_of, x_of, y_of, largest, peak_of, drive_report_of, peak_if, drive_at, whole_or, Drives}
+use Rattle.g9932.specs.Drive.{over512, whole_at, wholes_by, gains_of, driven_wholes, signal_of, x_of, y_of, largest, peak_of, drive_report_of, peak_if, drive_at, whole_or, Drives}
 use Rattle.g9932.specs.Filler.{drawn, after_draws, draws}
 use Rattle.g9932.specs.Points.{sign_bit, twos_complement, point_of}
 use Rattle.g9932.specs.Refusals.{Verdict}
@@ -26,7 +26,6 @@ use Rattle.g9932.specs.declared.Peak.{Peak}
 use Rattle.g9932.proofs.Constellations.{point_coords}
 use Rattle.g9932.proofs.Coordinates.{coords}
 use Rattle.g9932.proofs.Over512.{times_over}
-use Rattle.g9932.proofs.Reordering.{length_order}
 use Rattle.g9932.proofs.Sent.{length_classes}
 use Rattle.g9932.proofs.Symbols.{loads, length_write}
 use Rattle.g9932.proofs.Words.{num_lt}

@@ -1,15 +1,15 @@
 -- Request R-4: 512ths as 32-bit floats. Gain times coordinate has at most 24 binary digits, so the float nearest to it is it; and 512 is a
 -- power of two, so the quotient has no more digits. Neither step rounds.
 use Prim.Native.Nat.{ℕ, zero, suc, ◌+◌, ◌-◌, ◌*◌, ◌/◌, ◌^◌, ◌≤◌, ◌<◌}
-use mathlib.Core.Bool.{Bool, true, false, not, cond}
-use mathlib.Core.Path.{◌≡◌, refl, sym, ap, subst, ◌∙◌}
+use mathlib.Core.Bool.{Bool, true, false, cond}
+use mathlib.Core.Path.{◌≡◌, refl, sym, ap, ◌∙◌}
 use native.Mathlib.Omega.{arith}
 use native.Mathlib.Nat.{lt_trans, mul-lt-mul_of_pos_right, mul-le-mul_right, mul-pos, mul_assoc, mul_comm, mul_right_comm}
 use borrow.Author.Tests.{ltb-true, ltb-false, lt-ltb, le-ltb, le-leb, lt-leb, leb-true, leb-false}
 use lib.Count.{count_trailing_zeros}
 use lib.Dec.{T, ltb, leb, ltb→lt}
 use lib.IntN.{ℤ, pos, negsuc, nat_abs}
-use lib.Ieee.{Float, nan, inf, fin, Format, binary32, up, down, minus, odd, round, of_int, of_bits, div, neg, lt, fits, to_bits, size, unlike, low, prec, hid, top}
+use lib.Ieee.{Float, nan, inf, fin, binary32, up, down, minus, odd, round, of_int, of_bits, div, neg, lt, fits, to_bits, size, unlike, hid, top}
 use lib.Ieee.Back.{round_whole}
 use lib.Ieee.Bits.{of_bits-to_bits}
 use lib.Ieee.Exact.{HasValue, odd_sign, round_exact}

@@ -10,7 +10,6 @@ use borrow.Author.Tests.{eqb-true}
 use lib.Dec.{eqb}
 use lib.IntN.{ℤ, neg_ℤ, neg_ℤ-neg_ℤ}
 use lib.ListN.{length, get_or, length-map, get_or-map}
-use Rattle.g9932.specs.Bits.{first}
 use Rattle.g9932.specs.Clip.{filler_point, clip_of, clip_check, clip_number}
 use Rattle.g9932.specs.Points.{negated}
 use Rattle.g9932.specs.Refusals.{Verdict}

@@ -7,7 +7,7 @@ use native.Mathlib.Nat.{zero-add}
 use native.Mathlib.Omega.{arith}
 use lib.ListN.{length, take, drop, get_or, replicate, length-drop}
 use lib.Seq.{take-take, drop-drop, take-append-le, drop-append-le, drop_at, get_or-take, get_or-drop, length-take-le}
-use Rattle.g9932.specs.Bits.{bit, odd}
+use Rattle.g9932.specs.Bits.{bit}
 use Rattle.g9932.specs.Order.{Pair, pair, sum, is_one, in_twos, zero_in_front, pairs_of}
 use Rattle.g9932.specs.Trellis.{Word, last_two, taken, taken_total, low_bits_of, sent_bits, next_of, word_at, encode_pairs}
 use Rattle.g9932.specs.declared.TrellisState.{TrellisState}

@@ -1,5 +1,4 @@
 use mathlib.Core.Path.{sym}
-use Prim.Native.Nat.{◌-◌}
 use native.Mathlib.Omega.{arith}
 use Rattle.tables.proofs.Scans.{any_none, any_more}
 use Rattle.clip.proofs.any_monitored.Goals as goal

@@ -1,10 +1,8 @@
 -- `clip::any_monitored` meets its contract. The invariant: `any` tells of the sub-carriers before i. The measure is what is left.
-use mathlib.Core.Path.{◌≡◌, sym}
+use mathlib.Core.Path.{◌≡◌}
 use Prim.Native.Nat.{◌-◌, ◌≤◌}
-use native.Mathlib.Omega.{arith}
 use lib.ListN.{length}
 use Rattle.tables.specs.Checks.{any_below}
-use Rattle.tables.proofs.Scans.{any_none, any_more, any_end}
 use Rattle.clip.specs.Tones.{is_monitored_in}
 use Rattle.clip.proofs.any_monitored.Given as goal
 

@@ -1,5 +1,4 @@
 use mathlib.Core.Path.{◌≡◌, sym, ◌∙◌}
-use Prim.Native.Nat.{◌-◌}
 use lib.ListN.{length-map, drop_of_length-le}
 use native.Mathlib.Omega.{arith}
 use Rattle.g9932.specs.Sizes.{entry}
@@ -18,14 +17,13 @@ returns-then-is_monitored c =
     look_here c.args.bits.now c.args.gains.now c.args.tones.now c.loop-i.i (omega arith) (along c.loop-i.place c.loop-i.silent) (sym (asked (goal.at.returns-then-is_monitored c).After-is_monitored) ∙ c.if-is_monitored.true) ∙ c.loop-i.invariant.3
 
 pub loop-i-preserved : goal.loop-i-preserved
-loop-i-preserved c =
-    (
-      omega (arith, c.loop-i.invariant.0, c.one_if.ensures.1),
-      omega (arith, c.loop-i.invariant.1, c.one_if-in-loop-i.ensures.1),
-      omega arith,
-      rw (c.one_if.ensures.0, c.one_if-in-loop-i.ensures.0, past_by c.bits_of-b.result c.gain_of.result c.loop-i.place c.loop-i.silent, c.bits_of-b.ensures, c.gain_of.ensures, c.tone_at-k.ensures)
-          (look_past c.args.bits.now c.args.gains.now c.args.tones.now c.loop-i.i (omega arith) (along c.loop-i.place c.loop-i.silent) (sym (asked (goal.at.loop-i-preserved c).After-is_monitored) ∙ c.if-is_monitored.false) ∙ c.loop-i.invariant.3),
-    )
+loop-i-preserved c = (
+  omega (arith, c.loop-i.invariant.0, c.one_if.ensures.1),
+  omega (arith, c.loop-i.invariant.1, c.one_if-in-loop-i.ensures.1),
+  omega arith,
+  rw (c.one_if.ensures.0, c.one_if-in-loop-i.ensures.0, past_by c.bits_of-b.result c.gain_of.result c.loop-i.place c.loop-i.silent, c.bits_of-b.ensures, c.gain_of.ensures, c.tone_at-k.ensures)
+      (look_past c.args.bits.now c.args.gains.now c.args.tones.now c.loop-i.i (omega arith) (along c.loop-i.place c.loop-i.silent) (sym (asked (goal.at.loop-i-preserved c).After-is_monitored) ∙ c.if-is_monitored.false) ∙ c.loop-i.invariant.3),
+)
 
 pub returns : goal.returns
 unfolding look

@@ -1,13 +1,10 @@
 -- `clip::look_along` meets its contract. The invariant: the look goes on from place i of t as it would from the first, and both counts are
 -- at most i. The measure is what is left of t.
-use mathlib.Core.Path.{◌≡◌, refl, sym, ◌∙◌}
+use mathlib.Core.Path.{◌≡◌}
 use Prim.Native.Nat.{◌-◌, ◌≤◌}
-use lib.ListN.{length, drop, length-map, drop_of_length-le}
-use native.Mathlib.Omega.{arith}
-use Rattle.g9932.specs.Sizes.{entry}
-use Rattle.g9932.specs.Symbol.{class_at, classes_by}
-use Rattle.clip.specs.Tones.{is_monitored_in, along, look}
-use Rattle.clip.proofs.Look.{look_here, look_past, past_by}
+use lib.ListN.{length, drop}
+use Rattle.g9932.specs.Symbol.{classes_by}
+use Rattle.clip.specs.Tones.{along, look}
 use Rattle.clip.proofs.look_along.Given as goal
 
 abbrev pub invariant-loop-i : goal.invariant-loop-i

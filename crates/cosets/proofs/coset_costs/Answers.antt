@@ -1,10 +1,6 @@
 -- `cosets::coset_costs` meets its contract: of 3 bits one rectangle has the coset, else the nearer of two.
 use native.Mathlib.Omega.{arith}
 use Rattle.cosets.proofs.Shapes.{three_costs, cross_costs}
-use Rattle.cosets.proofs.coset_costs.Reads as reads
-use Rattle.cosets.proofs.coset_costs.Lts as lts
-use Rattle.cosets.proofs.cheaper.Reads as cheaper-reads
-use Rattle.cosets.proofs.sides_of.Reads as sides-of-reads
 use Rattle.cosets.proofs.coset_costs.Goals as goal
 
 pub returns-then-h : goal.returns-then-h

@@ -1,10 +1,6 @@
 -- `cosets::costs_by` meets its contract, by the shape: of 1 bit that of 2.
 use native.Mathlib.Omega.{arith}
 use Rattle.cosets.proofs.Labels.{tone_least, one_costs}
-use Rattle.cosets.proofs.costs_by.Reads as reads
-use Rattle.cosets.proofs.costs_by.Lts as lts
-use Rattle.cosets.proofs.coset_costs.Reads as coset-costs-reads
-use Rattle.cosets.proofs.shape_of.Reads as shape-of-reads
 use Rattle.cosets.proofs.costs_by.Goals as goal
 
 pub returns : goal.returns

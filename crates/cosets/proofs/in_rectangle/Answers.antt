@@ -1,9 +1,5 @@
 -- `cosets::in_rectangle` meets its contract: nearest on each axis is nearest in the rectangle.
 use Rattle.cosets.proofs.Places.{rectangle}
-use Rattle.cosets.proofs.in_rectangle.Reads as reads
-use Rattle.cosets.proofs.in_rectangle.Lts as lts
-use Rattle.cosets.proofs.place.Reads as place-reads
-use Rattle.cosets.proofs.square_at.Reads as square-at-reads
 use Rattle.cosets.proofs.in_rectangle.Goals as goal
 
 pub returns : goal.returns

@@ -1,9 +1,6 @@
 -- `cosets::nearest` meets its contract: of 3 bits one rectangle has the coset, else the nearer of two.
 use native.Mathlib.Omega.{arith}
 use Rattle.cosets.proofs.Shapes.{takes_first, takes_second}
-use Rattle.cosets.proofs.nearest.Reads as reads
-use Rattle.cosets.proofs.nearest.Lts as lts
-use Rattle.cosets.proofs.in_rectangle.Reads as in-rectangle-reads
 use Rattle.cosets.proofs.nearest.Goals as goal
 
 pub returns-then-across : goal.returns-then-across

@@ -7,11 +7,6 @@ use native.Mathlib.Omega.{arith}
 use Rattle.g9932.specs.Bits.{odd, weight}
 use Rattle.g9932.proofs.Words.{weight_odd}
 use Rattle.cosets.proofs.Labels.{raised_fits, label_nearest}
-use Rattle.cosets.proofs.point_by.Reads as reads
-use Rattle.cosets.proofs.point_by.Lts as lts
-use Rattle.cosets.proofs.coordinate_at.Reads as coordinate-at-reads
-use Rattle.cosets.proofs.nearest.Reads as nearest-reads
-use Rattle.cosets.proofs.shape_of.Reads as shape-of-reads
 use Rattle.cosets.proofs.point_by.Goals as goal
 
 pub returns : goal.returns

@@ -1,7 +1,5 @@
 -- `cosets::shape_of` meets its contract, by the fields of a layout.
 use Rattle.cosets.proofs.Shapes.{sided}
-use Rattle.cosets.proofs.shape_of.Reads as reads
-use Rattle.cosets.proofs.shape_of.Lts as lts
 use Rattle.cosets.proofs.shape_of.Goals as goal
 
 pub returns : goal.returns

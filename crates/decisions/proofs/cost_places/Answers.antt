@@ -1,4 +1,3 @@
-use Prim.Native.Nat.{◌-◌}
 use native.Mathlib.Omega.{arith}
 use mir.ValLaws.{to_z-of_z}
 use mir.Syntax.{w16}
@@ -7,10 +6,6 @@ use lib.ListN.{get_or}
 use lib.IntN.{pos}
 use Rattle.g9932.proofs.PointLists.{point_at_lem}
 use Rattle.decisions.proofs.Places.{costs_of_lem, costed_more}
-use Rattle.decisions.proofs.cost_places.Reads as reads
-use Rattle.decisions.proofs.cost_places.Lts as lts
-use Rattle.cosets.proofs.costs_by.Reads as costs-by-reads
-use Rattle.cosets.proofs.raise_point.Reads as raise-point-reads
 use Rattle.decisions.proofs.cost_places.Goals as goal
 
 pub costs_by-c-requires : goal.costs_by-c-requires

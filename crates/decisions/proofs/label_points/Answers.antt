@@ -2,11 +2,6 @@
 use Rattle.decisions.proofs.Places.{labels_are_lem}
 use mathlib.Core.Path.{sym, ◌∙◌}
 use native.Mathlib.Omega.{arith}
-use Rattle.decisions.proofs.label_points.Reads as reads
-use Rattle.decisions.proofs.label_points.Lts as lts
-use Rattle.mapper.proofs.read.demap_all.Reads as demap-all-reads
-use Rattle.decisions.proofs.nearest_points.Reads as nearest-points-reads
-use Rattle.decisions.proofs.put_labels.Reads as put-labels-reads
 use Rattle.decisions.proofs.label_points.Goals as goal
 
 pub demap_all-all_on-requires : goal.demap_all-all_on-requires

@@ -1,11 +1,6 @@
 -- `decisions::least_path` meets its contract, with a first pair of x = 0 and without.
 use native.Mathlib.Omega.{arith}
 use Rattle.decisions.proofs.Selecting.{path_lone, path_even}
-use Rattle.decisions.proofs.least_path.Reads as reads
-use Rattle.decisions.proofs.least_path.Lts as lts
-use Rattle.decisions.proofs.entry_costs.Reads as entry-costs-reads
-use Rattle.decisions.proofs.select_pairs.Reads as select-pairs-reads
-use Rattle.paths.proofs.first_alone.Reads as first-alone-reads
 use Rattle.decisions.proofs.least_path.Goals as goal
 
 pub returns-then-places-eq1 : goal.returns-then-places-eq1

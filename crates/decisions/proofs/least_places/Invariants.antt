@@ -1,14 +1,8 @@
 -- `decisions::least_places` meets its contract. The invariant: the places before i have the lowest bits and the cost of their nearest coset,
 -- the others the first coset's cost. The measure is the places left.
 use Prim.Native.Nat.{◌-◌, ◌≤◌}
-use mathlib.Core.Path.{◌≡◌, refl, sym, ◌∙◌}
 use lib.ListN.{length}
-use native.Mathlib.Omega.{arith}
 use Rattle.decisions.specs.Deciding.{LeastPlaces}
-use Rattle.decisions.proofs.Places.{least_more}
-use Rattle.decisions.proofs.least_places.Reads as reads
-use Rattle.decisions.proofs.least_places.Lts as lts
-use Rattle.cosets.proofs.least_coset.Reads as least-coset-reads
 use Rattle.decisions.proofs.least_places.Given as goal
 
 abbrev pub invariant-loop-i : goal.invariant-loop-i

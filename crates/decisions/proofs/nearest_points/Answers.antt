@@ -6,11 +6,6 @@ use mathlib.Core.Path.{sym}
 use mir.Syntax.{w16}
 use mir.ValLaws.{to_z-of_z}
 use native.Mathlib.Omega.{arith}
-use Prim.Native.Nat.{◌-◌}
-use Rattle.decisions.proofs.nearest_points.Reads as reads
-use Rattle.decisions.proofs.nearest_points.Lts as lts
-use Rattle.cosets.proofs.point_by.Reads as point-by-reads
-use Rattle.cosets.proofs.raise_point.Reads as raise-point-reads
 use Rattle.decisions.proofs.nearest_points.Goals as goal
 
 pub point_by-q-requires : goal.point_by-q-requires

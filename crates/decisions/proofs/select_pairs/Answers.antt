@@ -1,12 +1,6 @@
-use Prim.Native.Nat.{◌-◌}
 use mathlib.Core.Path.{refl, ◌∙◌}
 use native.Mathlib.Omega.{arith}
 use Rattle.decisions.proofs.Selecting.{selected_none, selected_more}
-use Rattle.decisions.proofs.select_pairs.Reads as reads
-use Rattle.decisions.proofs.select_pairs.Lts as lts
-use Rattle.decisions.proofs.entry_costs.Reads as entry-costs-reads
-use Rattle.paths.proofs.advance.Reads as advance-reads
-use Rattle.paths.proofs.edges_of.Reads as edges-of-reads
 use Rattle.decisions.proofs.select_pairs.Goals as goal
 
 pub loop-j-init : goal.loop-j-init

@@ -1,19 +1,11 @@
 -- `decisions::select_pairs` meets its contract. The invariant: the metrics are the least costs of the pairs from j on, and the survivors of
 -- these pairs give them. The measure is j.
 use Prim.Native.Nat.{◌-◌, ◌+◌, ◌*◌, ◌/◌, ◌%◌, ◌≤◌}
-use mathlib.Core.Path.{◌≡◌, refl, ◌∙◌}
+use mathlib.Core.Path.{◌≡◌}
 use mathlib.Core.List.{List}
 use lib.ListN.{length, drop}
-use native.Mathlib.Omega.{arith}
-use Rattle.paths.proofs.Steps.{weaken}
 use Rattle.cosets.specs.Meters.{Meter}
 use Rattle.decisions.specs.Deciding.{lone_in, MeterCosts, Selected}
-use Rattle.decisions.proofs.Selecting.{selected_none, selected_more, metrics_small}
-use Rattle.decisions.proofs.select_pairs.Reads as reads
-use Rattle.decisions.proofs.select_pairs.Lts as lts
-use Rattle.decisions.proofs.entry_costs.Reads as entry-costs-reads
-use Rattle.paths.proofs.advance.Reads as advance-reads
-use Rattle.paths.proofs.edges_of.Reads as edges-of-reads
 use Rattle.decisions.proofs.select_pairs.Given as goal
 
 abbrev pub invariant-loop-j : goal.invariant-loop-j

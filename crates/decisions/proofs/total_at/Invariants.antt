@@ -3,13 +3,7 @@
 use Prim.Native.Nat.{◌+◌, ◌-◌, ◌*◌, ◌^◌, ◌≤◌}
 use mathlib.Core.Path.{◌≡◌}
 use lib.ListN.{length, drop}
-use native.Mathlib.Omega.{arith}
 use Rattle.decisions.specs.Deciding.{total_at}
-use Rattle.decisions.proofs.Places.{total_more, total_all}
-use Rattle.decisions.proofs.total_at.Reads as reads
-use Rattle.decisions.proofs.total_at.Lts as lts
-use Rattle.decisions.proofs.cost_at.Reads as cost-at-reads
-use Rattle.frame.proofs.by_place.place_at.Reads as place-at-reads
 use Rattle.decisions.proofs.total_at.Given as goal
 
 abbrev pub invariant-loop-k : goal.invariant-loop-k

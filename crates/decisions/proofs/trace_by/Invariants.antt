@@ -1,11 +1,8 @@
 -- `decisions::trace_by` meets its contract. The invariant: the entries before k have the lowest bits that the survivors give, and the number
 -- is that of the state before entry k. The measure is the entries left.
 use Prim.Native.Nat.{◌-◌}
-use mathlib.Core.Path.{◌≡◌, sym, subst, ◌∙◌}
 use lib.ListN.{length}
-use native.Mathlib.Omega.{arith}
-use Rattle.frame.specs.Labels.{Rising}
-use Rattle.decisions.proofs.Tracing.{lows_small, Tracing, tracing_start, second_inside, tracing_more}
+use Rattle.decisions.proofs.Tracing.{Tracing}
 use Rattle.decisions.proofs.trace_by.Given as goal
 
 abbrev pub invariant-loop-k : goal.invariant-loop-k

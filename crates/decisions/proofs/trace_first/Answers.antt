@@ -21,8 +21,7 @@ pub returns : goal.returns
 returns c =
     let p = c.requires.1 in
     let odd : length c.args.places.now % 2 ≡ 1 = omega (arith, c.if-places-eq0.false) in
-    let z = zero_before c.args.survivors.now in
-    (
+    let z = zero_before c.args.survivors.now in (
       subst (λ (j : ℕ). StateBefore c.args.survivors.now j c.follow_pair-t.result.next.0) (sym odd) (next_before z c.follow_pair-t.ensures),
       traced_first c.args.labels.now p.rising (omega (arith, p.enough)) odd c.put_label.ensures c.place_at.ensures (w_low z c.follow_pair-t.ensures),
     )

@@ -1,12 +1,8 @@
 -- `decoder::collect_from` meets its contract. The invariant is that of `decoder::read_from` where no pair breaks the code, and
 -- counts the bits in any case. The measure is the entries left.
-use mathlib.Core.Path.{refl}
 use Prim.Native.Nat.{◌-◌}
-use lib.Dec.{ltb}
 use lib.ListN.{length}
-use native.Mathlib.Omega.{arith}
-use Rattle.decoder.proofs.DecodeLoop.{Decoding, decoding_start, Unbroken, collecting_end, AtPair, at_wide, pair_needs, pair_obeys, decoding_step}
-use Rattle.trellis.proofs.Entries.{pair_inside}
+use Rattle.decoder.proofs.DecodeLoop.{Decoding, Unbroken}
 use Rattle.frame.specs.Labels.{labels_at}
 use Rattle.decoder.proofs.collect_from.Given as goal
 

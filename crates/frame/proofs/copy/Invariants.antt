@@ -1,11 +1,7 @@
 -- `frame::copy` meets its contract. The invariant: the first i bytes are copied. The measure is what is left of `out`.
-use Prim.Native.Nat.{◌<◌}
-use lib.Seq.{take-suc, take-suc-set, take_all}
-use lib.ListN.{length, take, length-set}
-use native.Mathlib.Numerals.{add-one}
-use native.Mathlib.Omega.{arith}
-use Prim.Native.Nat.{ℕ, ◌-◌, ◌≤◌}
-use mathlib.Core.Path.{◌≡◌, refl, sym, ap, ◌∙◌}
+use lib.ListN.{length, take}
+use Prim.Native.Nat.{◌-◌, ◌≤◌}
+use mathlib.Core.Path.{◌≡◌}
 use Rattle.frame.proofs.copy.Given as goal
 
 abbrev pub invariant-loop-i : goal.invariant-loop-i

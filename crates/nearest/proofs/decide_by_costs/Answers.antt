@@ -1,10 +1,5 @@
 -- `nearest::decide_by_costs` meets its contract: costs, then the lowest bits by them, then the labels by these.
 use Rattle.nearest.proofs.PlannedReading.{low_needs, decided}
-use Rattle.nearest.proofs.decide_by_costs.Reads as reads
-use Rattle.nearest.proofs.decide_by_costs.Lts as lts
-use Rattle.decisions.proofs.cost_places.Reads as cost-places-reads
-use Rattle.decisions.proofs.label_places.Reads as label-places-reads
-use Rattle.nearest.proofs.decide_low.Reads as decide-low-reads
 use Rattle.nearest.proofs.decide_by_costs.Goals as goal
 
 pub decide_low-total-requires : goal.decide_low-total-requires

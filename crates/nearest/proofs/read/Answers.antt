@@ -2,11 +2,6 @@
 use Rattle.nearest.proofs.WholeNearest.{entries_fit_lem, nearest_refused}
 use Rattle.plan.specs.Plan.{Arrays}
 use Rattle.g9932.specs.Sizes.{tables}
-use Rattle.nearest.proofs.read.Reads as reads
-use Rattle.nearest.proofs.read.Lts as lts
-use Rattle.nearest.proofs.inputs.check_inputs.Reads as check-inputs-reads
-use Rattle.nearest.proofs.read_lists.Reads as read-lists-reads
-use Rattle.plan.proofs.plan_tables.Reads as plan-tables-reads
 use Rattle.nearest.proofs.read.Goals as goal
 use Rattle.nearest.proofs.read.Goals.{After-plan_tables-planned}
 

@@ -4,10 +4,6 @@ use lib.Seq.{length-take-le}
 use lib.ListN.{replicate}
 use mathlib.Core.Path.{refl, sym, ◌∙◌}
 use Prim.Native.Nat.{ℕ}
-use Rattle.nearest.proofs.read_lists.Reads as reads
-use Rattle.nearest.proofs.read_lists.Lts as lts
-use Rattle.nearest.proofs.range.first_outside.Reads as first-outside-reads
-use Rattle.nearest.proofs.read_planned.Reads as read-planned-reads
 use Rattle.nearest.proofs.read_lists.Goals as goal
 
 pub first_outside-outside-requires : goal.first_outside-outside-requires

@@ -2,12 +2,6 @@
 use Rattle.nearest.proofs.PlannedReading.{decide_again, planned_read}
 use native.Mathlib.Omega.{arith}
 use mathlib.Core.Path.{◌∙◌}
-use Rattle.nearest.proofs.read_planned.Reads as reads
-use Rattle.nearest.proofs.read_planned.Lts as lts
-use Rattle.frame.proofs.copy.Reads as copy-reads
-use Rattle.mapper.proofs.write.set_filler.Reads as set-filler-reads
-use Rattle.nearest.proofs.decide_labels.Reads as decide-labels-reads
-use Rattle.passes.proofs.read.frame_of_path.Reads as frame-of-path-reads
 use Rattle.nearest.proofs.read_planned.Goals as goal
 
 pub returns : goal.returns

@@ -5,12 +5,6 @@ use Rattle.paths.specs.Survivors.{far, reached, Below, grouped}
 use Rattle.paths.proofs.Metrics.{group_at, GroupIs, stored_more, stored_group}
 use Rattle.paths.proofs.Forced.{below_reached, group_reached}
 use Rattle.paths.proofs.Steps.{weaken}
-use Rattle.paths.proofs.advance.Reads as reads
-use Rattle.paths.proofs.advance.Lts as lts
-use Rattle.paths.proofs.four_at.Reads as four-at-reads
-use Rattle.paths.proofs.group.Reads as group-Reads
-use Rattle.paths.proofs.reached.Reads as reached-reads
-use Rattle.paths.proofs.store.Reads as store-reads
 use Rattle.paths.proofs.advance.Goals as goal
 
 pub four_at-requires : goal.four_at-requires

@@ -2,9 +2,6 @@
 use Rattle.paths.proofs.Metrics.{below8}
 use Rattle.g9932.specs.Bits.{weight}
 use mathlib.Core.List.{[], ◌∷◌}
-use Rattle.paths.proofs.edges_of.Reads as reads
-use Rattle.paths.proofs.edges_of.Lts as lts
-use Rattle.paths.proofs.edge.Reads as edge-reads
 use Rattle.paths.proofs.edges_of.Goals as goal
 
 pub returns : goal.returns

@@ -1,8 +1,5 @@
 -- `paths::first_alone` meets its contract, by its test.
 use Rattle.paths.proofs.Alone.{alone_true, alone_false}
-use Rattle.paths.proofs.first_alone.Reads as reads
-use Rattle.paths.proofs.first_alone.Lts as lts
-use Rattle.paths.proofs.wide.Reads as wide-reads
 use Rattle.paths.proofs.first_alone.Goals as goal
 
 pub returns-then-b-a : goal.returns-then-b-a

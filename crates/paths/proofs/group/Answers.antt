@@ -1,8 +1,5 @@
 -- `paths::group` meets its contract: the least sum of each of the four states.
 use Rattle.paths.specs.Survivors.{grouped}
-use Rattle.paths.proofs.group.Reads as reads
-use Rattle.paths.proofs.group.Lts as lts
-use Rattle.paths.proofs.least_sum.Reads as least-sum-reads
 use Rattle.paths.proofs.group.Goals as goal
 
 pub returns : goal.returns

@@ -1,14 +1,8 @@
 -- `paths::reached` meets its contract. The invariant: each fourth state below s has its metric, and the others are far. The measure is how many
 -- states are left.
 use Prim.Native.Nat.{◌-◌, ◌/◌, ◌%◌, ◌≤◌}
-use mathlib.Core.Path.{◌≡◌, refl, ap, ◌∙◌}
-use native.Mathlib.Omega.{arith}
-use borrow.Author.Tests.{not-true, not-false}
-use lib.ListN.{get_or, set}
-use Rattle.paths.specs.Survivors.{reached}
-use Rattle.paths.proofs.Forced.{fourths, fourths_more, fourths_all}
-use Rattle.paths.proofs.reached.Reads as reads
-use Rattle.paths.proofs.reached.Lts as lts
+use mathlib.Core.Path.{◌≡◌}
+use Rattle.paths.proofs.Forced.{fourths}
 use Rattle.paths.proofs.reached.Given as goal
 
 abbrev pub invariant-loop-s : goal.invariant-loop-s

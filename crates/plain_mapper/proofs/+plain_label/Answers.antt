@@ -1,7 +1,6 @@
 -- `plain_mapper::plain_label` meets its contract: the bit count falls by two (proofs/Steps).
-use Prim.Native.Nat.{◌-◌, ◌^◌}
+use Prim.Native.Nat.{◌-◌}
 use mathlib.Core.Path.{sym, ap, ap₂, ◌∙◌, subst}
-use native.Mathlib.Nat.{le_refl}
 use native.Mathlib.Omega.{arith}
 use Rattle.g9932.specs.Plain.{of_block, fourfold, plain_label}
 use Rattle.g9932.specs.Sizes.{point}

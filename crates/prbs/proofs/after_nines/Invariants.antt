@@ -1,10 +1,8 @@
 -- `prbs::after_nines` meets its contract. The invariant: the draws that are left lead to the same register. The measure is how often nine
 -- are left.
-use Prim.Native.Nat.{ℕ, ◌*◌, ◌-◌}
-use mathlib.Core.Path.{◌≡◌, refl, sym, ap, ◌∙◌}
-use native.Mathlib.Omega.{arith}
+use Prim.Native.Nat.{◌*◌}
+use mathlib.Core.Path.{◌≡◌}
 use Rattle.g9932.specs.Filler.{after_draws}
-use Rattle.prbs.proofs.Draws.{draws_on}
 use Rattle.prbs.proofs.after_nines.Given as goal
 
 abbrev pub invariant-loop-left : goal.invariant-loop-left

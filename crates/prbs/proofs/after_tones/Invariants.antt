@@ -1,10 +1,8 @@
 -- `prbs::after_tones` meets its contract. The invariant: the draws of the tones that are left lead to the same register. The measure is how
 -- many are left.
-use Prim.Native.Nat.{ℕ, ◌*◌, ◌-◌, ◌/◌, ◌%◌}
-use mathlib.Core.Path.{◌≡◌, sym, ap, ◌∙◌}
-use native.Mathlib.Omega.{arith}
+use Prim.Native.Nat.{◌*◌}
+use mathlib.Core.Path.{◌≡◌}
 use Rattle.g9932.specs.Filler.{after_draws}
-use Rattle.prbs.proofs.Draws.{draws_on}
 use Rattle.prbs.proofs.after_tones.Given as goal
 
 abbrev pub invariant-loop-left : goal.invariant-loop-left

@@ -1,14 +1,10 @@
 -- `tables::count_tones` meets its contract. The invariant: each count so far with that of the bit table from i on is that of
 -- all of it, and no sum is above what i entries can give. The measure is what is left.
-use mathlib.Core.Path.{◌≡◌, refl, ap}
+use mathlib.Core.Path.{◌≡◌}
 use Prim.Native.Nat.{◌+◌, ◌*◌, ◌-◌, ◌≤◌}
-use native.Mathlib.Omega.{arith}
 use lib.Dec.{ltb}
-use lib.ListN.{length, drop, drop_of_length-le}
-use Rattle.g9932.specs.Sizes.{entry}
+use lib.ListN.{length, drop}
 use Rattle.g9932.specs.Order.{sum, count, is_one}
-use Rattle.g9932.proofs.Members.{sum_members}
-use Rattle.tables.proofs.Counting.{count_table, drop_some}
 use Rattle.tables.proofs.count_tones.Given as goal
 
 abbrev pub invariant-loop-i : goal.invariant-loop-i

@@ -1,13 +1,8 @@
 -- `drive::blocks::drive_labels` meets its contract. The invariant: the lists have the numbers of the places before i, and the peak is theirs.
 -- The measure is the places left.
-use native.Mathlib.Omega.{arith}
 use Prim.Native.Nat.{◌-◌}
-use mathlib.Core.Path.{refl, sym, ap, ◌∙◌}
-use lib.Ieee.{Float}
 use lib.ListN.{length}
-use lib.Seq.{length_front}
-use Rattle.drive.proofs.BlockNumbers.{DrivenTo, driven_start, driven_end, front_entries, front_x, front_y, block_needs, block_step}
-use Rattle.drive.proofs.Sizes.{zero_is}
+use Rattle.drive.proofs.BlockNumbers.{DrivenTo}
 use Rattle.drive.proofs.blocks.drive_labels.Given as goal
 
 abbrev pub invariant-loop-i : goal.invariant-loop-i

@@ -1,8 +1,8 @@
 use native.Mathlib.Omega.{arith}
-use Prim.Native.Nat.{◌-◌, ◌<◌}
+use Prim.Native.Nat.{◌<◌}
 use mathlib.Core.Path.{ap, ◌∙◌}
 use lib.ListN.{length}
-use Rattle.g9932.specs.Drive.{signal_of, x_of, y_of}
+use Rattle.g9932.specs.Drive.{x_of, y_of}
 use Rattle.drive.proofs.NumberLoop.{put_step}
 use Rattle.drive.proofs.Products.{read_back}
 use Rattle.drive.proofs.numbers.put_numbers.Goals as goal

@@ -1,8 +1,7 @@
 -- `drive::numbers::put_numbers` meets its contract. The invariant: each place before i has its numbers. The measure is the places left.
-use native.Mathlib.Omega.{arith}
-use Prim.Native.Nat.{ℕ, ◌-◌, ◌<◌}
+use Prim.Native.Nat.{ℕ, ◌-◌}
 use mathlib.Core.List.{List}
-use mathlib.Core.Path.{◌≡◌, sym, ap, ◌∙◌}
+use mathlib.Core.Path.{◌≡◌}
 use lib.Ieee.{Float}
 use lib.IntN.{ℤ}
 use lib.ListN.{length}
@@ -10,8 +9,7 @@ use Rattle.g9932.specs.Drive.{signal_of, x_of, y_of}
 use Rattle.g9932.specs.Sizes.{entry}
 use Rattle.mapper.specs.Reading.{point_at}
 use Rattle.drive.specs.Numbers.{whole_by}
-use Rattle.drive.proofs.NumberLoop.{Putting, put_start, put_step, put_end}
-use Rattle.drive.proofs.Products.{read_back}
+use Rattle.drive.proofs.NumberLoop.{Putting}
 use Rattle.drive.proofs.numbers.put_numbers.Given as goal
 
 abbrev pub driven : List ℤ → List ℤ → List ℕ → ℕ → Float → Float → Type 0

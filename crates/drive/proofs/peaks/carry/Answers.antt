@@ -1,5 +1,4 @@
 use native.Mathlib.Omega.{arith}
-use Prim.Native.Nat.{◌-◌}
 use Rattle.drive.proofs.Carrying.{carry_start, carry_step, carry_end}
 use Rattle.drive.proofs.peaks.carry.Goals as goal
 

@@ -1,8 +1,7 @@
 -- `drive::peaks::carry` meets its contract. The invariant: the peak is that of the places before i. The measure is the places left.
-use native.Mathlib.Omega.{arith}
 use Prim.Native.Nat.{◌-◌}
 use lib.ListN.{length}
-use Rattle.drive.proofs.Carrying.{CarriedTo, carry_start, carry_step, carry_end}
+use Rattle.drive.proofs.Carrying.{CarriedTo}
 use Rattle.drive.proofs.peaks.carry.Given as goal
 
 abbrev pub invariant-loop-i : goal.invariant-loop-i

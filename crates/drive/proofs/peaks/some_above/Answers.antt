@@ -1,5 +1,4 @@
 use native.Mathlib.Omega.{arith}
-use Prim.Native.Nat.{◌-◌}
 use Rattle.drive.proofs.Carrying.{told_step}
 use Rattle.drive.proofs.peaks.some_above.Goals as goal
 

@@ -1,9 +1,8 @@
 -- `drive::peaks::some_above` meets its contract. The invariant: where none is told, no number before place i is larger. The measure is the
 -- places left.
-use native.Mathlib.Omega.{arith}
 use Prim.Native.Nat.{◌-◌}
 use lib.ListN.{length}
-use Rattle.drive.proofs.Carrying.{ToldTo, told_start, told_step, told_end}
+use Rattle.drive.proofs.Carrying.{ToldTo}
 use Rattle.drive.proofs.peaks.some_above.Given as goal
 
 abbrev pub invariant-loop-i : goal.invariant-loop-i

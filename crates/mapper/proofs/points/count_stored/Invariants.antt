@@ -1,10 +1,7 @@
 -- `mapper::points::count_stored` meets its contract. The invariant: the tones before i are counted. The measure is the places left.
-use native.Mathlib.Omega.{arith}
-use Prim.Native.Nat.{◌-◌, ◌≤◌}
-use mathlib.Core.Logic.{⊎_elim}
-use mathlib.Core.Path.{sym, ◌∙◌}
+use Prim.Native.Nat.{◌-◌}
 use lib.ListN.{length}
-use Rattle.mapper.proofs.BlockLoops.{Counting, count_start, count_one, count_none, count_end}
+use Rattle.mapper.proofs.BlockLoops.{Counting}
 use Rattle.mapper.proofs.points.count_stored.Given as goal
 
 abbrev pub invariant-loop-i : goal.invariant-loop-i

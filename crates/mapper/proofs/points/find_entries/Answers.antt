@@ -1,5 +1,4 @@
 use native.Mathlib.Omega.{arith}
-use Prim.Native.Nat.{◌-◌}
 use Rattle.mapper.proofs.BlockLoops.{make_step}
 use Rattle.mapper.proofs.points.find_entries.Goals as goal
 

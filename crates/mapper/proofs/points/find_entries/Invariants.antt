@@ -1,11 +1,10 @@
 -- `mapper::points::find_entries` meets its contract. The invariant: each entry before i is found. The measure is the entries left.
-use native.Mathlib.Omega.{arith}
 use Prim.Native.Nat.{ℕ, ◌-◌}
 use mathlib.Core.List.{List}
 use lib.ListN.{length}
 use Rattle.constellation.specs.Stored.{EntryOf}
 use Rattle.g9932.specs.Sizes.{entry}
-use Rattle.mapper.proofs.BlockLoops.{Making, make_start, make_step, make_end}
+use Rattle.mapper.proofs.BlockLoops.{Making}
 use Rattle.mapper.proofs.points.find_entries.Given as goal
 
 abbrev pub found : List ℕ → List ℕ → ℕ → ℕ → Type 0

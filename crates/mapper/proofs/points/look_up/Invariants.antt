@@ -1,12 +1,11 @@
 -- `mapper::points::look_up` meets its contract. The invariant: each entry before i is what the table has, the others are as they came. The
 -- measure is the entries left.
-use native.Mathlib.Omega.{arith}
 use Prim.Native.Nat.{ℕ, ◌-◌}
 use mathlib.Core.List.{List}
-use mathlib.Core.Path.{◌≡◌, ap}
+use mathlib.Core.Path.{◌≡◌}
 use lib.ListN.{length}
 use Rattle.g9932.specs.Sizes.{entry}
-use Rattle.mapper.proofs.BlockLoops.{Making, make_start, make_step, make_end}
+use Rattle.mapper.proofs.BlockLoops.{Making}
 use Rattle.mapper.proofs.points.look_up.Given as goal
 
 abbrev pub looked : List ℕ → List ℕ → ℕ → ℕ → Type 0

@@ -8,7 +8,7 @@ use Rattle.mapper.proofs.points.put_block.Goals.{Joined-stored-xs, else-stored-x
 ruled : (c : Joined-stored-xs) → Ruled c.args.layouts.now c.args.labels.now c.count_stored-stored.result c.args.xs.now c.args.ys.now c.if-stored-xs.xs c.if-stored-xs.ys
 ruled c =
     elim c.if-stored-xs.branch [
-      then-stored-xs w ↦ record { xs_length = rw w.xs-is w.put_by_rule.auto.xs; ys_length = rw w.ys-is w.put_by_rule.auto.ys; points = λ h. rw (w.xs-is, w.ys-is) w.put_by_rule.ensures }
+      | then-stored-xs w ↦ record { xs_length = rw w.xs-is w.put_by_rule.auto.xs; ys_length = rw w.ys-is w.put_by_rule.auto.ys; points = λ h. rw (w.xs-is, w.ys-is) w.put_by_rule.ensures }
       | else-stored-xs w ↦ record { xs_length = rw w.xs-is refl; ys_length = rw w.ys-is refl; points = λ h. absurd (omega (arith, h, w.if-stored-xs.false)) }
     ]
 

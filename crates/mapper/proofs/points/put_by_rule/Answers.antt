@@ -1,5 +1,4 @@
 use native.Mathlib.Omega.{arith}
-use Prim.Native.Nat.{◌-◌}
 use Rattle.mapper.proofs.points.put_by_rule.Goals as goal
 
 pub point_by-p-requires : goal.point_by-p-requires

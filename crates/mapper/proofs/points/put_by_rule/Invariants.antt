@@ -1,14 +1,10 @@
 -- `mapper::points::put_by_rule` meets its contract. The invariant: each place before i has its point. The measure is the places left.
-use native.Mathlib.Omega.{arith}
 use Prim.Native.Nat.{ℕ, ◌-◌}
 use mathlib.Core.List.{List}
-use mathlib.Core.Path.{sym, ◌∙◌}
-use mir.ValLaws.{to_z-of_z}
-use mir.Syntax.{w16}
 use lib.ListN.{length}
 use Rattle.constellation.specs.MapByLayout.{MapsByRule}
 use Rattle.g9932.specs.Sizes.{entry, Point}
-use Rattle.mapper.proofs.PointLoop.{Putting, put_start, put_step, put_end}
+use Rattle.mapper.proofs.PointLoop.{Putting}
 use Rattle.mapper.proofs.points.put_by_rule.Given as goal
 
 abbrev pub ruled : List ℕ → List ℕ → ℕ → Point → Type 0

@@ -1,17 +1,14 @@
 -- `mapper::points::put_stored` meets its contract. The invariant: each place before i has its point, and the others are as they came. The
 -- measure is the places left.
-use native.Mathlib.Omega.{arith}
 use Prim.Native.Nat.{ℕ, ◌-◌}
 use mathlib.Core.List.{List}
-use mathlib.Core.Path.{◌≡◌, sym, ap, ◌∙◌}
-use mir.ValLaws.{to_z-of_z}
-use mir.Syntax.{w16}
-use lib.IntN.{ℤ, pos}
-use lib.ListN.{length, get_or}
+use mathlib.Core.Path.{◌≡◌}
+use lib.IntN.{ℤ}
+use lib.ListN.{length}
 use Rattle.constellation.specs.Stored.{stored_or}
 use Rattle.g9932.specs.Sizes.{entry, Point}
 use Rattle.mapper.specs.Reading.{point_at}
-use Rattle.mapper.proofs.PointLoop.{Putting, put_start, put_step, put_end}
+use Rattle.mapper.proofs.PointLoop.{Putting}
 use Rattle.mapper.proofs.points.put_stored.Given as goal
 
 abbrev pub over : List ℕ → List ℕ → List ℤ → List ℤ → ℕ → Point → Type 0

@@ -1,5 +1,4 @@
 use native.Mathlib.Omega.{arith}
-use Prim.Native.Nat.{◌-◌}
 use Rattle.mapper.proofs.FillerLoop.{check_step, check_end}
 use Rattle.mapper.proofs.read.check_filler.Goals as goal
 

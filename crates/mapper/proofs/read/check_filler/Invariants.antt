@@ -1,9 +1,8 @@
 -- `mapper::read::check_filler` meets its contract. The invariant: the places from k on, compared from the register now and after what is
 -- found, give what is asked. The measure is the places left that draw.
-use native.Mathlib.Omega.{arith}
 use Prim.Native.Nat.{◌-◌}
 use lib.ListN.{length}
-use Rattle.mapper.proofs.FillerLoop.{Checking, check_start, check_step, check_end}
+use Rattle.mapper.proofs.FillerLoop.{Checking}
 use Rattle.mapper.proofs.read.check_filler.Given as goal
 
 abbrev pub invariant-loop-k : goal.invariant-loop-k

@@ -1,5 +1,4 @@
 use native.Mathlib.Omega.{arith}
-use Prim.Native.Nat.{◌-◌}
 use Rattle.mapper.proofs.CollectLoop.{collect_step}
 use Rattle.mapper.proofs.read.collect_labels.Goals as goal
 

@@ -1,9 +1,8 @@
 -- `mapper::read::collect_labels` meets its contract. The invariant: the bits put, and those of the labels from entry j on, are all bits. The
 -- measure is the entries left.
-use native.Mathlib.Omega.{arith}
 use Prim.Native.Nat.{◌-◌}
 use lib.ListN.{length}
-use Rattle.mapper.proofs.CollectLoop.{Collecting, collect_start, collect_end, place_inside, put_needs, collect_step}
+use Rattle.mapper.proofs.CollectLoop.{Collecting}
 use Rattle.mapper.proofs.read.collect_labels.Given as goal
 
 abbrev pub invariant-loop-j : goal.invariant-loop-j

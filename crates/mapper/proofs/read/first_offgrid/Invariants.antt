@@ -1,9 +1,6 @@
 -- `mapper::read::first_offgrid` meets its contract. The invariant: each point before i has a label. The measure is the places left.
 use Prim.Native.Nat.{ℕ, ◌-◌, ◌≤◌, ◌<◌}
-use borrow.Author.Count.{below_more}
-use borrow.Author.Tests.{not-true, not-false}
 use lib.ListN.{length}
-use native.Mathlib.Omega.{arith}
 use Rattle.mapper.specs.Reading.{point_at, LabelIs}
 use Rattle.g9932.specs.Sizes.{entry}
 use Rattle.mapper.proofs.read.first_offgrid.Given as goal

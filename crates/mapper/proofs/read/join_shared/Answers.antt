@@ -1,5 +1,4 @@
 use native.Mathlib.Omega.{arith}
-use Prim.Native.Nat.{◌-◌}
 use Rattle.mapper.proofs.SharedLabels.{join_step, join_needs}
 use Rattle.mapper.proofs.read.join_shared.Goals as goal
 

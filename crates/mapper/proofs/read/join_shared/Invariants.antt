@@ -1,10 +1,9 @@
 -- `mapper::read::join_shared` meets its contract. The invariant: the labels before i, and those from i on joined, are what is asked; those
 -- from i on have one bit. The measure is the places left.
-use native.Mathlib.Omega.{arith}
 use Prim.Native.Nat.{◌-◌}
 use lib.ListN.{length}
 use Rattle.mapper.specs.Reading.{join_ones, JoinNeeds}
-use Rattle.mapper.proofs.SharedLabels.{Changing, change_start, join_step, join_small, join_needs, join_end}
+use Rattle.mapper.proofs.SharedLabels.{Changing}
 use Rattle.mapper.proofs.read.join_shared.Given as goal
 
 abbrev pub invariant-loop-i : goal.invariant-loop-i

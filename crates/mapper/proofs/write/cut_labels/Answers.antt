@@ -1,5 +1,4 @@
 use mathlib.Core.Path.{◌∙◌}
-use Prim.Native.Nat.{◌-◌}
 use native.Mathlib.Omega.{arith}
 use Rattle.mapper.proofs.CutLoop.{cut_step}
 use Rattle.mapper.proofs.write.cut_labels.Goals as goal

@@ -1,10 +1,8 @@
 -- `mapper::write::cut_labels` meets its contract. The invariant: the labels of the entries before j, and the bits from `at` on, are the bits
 -- from `start` on. The measure is the entries left.
-use mathlib.Core.Path.{◌∙◌}
 use Prim.Native.Nat.{◌-◌}
 use lib.ListN.{length}
-use native.Mathlib.Omega.{arith}
-use Rattle.mapper.proofs.CutLoop.{Cutting, cut_start, cut_end, next_inside, place_inside, cut_step}
+use Rattle.mapper.proofs.CutLoop.{Cutting}
 use Rattle.mapper.proofs.write.cut_labels.Given as goal
 
 abbrev pub invariant-loop-j : goal.invariant-loop-j

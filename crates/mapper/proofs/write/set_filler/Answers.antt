@@ -1,5 +1,4 @@
 use native.Mathlib.Omega.{arith}
-use Prim.Native.Nat.{◌-◌}
 use Rattle.mapper.proofs.FillerLoop.{drawn_small, fill_step}
 use Rattle.mapper.proofs.write.set_filler.Goals as goal
 

@@ -1,9 +1,8 @@
 -- `mapper::write::set_filler` meets its contract. The invariant: the places from k on, filled from the register now, give what is asked. The
 -- measure is the places left that draw.
-use native.Mathlib.Omega.{arith}
 use Prim.Native.Nat.{◌-◌}
 use lib.ListN.{length}
-use Rattle.mapper.proofs.FillerLoop.{drawn_small, Filling, fill_start, fill_step, fill_end}
+use Rattle.mapper.proofs.FillerLoop.{Filling}
 use Rattle.mapper.proofs.write.set_filler.Given as goal
 
 abbrev pub invariant-loop-k : goal.invariant-loop-k

@@ -1,5 +1,4 @@
 use native.Mathlib.Omega.{arith}
-use Prim.Native.Nat.{◌-◌}
 use Rattle.mapper.proofs.SharedLabels.{split_step, split_end}
 use Rattle.mapper.proofs.write.split_shared.Goals as goal
 

@@ -1,10 +1,9 @@
 -- `mapper::write::split_shared` meets its contract. The invariant: the labels before i, and those from i on split, are what is asked. The
 -- measure is the places left.
-use native.Mathlib.Omega.{arith}
 use Prim.Native.Nat.{◌-◌}
 use lib.ListN.{length}
 use Rattle.mapper.specs.Writing.{split_ones}
-use Rattle.mapper.proofs.SharedLabels.{Changing, change_start, split_step, split_end}
+use Rattle.mapper.proofs.SharedLabels.{Changing}
 use Rattle.mapper.proofs.write.split_shared.Given as goal
 
 abbrev pub invariant-loop-i : goal.invariant-loop-i

@@ -1,10 +1,6 @@
 -- `nearest::inputs::check_inputs` meets its contract: the working buffer's length, and then the inputs of exact reading.
 use Rattle.nearest.proofs.NearestInputs.{work_room_lem, work_fits, work_refused, others_say}
 use mathlib.Core.Path.{sym, ◌∙◌}
-use Rattle.nearest.proofs.inputs.check_inputs.Reads as reads
-use Rattle.nearest.proofs.inputs.check_inputs.Lts as lts
-use Rattle.nearest.proofs.inputs.work_bytes.Reads as work-bytes-reads
-use Rattle.symbol.proofs.reading.check_inputs.Reads as check-inputs-reads
 use Rattle.nearest.proofs.inputs.check_inputs.Goals as goal
 
 pub returns-then-work-work_bytes : goal.returns-then-work-work_bytes

@@ -1,16 +1,13 @@
 -- `nearest::range::any_outside` meets its contract. The invariant: where `any` is false, no place before i has a coordinate out of range.
 -- The measure is the places left.
 use Prim.Native.Nat.{◌-◌, ◌≤◌}
-use native.Mathlib.Omega.{arith}
-use mathlib.Core.Path.{◌≡◌, sym}
-use mathlib.Core.Bool.{false, ◌||◌}
+use mathlib.Core.Path.{◌≡◌}
+use mathlib.Core.Bool.{false}
 use lib.ListN.{length}
 use Rattle.g9932.specs.declared.Found.TheVariants.{Nothing}
 use Rattle.g9932.specs.Sizes.{points}
 use Rattle.g9932.specs.Nearest.{range_test}
 use Rattle.g9932.specs.Bits.{first}
-use Rattle.g9932.proofs.Search.{first_none, first_end}
-use Rattle.nearest.proofs.Ranges.{range_tested, any_more}
 use Rattle.nearest.proofs.range.any_outside.Given as goal
 
 abbrev pub invariant-loop-i : goal.invariant-loop-i

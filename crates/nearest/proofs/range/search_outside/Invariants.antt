@@ -1,15 +1,11 @@
 -- `nearest::range::search_outside` meets its contract. The invariant: nothing was found before i. The measure is the places left.
 use Prim.Native.Nat.{◌-◌, ◌≤◌}
-use native.Mathlib.Omega.{arith}
-use mathlib.Core.Path.{◌≡◌, sym, ◌∙◌}
-use mathlib.Core.Bool.{◌||◌}
+use mathlib.Core.Path.{◌≡◌}
 use lib.ListN.{length}
 use Rattle.g9932.specs.declared.Found.TheVariants.{Nothing}
 use Rattle.g9932.specs.Sizes.{points}
 use Rattle.g9932.specs.Nearest.{range_test}
 use Rattle.g9932.specs.Bits.{first}
-use Rattle.g9932.proofs.Search.{first_none, first_more, first_at, first_end}
-use Rattle.nearest.proofs.Ranges.{range_tested}
 use Rattle.nearest.proofs.range.search_outside.Given as goal
 
 abbrev pub invariant-loop-i : goal.invariant-loop-i

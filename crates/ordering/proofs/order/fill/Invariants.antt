@@ -1,11 +1,9 @@
 -- `ordering::order::fill` meets its contract. The invariant: writing what is left from here gives what the whole gives from the
 -- start. The measure is what is left.
-use mathlib.Core.Path.{◌≡◌, refl, ap}
-use Prim.Native.Nat.{ℕ, ◌+◌}
-use native.Mathlib.Omega.{arith}
-use lib.ListN.{length, replicate, length-set}
+use mathlib.Core.Path.{◌≡◌}
+use Prim.Native.Nat.{◌+◌}
+use lib.ListN.{length, replicate}
 use lib.Seq.{sets}
-use Rattle.ordering.proofs.Runs.{sets_step, sets_done, replicate_some}
 use Rattle.ordering.proofs.order.fill.Given as goal
 
 abbrev pub invariant-loop-left : goal.invariant-loop-left

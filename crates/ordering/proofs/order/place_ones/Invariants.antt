@@ -1,10 +1,9 @@
 -- `ordering::order::place_ones` meets its contract. The invariant: writing the 1-bit tones left from the cursor gives what writing
 -- them all gives from the start. The measure is what is left of t.
-use Prim.Native.Nat.{◌-◌, ◌<◌}
-use mathlib.Core.Path.{◌≡◌, refl, ◌∙◌}
+use Prim.Native.Nat.{◌-◌}
+use mathlib.Core.Path.{◌≡◌}
 use lib.ListN.{length}
-use native.Mathlib.Omega.{arith}
-use Rattle.ordering.proofs.Placing.{OnesLeft, ones_start, ones_end, one_fits, one_more, one_past}
+use Rattle.ordering.proofs.Placing.{OnesLeft}
 use Rattle.ordering.proofs.order.place_ones.Given as goal
 
 abbrev pub invariant-loop-i : goal.invariant-loop-i

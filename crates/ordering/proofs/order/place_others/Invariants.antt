@@ -1,10 +1,9 @@
 -- `ordering::order::place_others` meets its contract. The invariant: writing the two lists of the tones left, each from its
 -- cursor, gives what the whole lists give from the start. The measure is what is left of t.
-use Prim.Native.Nat.{ℕ, zero, suc, ◌-◌, ◌<◌, ◌≤◌}
-use mathlib.Core.Path.{◌≡◌, refl, ◌∙◌}
-use lib.ListN.{length, length-set}
-use native.Mathlib.Omega.{arith}
-use Rattle.ordering.proofs.Placing.{OthersLeft, others_start, others_end, other_fits_lem, big_fits, others_past, others_big, others_zero}
+use Prim.Native.Nat.{◌-◌}
+use mathlib.Core.Path.{◌≡◌}
+use lib.ListN.{length}
+use Rattle.ordering.proofs.Placing.{OthersLeft}
 use Rattle.ordering.proofs.order.place_others.Given as goal
 
 abbrev pub invariant-loop-i : goal.invariant-loop-i

@@ -1,11 +1,5 @@
 -- `passes::read::frame_of_labels` meets its contract, by the mode.
 use Rattle.passes.proofs.ReadPlaces.{collected, none_broken}
-use Rattle.passes.proofs.read.frame_of_labels.Reads as reads
-use Rattle.passes.proofs.read.frame_of_labels.Lts as lts
-use Rattle.decoder.proofs.read_labels.Reads as read-labels-reads
-use Rattle.frame.proofs.BitWriter.finish.Reads as finish-reads
-use Rattle.frame.proofs.BitWriter.starting_at.Reads as starting-at-reads
-use Rattle.mapper.proofs.read.collect_labels.Reads as collect-labels-reads
 use Rattle.passes.proofs.read.frame_of_labels.Goals as goal
 
 pub returns-in-Uncoded : goal.returns-in-Uncoded

@@ -1,9 +1,5 @@
 -- `passes::read::read_frame` meets its contract: labels that are joined where tones share an entry are the entries' labels.
 use Rattle.passes.proofs.ReadPlaces.{join_needs, joined_labels, joined_reads}
-use Rattle.passes.proofs.read.read_frame.Reads as reads
-use Rattle.passes.proofs.read.read_frame.Lts as lts
-use Rattle.mapper.proofs.read.join_shared.Reads as join-shared-reads
-use Rattle.passes.proofs.read.frame_of_labels.Reads as frame-of-labels-reads
 use Rattle.passes.proofs.read.read_frame.Goals as goal
 
 pub join_shared-requires : goal.join_shared-requires

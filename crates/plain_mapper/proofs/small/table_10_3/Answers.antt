@@ -1,7 +1,5 @@
 -- `plain_mapper::small::table_10_3` meets its contract: each arm is a row of the table.
-use Prim.Native.Nat.{ℕ, ◌≤◌}
-use mathlib.Core.Logic.{◌⊎◌, inl, inr, ◌≢◌}
-use mathlib.Core.Path.{◌≡◌, refl, sym}
+use mathlib.Core.Path.{refl, sym}
 use native.Mathlib.Omega.{arith}
 use Rattle.g9932.specs.Bits.{first}
 use Rattle.plain_mapper.proofs.Rows.{row}

@@ -1,6 +1,5 @@
 use mathlib.Core.List.{List}
 use mathlib.Core.Path.{◌∙◌}
-use Prim.Native.Nat.{◌-◌}
 use lib.ListN.{take}
 use native.Mathlib.Omega.{arith}
 use Rattle.g9932.specs.Order.{filter}

@@ -1,10 +1,8 @@
 -- `plan::filing::share_entries` meets its contract. The invariant: j shared entries stand behind the lists as they came. The measure is the
 -- entries left.
-use mathlib.Core.Path.{◌≡◌, refl, ◌∙◌}
-use Prim.Native.Nat.{◌+◌, ◌-◌, ◌*◌, ◌≤◌}
-use lib.ListN.{length, set, length-set}
-use native.Mathlib.Omega.{arith}
-use Rattle.plan.proofs.Steps.{share_none, share_more}
+use mathlib.Core.Path.{◌≡◌}
+use Prim.Native.Nat.{◌-◌, ◌≤◌}
+use lib.ListN.{length}
 use Rattle.plan.specs.Plan.{Shares}
 use Rattle.plan.proofs.filing.share_entries.Given as goal
 

@@ -1,13 +1,9 @@
 -- `tables::lists::any_index_fault` meets its contract. The invariant: `any` tells of the indices before i. The measure is what is
 -- left.
-use mathlib.Core.Bool.{Bool}
-use mathlib.Core.Path.{◌≡◌, sym, ap, ◌∙◌}
+use mathlib.Core.Path.{◌≡◌}
 use Prim.Native.Nat.{◌-◌, ◌≤◌}
-use native.Mathlib.Omega.{arith}
 use lib.ListN.{length}
-use Rattle.g9932.specs.Sizes.{entry}
-use Rattle.tables.specs.Checks.{any_below, index_by, index_fault}
-use Rattle.tables.proofs.Scans.{any_none, any_more, any_end}
+use Rattle.tables.specs.Checks.{any_below, index_fault}
 use Rattle.tables.proofs.lists.any_index_fault.Given as goal
 
 abbrev pub invariant-loop-i : goal.invariant-loop-i

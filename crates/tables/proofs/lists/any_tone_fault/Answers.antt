@@ -1,5 +1,4 @@
 use mathlib.Core.Path.{refl}
-use Prim.Native.Nat.{◌-◌}
 use native.Mathlib.Omega.{arith}
 use Rattle.tables.proofs.Scans.{any_none, any_more}
 use Rattle.tables.proofs.lists.any_tone_fault.Goals as goal

@@ -1,12 +1,10 @@
 -- `tables::lists::any_tone_fault` meets its contract. The invariant: `any` tells of the places before i. The measure is what is
 -- left of t.
-use mathlib.Core.Path.{◌≡◌, refl}
+use mathlib.Core.Path.{◌≡◌}
 use Prim.Native.Nat.{◌-◌, ◌≤◌}
-use native.Mathlib.Omega.{arith}
 use lib.ListN.{length}
 use Rattle.g9932.specs.Refusals.{tone_test}
 use Rattle.tables.specs.Checks.{any_below}
-use Rattle.tables.proofs.Scans.{any_none, any_more, any_end}
 use Rattle.tables.proofs.lists.any_tone_fault.Given as goal
 
 abbrev pub invariant-loop-i : goal.invariant-loop-i

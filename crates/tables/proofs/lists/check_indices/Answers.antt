@@ -1,6 +1,5 @@
 -- `tables::lists::check_indices` meets its contract: each return follows the chain of refusals 4 to 6 to the one that it makes.
 use mathlib.Core.Path.{refl, sym, ◌∙◌}
-use borrow.Author.Tests.{not-true}
 use Rattle.tables.proofs.Faults.{indices_passed}
 use Rattle.g9932.proofs.Verdicts.{found_here, found_past}
 use Rattle.tables.proofs.lists.check_indices.Goals as goal

@@ -1,6 +1,6 @@
 -- `tables::lists::check_lists` meets its contract: each return follows the chain of refusals 1 to 6 to the one that it makes.
 use mathlib.Core.Bool.{false}
-use mathlib.Core.Path.{◌≡◌, refl, sym, ◌∙◌}
+use mathlib.Core.Path.{◌≡◌, sym, ◌∙◌}
 use lib.ListN.{length}
 use Rattle.g9932.proofs.Accepted.{SizeFacts, size_facts}
 use Rattle.tables.proofs.Faults.{refused_size, refused_tone, refused_twice, past_tones}

@@ -1,13 +1,8 @@
 -- `tables::lists::count_marks` meets its contract. The invariant: the marks so far with those from i on are all. The measure is what
 -- is left.
-use mathlib.Core.Bool.{false}
-use mathlib.Core.List.{◌∷◌}
-use mathlib.Core.Path.{◌≡◌, ap}
+use mathlib.Core.Path.{◌≡◌}
 use Prim.Native.Nat.{◌+◌, ◌-◌, ◌≤◌}
-use native.Mathlib.Numerals.{add-one}
-use native.Mathlib.Omega.{arith}
-use lib.ListN.{get_or, drop, drop_of_length-le}
-use lib.Seq.{drop-cons}
+use lib.ListN.{drop}
 use Rattle.tables.specs.Checks.{trues}
 use Rattle.g9932.specs.Sizes.{most_tones}
 use Rattle.tables.proofs.lists.count_marks.Given as goal

@@ -1,5 +1,4 @@
 use mathlib.Core.Path.{◌≡◌, ◌∙◌}
-use Prim.Native.Nat.{◌-◌}
 use native.Mathlib.Omega.{arith}
 use Rattle.tables.specs.Checks.{rule_by, rule_test}
 use Rattle.g9932.proofs.Search.{first_none, first_more, first_at}

@@ -1,14 +1,11 @@
 -- `tables::lists::first_index` meets its contract. The invariant: the rule applies to no index before i. The measure is what is
 -- left.
-use mathlib.Core.Path.{◌≡◌, ◌∙◌}
+use mathlib.Core.Path.{◌≡◌}
 use Prim.Native.Nat.{◌-◌, ◌≤◌}
-use native.Mathlib.Omega.{arith}
 use lib.ListN.{length}
 use Rattle.g9932.specs.Bits.{first}
-use Rattle.tables.specs.Checks.{rule_by, rule_test}
+use Rattle.tables.specs.Checks.{rule_test}
 use Rattle.g9932.specs.declared.Found.TheVariants.{Nothing}
-use Rattle.g9932.proofs.Search.{first_none, first_more, first_at, first_end}
-use Rattle.tables.proofs.Faults.{test_at}
 use Rattle.tables.proofs.lists.first_index.Given as goal
 
 abbrev pub invariant-loop-i : goal.invariant-loop-i

@@ -1,6 +1,6 @@
 use mathlib.Core.Path.{◌≡◌, ◌∙◌, ap, sym}
 use mathlib.Core.Bool.{false}
-use Prim.Native.Nat.{ℕ, ◌-◌, ◌<◌}
+use Prim.Native.Nat.{ℕ, ◌<◌}
 use native.Mathlib.Omega.{arith}
 use lib.ListN.{length, get_or, take, length-set, length-replicate}
 use Rattle.g9932.specs.Sizes.{most_tones}
@@ -26,10 +26,9 @@ pub returns-then-is_marked : goal.returns-then-is_marked
 returns-then-is_marked c = first_at _ _ _ c.loop-i.invariant.1 (marked (goal.at.returns-then-is_marked c).After-tone_at-k ∙ sym c.is_marked.ensures ∙ c.if-is_marked.true) (omega arith)
 
 pub loop-i-preserved : goal.loop-i-preserved
-loop-i-preserved c =
-    (
-      omega arith,
-      first_more _ _ c.loop-i.invariant.1 (marked (goal.at.loop-i-preserved c).After-tone_at-k ∙ sym c.is_marked.ensures ∙ c.if-is_marked.false),
-      rw c.mark.ensures (simp length-set c.loop-i.invariant.2),
-      rw c.mark.ensures (marks_more c.args.tones.now c.loop-i.i c.loop-i.seen c.loop-i.invariant.3 c.tone_at-k.ensures c.loop-i.invariant.2 (omega arith) (below (goal.at.loop-i-preserved c).After-tone_at-k)),
-    )
+loop-i-preserved c = (
+  omega arith,
+  first_more _ _ c.loop-i.invariant.1 (marked (goal.at.loop-i-preserved c).After-tone_at-k ∙ sym c.is_marked.ensures ∙ c.if-is_marked.false),
+  rw c.mark.ensures (simp length-set c.loop-i.invariant.2),
+  rw c.mark.ensures (marks_more c.args.tones.now c.loop-i.i c.loop-i.seen c.loop-i.invariant.3 c.tone_at-k.ensures c.loop-i.invariant.2 (omega arith) (below (goal.at.loop-i-preserved c).After-tone_at-k)),
+)

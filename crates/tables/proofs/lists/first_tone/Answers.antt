@@ -1,8 +1,7 @@
 use mathlib.Core.Path.{◌∙◌, ap, sym}
-use Prim.Native.Nat.{◌-◌}
 use native.Mathlib.Omega.{arith}
 use lib.Dec.{leb}
-use borrow.Author.Tests.{le-leb, lt-leb, not-true}
+use borrow.Author.Tests.{le-leb, lt-leb}
 use Rattle.tables.proofs.Scans.{any_nothing}
 use Rattle.g9932.proofs.Search.{first_none, first_more, first_at}
 use Rattle.tables.proofs.lists.first_tone.Goals as goal

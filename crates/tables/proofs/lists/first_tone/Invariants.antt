@@ -1,16 +1,11 @@
 -- `tables::lists::first_tone` meets its contract. The invariant: no entry before place i is G or more. The measure is what is
 -- left of t.
-use mathlib.Core.Path.{◌≡◌, ◌∙◌, ap, sym}
+use mathlib.Core.Path.{◌≡◌}
 use Prim.Native.Nat.{◌-◌, ◌≤◌}
-use native.Mathlib.Omega.{arith}
 use lib.ListN.{length}
-use lib.Dec.{leb}
-use borrow.Author.Tests.{le-leb, lt-leb, not-true}
-use Rattle.tables.proofs.Scans.{any_nothing}
 use Rattle.g9932.specs.Bits.{first}
 use Rattle.g9932.specs.Refusals.{tone_test}
 use Rattle.g9932.specs.declared.Found.TheVariants.{Nothing}
-use Rattle.g9932.proofs.Search.{first_none, first_more, first_at, first_end}
 use Rattle.tables.proofs.lists.first_tone.Given as goal
 
 abbrev pub invariant-loop-i : goal.invariant-loop-i

@@ -1,12 +1,9 @@
 -- `tables::lists::mark_tones` meets its contract. The invariant: marking what is left of t gives what marking all of it gives. The
 -- measure is what is left of t.
-use mathlib.Core.Path.{◌≡◌, refl}
+use mathlib.Core.Path.{◌≡◌}
 use Prim.Native.Nat.{◌-◌, ◌≤◌}
-use native.Mathlib.Omega.{arith}
-use lib.ListN.{length, drop, drop_of_length-le}
+use lib.ListN.{length, drop}
 use Rattle.tables.specs.Checks.{marked}
-use Rattle.tables.proofs.Counting.{tones_next}
-use Rattle.tables.proofs.Marks.{marked_step, marked_done}
 use Rattle.tables.proofs.lists.mark_tones.Given as goal
 
 abbrev pub invariant-loop-i : goal.invariant-loop-i

@@ -2,9 +2,6 @@
 use mathlib.Core.Bool.{true}
 use mathlib.Core.Logic.{inl, inr}
 use mathlib.Core.Path.{◌≡◌, sym}
-use native.Mathlib.Omega.{arith}
-use lib.ListN.{length}
-use Rattle.g9932.specs.Sizes.{most_bytes}
 use Rattle.tally.specs.PairReport.{read_as, entry_test}
 use Rattle.tally.proofs.Answers.{full_first, frame_next, counted}
 use Rattle.tally.proofs.Entries.{is_full, has_room, frames_pass, lengths_differ, frames_long}
@@ -18,7 +15,7 @@ pub returns-then-sent-read : goal.returns-then-sent-read
 returns-then-sent-read c =
     let frame : entry_test (read_as c.args.sent.now c.args.read.now) ≡ true =
     elim c.then-sent-read.either [
-      inl h ↦ lengths_differ c.args.sent.now c.args.read.now h
+      | inl h ↦ lengths_differ c.args.sent.now c.args.read.now h
       | inr h ↦ frames_long c.args.sent.now c.args.read.now h.1
     ] in
     rw c.refuse-then-sent-read.ensures

@@ -16,7 +16,7 @@ pub returns-then-sent-gt-MOST_BYTES : goal.returns-then-sent-gt-MOST_BYTES
 returns-then-sent-gt-MOST_BYTES c =
     let frame : entry_test (refused_with c.args.sent.now c.args.refusal) ≡ true =
     elim c.then-sent-gt-MOST_BYTES.either [
-      inl h ↦ frame_long c.args.sent.now c.args.refusal h
+      | inl h ↦ frame_long c.args.sent.now c.args.refusal h
       | inr h ↦ number_zero c.args.sent.now c.args.refusal h.1
     ] in
     rw c.refuse-then-sent-gt-MOST_BYTES.ensures

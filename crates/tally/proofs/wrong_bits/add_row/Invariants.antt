@@ -1,9 +1,6 @@
 -- `wrong_bits::add_row` meets its contract. The invariant: j bytes of the row are counted (`Part`). The measure is the bytes left.
 use Prim.Native.Nat.{◌-◌, ◌≤◌}
-use mathlib.Core.Path.{◌≡◌, sym, ◌∙◌}
-use native.Mathlib.Numerals.{add-one}
-use native.Mathlib.Omega.{arith}
-use Rattle.tally.proofs.Rows.{Part, part_begin, part_more, part_end}
+use Rattle.tally.proofs.Rows.{Part}
 use Rattle.tally.proofs.wrong_bits.add_row.Given as goal
 
 abbrev pub invariant-loop-j : goal.invariant-loop-j

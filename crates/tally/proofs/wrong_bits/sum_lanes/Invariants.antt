@@ -1,11 +1,8 @@
 -- `wrong_bits::sum_lanes` meets its contract. The invariant: `total` is the sum of the first j lanes. The measure is the lanes left.
-use Prim.Native.Nat.{ℕ, suc, ◌-◌, ◌≤◌}
-use mathlib.Core.Path.{◌≡◌, refl, sym, ap, ◌∙◌}
-use native.Mathlib.Numerals.{add-one}
-use native.Mathlib.Omega.{arith}
+use Prim.Native.Nat.{◌-◌, ◌≤◌}
+use mathlib.Core.Path.{◌≡◌}
 use lib.ListN.{take}
 use Rattle.g9932.specs.Order.{sum}
-use Rattle.tally.proofs.Rows.{sum_suc, sum_used, sum_fits_lem}
 use Rattle.tally.proofs.wrong_bits.sum_lanes.Given as goal
 
 abbrev pub invariant-loop-j : goal.invariant-loop-j

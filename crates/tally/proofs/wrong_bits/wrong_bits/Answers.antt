@@ -1,4 +1,3 @@
-use Prim.Native.Nat.{◌-◌}
 use native.Mathlib.Omega.{arith}
 use Rattle.tally.proofs.Rows.{rows_none}
 use Rattle.tally.proofs.wrong_bits.wrong_bits.Goals as goal

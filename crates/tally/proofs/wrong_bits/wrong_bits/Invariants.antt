@@ -1,9 +1,6 @@
 -- `wrong_bits::wrong_bits` meets its contract. The invariant: the lanes hold the wrong bits of the rows so far. The measure is the rows left.
 use Prim.Native.Nat.{◌-◌, ◌≤◌}
-use mathlib.Core.Path.{◌∙◌}
-use native.Mathlib.Omega.{arith}
 use Rattle.tally.specs.Lanes.{Rows}
-use Rattle.tally.proofs.Rows.{rows_none, rows_unused, rows_most, rows_all}
 use Rattle.tally.proofs.wrong_bits.wrong_bits.Given as goal
 
 abbrev pub invariant-loop-row : goal.invariant-loop-row

@@ -1,13 +1,9 @@
 -- `trellis::pairs::code_forced_pairs` meets its contract. The invariant: the bits of the labels so far, with what the pairs left send from
 -- the state and the frame bits left, are the whole, and fewer than six entries are left. The measure is the entries left.
-use Rattle.trellis.proofs.Entries.{pair_inside}
-use Rattle.trellis.proofs.CodeLoop.{CodesUpTo, going_start, going_end, AtPair, pair_needs, labels_fit_lem, going_step}
+use Rattle.trellis.proofs.CodeLoop.{CodesUpTo}
 use Rattle.frame.specs.Labels.{labels_at}
 use lib.ListN.{length}
-use borrow.Author.Tests.{lt-ltb}
-use native.Mathlib.Omega.{arith}
-use mathlib.Core.Path.{◌≡◌, refl, sym, ◌∙◌}
-use mathlib.Core.Bool.{true}
+use mathlib.Core.Path.{◌≡◌}
 use Prim.Native.Nat.{◌+◌, ◌-◌, ◌≤◌}
 use Rattle.trellis.proofs.pairs.code_forced_pairs.Given as goal
 

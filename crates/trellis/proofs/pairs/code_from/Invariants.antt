@@ -1,15 +1,10 @@
 -- `trellis::pairs::code_from` meets its contract. The invariant: as of `code_forced_pairs`, with a coder whose state is a number below 16.
 -- The measure is the entries left.
-use Rattle.trellis.proofs.Steps.{coder_back}
-use Rattle.trellis.proofs.CodeLoop.{CodesUpTo, going_start, going_on, AtPair, pair_needs, labels_fit_lem, going_step}
+use Rattle.trellis.proofs.CodeLoop.{CodesUpTo}
 use Rattle.trellis.specs.Steps.{coder_at}
-use Rattle.trellis.proofs.Entries.{pair_inside, free_inside}
-use Rattle.frame.specs.Labels.{labels_at, Placed}
+use Rattle.frame.specs.Labels.{labels_at}
 use lib.ListN.{length}
-use borrow.Author.Tests.{le-ltb}
-use native.Mathlib.Omega.{arith}
-use mathlib.Core.Path.{◌≡◌, refl, sym, ◌∙◌}
-use mathlib.Core.Bool.{false}
+use mathlib.Core.Path.{◌≡◌}
 use Prim.Native.Nat.{◌-◌, ◌<◌}
 use Rattle.trellis.proofs.pairs.code_from.Given as goal
 
