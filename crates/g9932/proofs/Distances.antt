@@ -67,7 +67,7 @@ none_left m n h = (omega arith, omega arith)
 
 tone_self : (c : Class) (p : Point) → tone_distance c p p ≡ 0
 tone_self (Data n) p = distance_self p
-tone_self Monitored p = refl
+tone_self Monitored p = omega (arith, distance_self p)
 tone_self Silent p = refl
 
 pub total_self : (cs : List Class) (q : List Point) → total_of cs q q ≡ 0
