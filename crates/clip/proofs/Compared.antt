@@ -11,7 +11,7 @@ use mir.Val.{SFits, to_z, of_z}
 use mir.ValLaws.{to_z-of_z}
 use Rattle.g9932.specs.Bits.{weight, num}
 use Rattle.g9932.specs.Points.{twos_complement, point_of, same_int}
-use Rattle.g9932.proofs.Constellations.{same_int_self, sameInt→eq}
+use Rattle.g9932.proofs.Constellations.{same_int_self, same_int→eq}
 
 pub same_bits : (a b : ℤ) → SFits w16 a → SFits w16 b → eqb (of_z w16 a) (of_z w16 b) ≡ same_int a b
 same_bits a b fa fb = go (eqb (of_z w16 a) (of_z w16 b)) refl (same_int a b) refl
@@ -22,7 +22,7 @@ same_bits a b fa fb = go (eqb (of_z w16 a) (of_z w16 b)) refl (same_int a b) ref
     go true e false f =
         let same : a ≡ b = sym (to_z-of_z w16 a fa) ∙ ap (to_z w16) (eqb-true (of_z w16 a) (of_z w16 b) e) ∙ to_z-of_z w16 b fb in
         sym (same_int_self b) ∙ ap (λ (z : ℤ). same_int z b) (sym same) ∙ f
-    go false e true f = sym e ∙ eq-eqb (of_z w16 a) (of_z w16 b) (ap (of_z w16) (sameInt→eq a b f))
+    go false e true f = sym e ∙ eq-eqb (of_z w16 a) (of_z w16 b) (ap (of_z w16) (same_int→eq a b f))
 
 -- a coordinate of 2 bits, and its opposite as the code makes it
 pub record Unit16 (z : ℤ) : Type 0 where

@@ -13,7 +13,7 @@ use Rattle.g9932.specs.Points.{point_of, same_point}
 use Rattle.g9932.specs.Sizes.{Point, entry}
 use Rattle.g9932.specs.declared.Found.{Found}
 use Rattle.g9932.specs.declared.Found.TheVariants.{At, Nothing}
-use Rattle.g9932.proofs.Constellations.{samePoint→eq}
+use Rattle.g9932.proofs.Constellations.{same_point→eq}
 use Rattle.g9932.proofs.Search.{first_no}
 use Rattle.constellation.specs.Layouts.{upper, layout_of, silent_layout}
 use Rattle.constellation.specs.MapByLayout.{Mappable, label, silent, MapsTo, MapsByRule}
@@ -44,7 +44,7 @@ stored t e = record { rule = at }
     at zero l h k s = absurd (omega arith)
     at (suc j) l h k s =
         let none = none_at _ (first_no (λ j. is_at (first (λ l. not (agrees t (suc j) l)) (2 ^ suc j))) 8 e j (omega arith)) in
-        samePoint→eq _ _ (not-false (agrees t (suc j) l) (first_no (λ l. not (agrees t (suc j) l)) (2 ^ suc j) none l s))
+        same_point→eq _ _ (not-false (agrees t (suc j) l) (first_no (λ l. not (agrees t (suc j) l)) (2 ^ suc j) none l s))
 
 -- ---- by a layout
 

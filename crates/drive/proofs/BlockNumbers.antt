@@ -45,8 +45,8 @@ module _ {table layouts labels gains entries : List ℕ} {px₀ py₀ : List ℤ
   pub numbers_need : PutNeeds px py gains xs₀ ys₀
   numbers_need =
       record {
-        points_xLength = nx ∙ sym g.xs_length;
-        points_yLength = ny ∙ g.put.put.ys_length ∙ sym g.xs_length;
+        points_x_length = nx ∙ sym g.xs_length;
+        points_y_length = ny ∙ g.put.put.ys_length ∙ sym g.xs_length;
         gains_length = g.gains_length ∙ sym g.xs_length;
         ys_length = g.ys_length ∙ sym g.xs_length;
         drivable = λ i h.
@@ -77,8 +77,8 @@ pub record DrivenTo (layouts labels gains : List ℕ) (xs₀ xs ys : List Float)
   pub xs_length : length xs ≡ length xs₀
   pub ys_length : length ys ≡ length xs₀
   pub entries_length : length entries ≡ most_places
-  pub points_xLength : length px ≡ most_places
-  pub points_yLength : length py ≡ most_places
+  pub points_x_length : length px ≡ most_places
+  pub points_y_length : length py ≡ most_places
   pub xs_are : (ws : List (Option Point)) → Stand layouts labels gains ws → (j : ℕ) → j < i → get_or xs j nan ≡ x_of (signal_of (get_or ws j none))
   pub ys_are : (ws : List (Option Point)) → Stand layouts labels gains ws → (j : ℕ) → j < i → get_or ys j nan ≡ y_of (signal_of (get_or ws j none))
   pub peak_is : (ws : List (Option Point)) → Stand layouts labels gains ws → peak ≡ peak_by (carried (none_yet (length xs₀)) (take i (map size_at ws)) 0)
@@ -108,10 +108,10 @@ module _ {table layouts labels gains : List ℕ} {xs₀ ys₀ : List Float} (s :
   front_entries = length-take-le (e - i) entries (omega (arith, short, c.entries_length))
 
   pub front_x : length (take (e - i) px) ≡ e - i
-  front_x = length-take-le (e - i) px (omega (arith, short, c.points_xLength))
+  front_x = length-take-le (e - i) px (omega (arith, short, c.points_x_length))
 
   pub front_y : length (take (e - i) py) ≡ e - i
-  front_y = length-take-le (e - i) py (omega (arith, short, c.points_yLength))
+  front_y = length-take-le (e - i) py (omega (arith, short, c.points_y_length))
 
   part_layouts : length (part layouts i e) ≡ e - i
   part_layouts = length_part layouts i e (omega (arith, places, g.layouts_length))
@@ -196,8 +196,8 @@ module _ {table layouts labels gains : List ℕ} {xs₀ ys₀ : List Float} (s :
           xs_length = same_len_mid i (e - i) xs new_xs_lem mx ∙ c.xs_length;
           ys_length = same_len_mid i (e - i) ys new_ys_lem my ∙ c.ys_length;
           entries_length = ke;
-          points_xLength = kx;
-          points_yLength = ky;
+          points_x_length = kx;
+          points_y_length = ky;
           xs_are = λ ws w. over (λ w. x_of (signal_of w)) xs new_xs_lem c.xs_length (mx ∙ part_xs) ws w (c.xs_are ws w) (d.lists (part ws i e) (part_stands ws w)).xs_are;
           ys_are = λ ws w. over (λ w. y_of (signal_of w)) ys new_ys_lem c.ys_length (my ∙ part_ys) ws w (c.ys_are ws w) (d.lists (part ws i e) (part_stands ws w)).ys_are;
           peak_is = λ ws w.
@@ -220,8 +220,8 @@ module _ {layouts labels gains : List ℕ} {xs₀ ys₀ : List Float} (g : Symbo
         xs_length = refl;
         ys_length = g.ys_length;
         entries_length = ke;
-        points_xLength = kx;
-        points_yLength = ky;
+        points_x_length = kx;
+        points_y_length = ky;
         xs_are = λ ws w j h. absurd (omega arith);
         ys_are = λ ws w j h. absurd (omega arith);
         peak_is = λ ws w. p;

@@ -18,8 +18,8 @@ abbrev pub whole_by : ℕ → Point → Option Point
 whole_by g p = cond (same_int (pos g *ℤ p.px) (pos 0)) none (some (gained g p))
 
 pub record PutNeeds (points_x points_y : List ℤ) (gains : List ℕ) (xs ys : List Float) : Type 0 where
-  pub points_xLength : length points_x ≡ length xs
-  pub points_yLength : length points_y ≡ length xs
+  pub points_x_length : length points_x ≡ length xs
+  pub points_y_length : length points_y ≡ length xs
   pub gains_length : length gains ≡ length xs
   pub ys_length : length ys ≡ length xs
   pub drivable : (i : ℕ) → i < length xs → Drivable (entry gains i) (point_at points_x points_y i)

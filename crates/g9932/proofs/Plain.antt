@@ -19,7 +19,7 @@ use Rattle.g9932.specs.Sizes.{Point, origin}
 use Rattle.g9932.specs.declared.Found.{Found}
 use Rattle.g9932.specs.declared.Found.TheVariants.{At, Nothing}
 use Rattle.g9932.proofs.Blocks.{low_place, Block, block, of_corner, corner_of_lem, low_place_lem}
-use Rattle.g9932.proofs.Constellations.{same_point_self, samePoint→eq, point_inj}
+use Rattle.g9932.proofs.Constellations.{same_point_self, same_point→eq, point_inj}
 use Rattle.g9932.proofs.Identities.{or-false}
 use Rattle.g9932.proofs.Labels.{none_some, point_label, label_point}
 use Rattle.g9932.proofs.Search.{found_not, first_no, first_found}
@@ -54,7 +54,7 @@ search_label b f same p = go (first test (2 ^ b)) refl (label_of b p) refl
     test l = same_point (f l) p
 
     found : (j : ℕ) → first test (2 ^ b) ≡ At j → (j < 2 ^ b) × (point_of b (bits b j) ≡ p)
-    found j e = let h = first_found test (2 ^ b) j e in (h.0, sym (same j h.0) ∙ samePoint→eq (f j) p h.1)
+    found j e = let h = first_found test (2 ^ b) j e in (h.0, sym (same j h.0) ∙ same_point→eq (f j) p h.1)
 
     go : (g : Found) → first test (2 ^ b) ≡ g → (o : Option (List Bool)) → label_of b p ≡ o → g ≡ label_number o
     go (At j) d (some v) e =
@@ -155,7 +155,7 @@ module _ (b : ℕ) (h : smallest (suc (suc b)) ≡ false) (ih : (p : Point) → 
       let i : point_of (suc (suc b)) (z.0 ∷ z.1 ∷ v.0) ≡ p =
       (block_at z.0 z.1 v.0 q.0).is
       ∙ ap₂ (λ (m : ℕ) (r : Point). in_block m (block_corner r)) z.2 q.1
-      ∙ ap (in_block k) (corner_of_lem p) ∙ samePoint→eq (in_block k (corner_of p)) p low.1 in
+      ∙ ap (in_block k) (corner_of_lem p) ∙ same_point→eq (in_block k (corner_of p)) p low.1 in
       absurd (none_some (z.0 ∷ z.1 ∷ v.0) (sym o ∙ ap (label_of (suc (suc b))) (sym i) ∙ label_point (suc (suc b)) (z.0 ∷ z.1 ∷ v.0) (omega (arith, q.0))))
 
 step_labels : (b : ℕ) → smallest (suc (suc b)) ≡ false → Agrees b → (p : Point) → plain_label (suc (suc b)) p ≡ label_number (label_of (suc (suc b)) p)

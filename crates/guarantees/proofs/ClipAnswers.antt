@@ -19,7 +19,7 @@ use Rattle.g9932.specs.declared.Clip.{Clip}
 use Rattle.g9932.specs.declared.Clip.TheVariants.{Straight, Turned, Neither, CannotTell}
 use Rattle.g9932.specs.declared.Found.{Found}
 use Rattle.g9932.specs.declared.Found.TheVariants.{At, Nothing}
-use Rattle.g9932.proofs.Constellations.{same_point_self, samePoint→eq}
+use Rattle.g9932.proofs.Constellations.{same_point_self, same_point→eq}
 use Rattle.g9932.proofs.Verdicts.{test_here, test_past, and_past, clip_told}
 use Rattle.guarantees.specs.Words.{AcceptedTables, ValidRegister, RightLength}
 use Rattle.guarantees.proofs.HalfTurn.{half_point}
@@ -143,13 +143,13 @@ module _ (T : Tables) (q : List Point) (r : ℕ) where
 
     pub straight : (clip_of T q r ≡ Straight) ↔ (get_or q k origin ≡ filler)
     straight = (
-      λ e. samePoint→eq (get_or q k origin) filler (by_straight (same_point (get_or q k origin) filler) (same_point (get_or q k origin) (negated filler)) (sym clip_is ∙ e)),
+      λ e. same_point→eq (get_or q k origin) filler (by_straight (same_point (get_or q k origin) filler) (same_point (get_or q k origin) (negated filler)) (sym clip_is ∙ e)),
       λ e. clip_is ∙ rw (e, same_point_self filler),
     )
 
     pub turned : (clip_of T q r ≡ Turned) ↔ (get_or q k origin ≡ negated filler)
     turned = (
-      λ e. samePoint→eq (get_or q k origin) (negated filler) (by_turned (same_point (get_or q k origin) filler) (same_point (get_or q k origin) (negated filler)) (sym clip_is ∙ e)),
+      λ e. same_point→eq (get_or q k origin) (negated filler) (by_turned (same_point (get_or q k origin) filler) (same_point (get_or q k origin) (negated filler)) (sym clip_is ∙ e)),
       λ e. clip_is ∙ rw (e, differs, same_point_self (negated filler)),
     )
 
@@ -157,7 +157,7 @@ module _ (T : Tables) (q : List Point) (r : ℕ) where
     neither = (
       λ e. (λ z. straight_not (sym (straight.1 z) ∙ e), λ z. turned_not (sym (turned.1 z) ∙ e)),
       λ h. clip_is ∙ by_neither (same_point (get_or q k origin) filler) (same_point (get_or q k origin) (negated filler))
-          (λ z. h.0 (samePoint→eq (get_or q k origin) filler z)) (λ z. h.1 (samePoint→eq (get_or q k origin) (negated filler) z)),
+          (λ z. h.0 (same_point→eq (get_or q k origin) filler z)) (λ z. h.1 (same_point→eq (get_or q k origin) (negated filler) z)),
     )
 
 -- no other point matters

@@ -26,7 +26,7 @@ use Rattle.g9932.specs.declared.Found.{Found}
 use Rattle.g9932.specs.declared.Mode.{Mode}
 use Rattle.g9932.specs.declared.Mode.TheVariants.{Coded}
 use Rattle.g9932.proofs.Accepted.{Accepted, AcceptedCoded}
-use Rattle.g9932.proofs.Constellations.{samePoint→eq, point_inj}
+use Rattle.g9932.proofs.Constellations.{same_point→eq, point_inj}
 use Rattle.g9932.proofs.Formed.{Formed}
 use Rattle.g9932.proofs.Labels.{label_point}
 use Rattle.g9932.proofs.Packed.{start_most_lem}
@@ -113,7 +113,7 @@ module _ (turn : PointTurn) where
       go : (s : Bool) → same_point (point (point_of 2 v)) (point_of 2 v) ≡ s → s ≡ false
       go false e = refl
       go true e =
-          let p = samePoint→eq (point (point_of 2 v)) (point_of 2 v) e in
+          let p = same_point→eq (point (point_of 2 v)) (point_of 2 v) e in
           let i = point_inj 2 (word v) v (turn.labels.same_length v ∙ l) l (sym (turn.label 2 v turn.small l) ∙ p) in
           absurd (turn_moves turn.labels v (omega arith) i)
 

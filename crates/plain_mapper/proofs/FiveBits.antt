@@ -9,7 +9,7 @@ use lib.ListN.{get_or}
 use Rattle.g9932.specs.Bits.{weight, num, odd, bits, first}
 use Rattle.g9932.specs.Points.{twos_complement, table10_3, odd_point, same_point}
 use Rattle.g9932.specs.Sizes.{Point, point}
-use Rattle.g9932.proofs.Constellations.{samePoint→eq}
+use Rattle.g9932.proofs.Constellations.{same_point→eq}
 use Rattle.g9932.proofs.Search.{first_no}
 
 pub word_small : (l : ℕ) → l < 32 → (w : ℕ) → w ≡ get_or table10_3 l 0 → w < 16
@@ -27,4 +27,4 @@ differs l = not (same_point (by_word l (get_or table10_3 l 0)) (odd_point 5 (bit
 pub five_point : (l : ℕ) → l < 32 → (w : ℕ) → w ≡ get_or table10_3 l 0 → by_word l w ≡ odd_point 5 (bits 5 l)
 unfolding first weight num odd bits twos_complement
 five_point l h w e =
-    rw e (samePoint→eq (by_word l (get_or table10_3 l 0)) (odd_point 5 (bits 5 l)) (not-false _ (first_no differs 32 refl l h)))
+    rw e (same_point→eq (by_word l (get_or table10_3 l 0)) (odd_point 5 (bits 5 l)) (not-false _ (first_no differs 32 refl l h)))

@@ -7,7 +7,7 @@ use Rattle.g9932.specs.Bits.{first}
 use Rattle.g9932.specs.Plain.{in_block, corner_of, low_label}
 use Rattle.g9932.specs.Points.{same_int, same_point}
 use Rattle.g9932.specs.Sizes.{Point, point, origin}
-use Rattle.g9932.proofs.Constellations.{same_int_self, sameInt→eq}
+use Rattle.g9932.proofs.Constellations.{same_int_self, same_int→eq}
 use Rattle.g9932.proofs.Identities.{both_ways}
 use Rattle.g9932.proofs.Search.{first_ext}
 
@@ -17,12 +17,12 @@ from c a z = both_ways (same_int (c +ℤ a) z) (same_int a (z -ℤ c)) there bac
   where
     there : same_int (c +ℤ a) z ≡ true → same_int a (z -ℤ c) ≡ true
     there e =
-        let f : z -ℤ c ≡ a = ap (λ (w : ℤ). w -ℤ c) (sym (sameInt→eq (c +ℤ a) z e) ∙ +ℤ_comm c a) ∙ +ℤ-neg_ℤ_cancel a c in
+        let f : z -ℤ c ≡ a = ap (λ (w : ℤ). w -ℤ c) (sym (same_int→eq (c +ℤ a) z e) ∙ +ℤ_comm c a) ∙ +ℤ-neg_ℤ_cancel a c in
         rw f (same_int_self a)
 
     back : same_int a (z -ℤ c) ≡ true → same_int (c +ℤ a) z ≡ true
     back e =
-        let f : c +ℤ a ≡ z = ap (λ (w : ℤ). c +ℤ w) (sameInt→eq a (z -ℤ c) e) ∙ +ℤ_comm c (z -ℤ c) ∙ -ℤ-+ℤ_cancel z c in
+        let f : c +ℤ a ≡ z = ap (λ (w : ℤ). c +ℤ w) (same_int→eq a (z -ℤ c) e) ∙ +ℤ_comm c (z -ℤ c) ∙ -ℤ-+ℤ_cancel z c in
         rw f (same_int_self z)
 
 at : (c z : ℤ) → same_int c z ≡ same_int (pos 0) (z -ℤ c)

@@ -13,7 +13,7 @@ use Rattle.g9932.specs.Plain.{corner_at}
 use Rattle.g9932.specs.Points.{same_int, same_point}
 use Rattle.g9932.specs.Sizes.{Point}
 use Rattle.g9932.proofs.Blocks.{below_zero, corner_at_below}
-use Rattle.g9932.proofs.Constellations.{sameInt→eq, same_point_self, differs}
+use Rattle.g9932.proofs.Constellations.{same_int→eq, same_point_self, differs}
 
 -- ---- results in range
 
@@ -82,7 +82,7 @@ pub other_number : (x y : ℤ) → (of_z w16 y ≡ of_z w16 x → ⊥) → same_
 other_number x y h = go (same_int x y) refl
   where
     go : (c : Bool) → same_int x y ≡ c → same_int x y ≡ false
-    go true e = absurd (h (ap (of_z w16) (sym (sameInt→eq x y e))))
+    go true e = absurd (h (ap (of_z w16) (sym (same_int→eq x y e))))
     go false e = e
 
 pub is_number : (z : ℤ) (n : ℕ) → SFits w16 z → of_z w16 z ≡ n → z ≡ to_z w16 n

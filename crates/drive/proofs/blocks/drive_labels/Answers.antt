@@ -22,8 +22,8 @@ loop-i-preserved c =
     block_step c.point_table-table.ensures c.requires c.loop-i.invariant c.block_end-end.ensures
     c.drive_block-peak.auto.xs c.drive_block-peak.auto.ys
     (length_front c.loop-i.entries c.drive_block-peak.new.entries n c.drive_block-peak.auto.entries ∙ c.loop-i.invariant.entries_length)
-    (length_front c.loop-i.points_x c.drive_block-peak.new.points_x n c.drive_block-peak.auto.points_x ∙ c.loop-i.invariant.points_xLength)
-    (length_front c.loop-i.points_y c.drive_block-peak.new.points_y n c.drive_block-peak.auto.points_y ∙ c.loop-i.invariant.points_yLength)
+    (length_front c.loop-i.points_x c.drive_block-peak.new.points_x n c.drive_block-peak.auto.points_x ∙ c.loop-i.invariant.points_x_length)
+    (length_front c.loop-i.points_y c.drive_block-peak.new.points_y n c.drive_block-peak.auto.points_y ∙ c.loop-i.invariant.points_y_length)
     c.drive_block-peak.ensures
 
 pub returns : goal.returns
