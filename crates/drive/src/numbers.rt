@@ -15,6 +15,7 @@ pub struct Numbers {
 
 // What goes out at a place. 512 times each number is gain times coordinate, a whole number below 2 to the 24, so that neither the cast nor
 // the division rounds. Where a tone is driven its gain is above 0 and its coordinates are odd, so that a product of 0 tells a silent one.
+// Called by proved code only.
 pub fn signal_of(x: i16, y: i16, gain: u16) -> Signal
     requires { Drivable gain (point x y) }
     ensures { result ≡ signal_of (whole_by gain (point x y)) }
