@@ -1,4 +1,5 @@
 -- Every place and every L fits the 32 bits of a C answer.
+use Rattle.std.specs.Prelude.{Option, None, Some}
 use Prim.Native.Nat.{ℕ, zero, suc, ◌≤◌}
 use mathlib.Core.Bool.{Bool, true, false, cond}
 use mathlib.Core.List.{List, [], ◌∷◌}
@@ -17,8 +18,6 @@ use Rattle.g9932.specs.Symbol.{classes_of, pairs_in, size_of, gather_bits, readi
 use Rattle.g9932.specs.Answers.{break_in, order_verdict, encode_inputs, encode_verdict, places_verdict, points_verdict, read_inputs, read_verdict}
 use Rattle.g9932.specs.Nearest.{work_bytes, nearest_inputs, range_verdict, nearest_verdict}
 use Rattle.g9932.specs.Clip.{clip_inputs, clip_verdict}
-use Rattle.g9932.specs.declared.Found.{Found}
-use Rattle.g9932.specs.declared.Found.TheVariants.{At, Nothing}
 use Rattle.g9932.specs.declared.Mode.{Mode}
 use Rattle.g9932.specs.declared.Mode.TheVariants.{Uncoded, Coded}
 use Rattle.g9932.specs.declared.TrellisState.{TrellisState}
@@ -29,19 +28,19 @@ use Rattle.clevisroot.specs.CAnswers.{Small}
 
 -- ---- a place is found inside what is searched
 
-index : Found → ℕ
-index (At k) = k
-index Nothing = 0
+index : Option ℕ → ℕ
+index (Some k) = k
+index None = 0
 
 first_inside : (p : ℕ → Bool) (n : ℕ) → index (first p n) ≤ n
 unfolding first index
 first_inside p zero = omega arith
 first_inside p (suc n) = go (first p n) (p n) (first_inside p n)
   where
-    go : (f : Found) (b : Bool) → index f ≤ n → index (or_at f b n) ≤ suc n
-    go (At k) b h = omega arith
-    go Nothing true h = omega arith
-    go Nothing false h = omega arith
+    go : (f : Option ℕ) (b : Bool) → index f ≤ n → index (or_at f b n) ≤ suc n
+    go (Some k) b h = omega arith
+    go None true h = omega arith
+    go None false h = omega arith
 
 breaks_inside : (ps : List Pair) (s : TrellisState) (d : List Bool) → index (break_in (read_pairs s ps d)) ≤ length ps
 unfolding read_pairs index
@@ -61,10 +60,10 @@ module _ (m : ℕ) where
   place_if n true v h = omega arith
   place_if n false v h = h
 
-  place_at : (n : ℕ) (f : Found) (v : Verdict) → index f ≤ m → v.place ≤ m → (refuse_at n f v).place ≤ m
+  place_at : (n : ℕ) (f : Option ℕ) (v : Verdict) → index f ≤ m → v.place ≤ m → (refuse_at n f v).place ≤ m
   unfolding refuse_at index
-  place_at n (At k) v i h = i
-  place_at n Nothing v i h = h
+  place_at n (Some k) v i h = i
+  place_at n None v i h = h
 
   place_first : (n : ℕ) (p : ℕ → Bool) (l : ℕ) (v : Verdict) → l ≤ m → v.place ≤ m → (refuse_at n (first p l) v).place ≤ m
   place_first n p l v k h = place_at n (first p l) v (omega (arith, first_inside p l)) h
@@ -131,10 +130,10 @@ unfolding refuse_if
 size_if n true v l h e = absurd (omega arith)
 size_if n false v l h e = h e
 
-size_at_lem : (n : ℕ) (f : Found) (v : Verdict) (l : ℕ) → (v.number ≡ 0 → v.size ≡ l) → (refuse_at (suc n) f v).number ≡ 0 → (refuse_at (suc n) f v).size ≡ l
+size_at_lem : (n : ℕ) (f : Option ℕ) (v : Verdict) (l : ℕ) → (v.number ≡ 0 → v.size ≡ l) → (refuse_at (suc n) f v).number ≡ 0 → (refuse_at (suc n) f v).size ≡ l
 unfolding refuse_at
-size_at_lem n (At k) v l h e = absurd (omega arith)
-size_at_lem n Nothing v l h e = h e
+size_at_lem n (Some k) v l h e = absurd (omega arith)
+size_at_lem n None v l h e = h e
 
 size_then : (v w : Verdict) (l : ℕ) → (w.number ≡ 0 → w.size ≡ l) → (and_then v w).number ≡ 0 → (and_then v w).size ≡ l
 unfolding and_then

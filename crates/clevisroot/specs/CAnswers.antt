@@ -1,6 +1,6 @@
 -- The answers as C has them: document 01's numbers, with 0 where there is nothing to tell.
+use Rattle.std.specs.Prelude.{Option, None, Some}
 use Rattle.std.specs.Prelude.{ℕ, zero, suc, ◌≤◌, Bool, List, ◌≡◌, ℤ, length}
-use Rattle.std.proofs.Math.Option.{Option, none, some}
 use Rattle.g9932.specs.Bits.{weight}
 use Rattle.g9932.specs.Sizes.{Tables, most_tones, most_bits, Point, points, origin}
 use Rattle.g9932.specs.Refusals.{Verdict}
@@ -88,16 +88,16 @@ clip_answered a = record { number = a.number; place = a.place; clip = clip_numbe
 -- ---- one-tone calls, and one draw: a refused one has point (0, 0), label 0, bit 0
 
 abbrev pub point_or : Option Point → Point → Point
-point_or (some p) q = p
-point_or none q = q
+point_or (Some p) q = p
+point_or None q = q
 
 abbrev pub number_or : Option ℕ → ℕ → ℕ
-number_or (some n) m = n
-number_or none m = m
+number_or (Some n) m = n
+number_or None m = m
 
 abbrev pub bit_or : Option Bool → ℕ → ℕ
-bit_or (some b) n = weight b
-bit_or none n = n
+bit_or (Some b) n = weight b
+bit_or None n = n
 
 abbrev pub point_answered : OneTone Point → PointAnswer
 point_answered a = record { number = a.number; x = (point_or a.value origin).px; y = (point_or a.value origin).py }

@@ -1,22 +1,20 @@
 // The library for C. include/clevisroot.h says in a person's words what each function does.
-// The answers come first, then the functions that fill them, then the calls, in the header's order.
+// The answers come first, then the functions that fill them, then the calls, in the header's order. C has no `Result`, so that each answer
+// is a number and what goes with it, and C lends every list by itself.
 #![tactic(auto)]
 
 ghost use Rattle.std.specs.Prelude.{◌≡◌, ◌≤◌};
 ghost use Rattle.g9932.specs.Sizes.{tables, most_tones, point};
 ghost use Rattle.g9932.specs.Refusals.{number_of, place_of, refused, table_verdict};
-ghost use Rattle.g9932.specs.Answers.{verdict_of, report_of, mapped_of, map_label, labelled_of, read_point, draw_answer};
+ghost use Rattle.g9932.specs.Answers.{verdict_of, report_of, mapped_of, map_label, labelled_of, read_point, draw_answer, drawn_of};
 ghost use Rattle.g9932.specs.Nearest.{nearest_of, total_in};
 ghost use Rattle.g9932.specs.Clip.{clip_check, clip_report_of};
 ghost use Rattle.g9932.specs.declared.Mode.TheVariants.{Coded};
 ghost use Rattle.clevisroot.specs.CAnswers.{mode_of, answer_of, reported, with_total, nearest_answer, clip_answered, point_answered, label_answered, draw_answered, tally_answered, Small, ReorderAnswered, EncodeAnswered, ReadAnswered, EncodeAtAnswered, ReadAtAnswered, NearestAnswered};
 ghost use Rattle.tally.specs.PairReport.{read_as, refused_with, tallied, told_of, new_tally};
 
-use g9932::{
-    Answer, Checked, ClipChecked, Drawn, Labelled, Mapped, Mode, Nearest, Refusal, clip_number,
-    number_of, place_of,
-};
-use tally::{Tallied, Tally};
+use g9932::{ClipTold, Done, FillerBit, Mode, Nearest, Point, Points, Refusal, Refused, Tables};
+use tally::{Tally, Uncounted};
 
 // What the calls with tables answer: 0 or the refusal, its place, L and the register.
 #[repr(C)]
@@ -99,42 +97,42 @@ fn refuse(refusal: Refusal, reg: u32) -> SymbolAnswer
     ensures { result ≡ answer_of (refused (number_of refusal) (place_of refusal)) reg }
 {
     SymbolAnswer {
-        number: number_of(refusal),
-        place: place_of(refusal) as u32,
+        number: refusal.number(),
+        place: refusal.place() as u32,
         size: 0,
         reg,
     }
 }
 
 // The answer of checking and of re-ordering; no register was given.
-fn checked(answer: Checked) -> SymbolAnswer
+fn checked(answer: Result<usize, Refusal>) -> SymbolAnswer
     requires { Small (verdict_of answer) }
     ensures { result ≡ answer_of (verdict_of answer) 0 }
 {
     match answer {
-        Checked::Accepted(size) => SymbolAnswer {
+        Ok(size) => SymbolAnswer {
             number: 0,
             place: 0,
             size: size as u32,
             reg: 0,
         },
-        Checked::Refused(refusal) => refuse(refusal, 0),
+        Err(refusal) => refuse(refusal, 0),
     }
 }
 
 // The answer of encoding and of reading.
-fn answered(answer: Answer) -> SymbolAnswer
+fn answered(answer: Result<Done, Refused>) -> SymbolAnswer
     requires { Small (report_of answer).verdict }
     ensures { result ≡ reported (report_of answer) }
 {
     match answer {
-        Answer::Done { size, register } => SymbolAnswer {
+        Ok(Done { size, register }) => SymbolAnswer {
             number: 0,
             place: 0,
             size: size as u32,
             reg: register,
         },
-        Answer::Refused { refusal, register } => refuse(refusal, register),
+        Err(Refused { refusal, register }) => refuse(refusal, register),
     }
 }
 
@@ -151,35 +149,37 @@ fn with_total(answer: SymbolAnswer, total: u64) -> NearestAnswer
 }
 
 // The answer of reading received points; a refusal has the total 0.
-fn nearest_answered(answer: Nearest) -> NearestAnswer
+fn nearest_answered(answer: Result<Nearest, Refused>) -> NearestAnswer
     requires { Small (nearest_of answer).verdict }
     ensures { result ≡ nearest_answer (nearest_of answer) (total_in answer) }
 {
     match answer {
-        Nearest::Done {
-            size,
-            register,
-            total,
-        } => with_total(answered(Answer::Done { size, register }), total),
-        Nearest::Refused { refusal, register } => with_total(refuse(refusal, register), 0),
+        Ok(
+            Nearest {
+                size,
+                register,
+                total,
+            },
+        ) => with_total(answered(Ok(Done { size, register })), total),
+        Err(Refused { refusal, register }) => with_total(refuse(refusal, register), 0),
     }
 }
 
 // The answer of the clip check; a refusal has clip 0.
-fn clip_answered(answer: ClipChecked) -> ClipAnswer
+fn clip_answered(answer: Result<ClipTold, Refused>) -> ClipAnswer
     requires { (clip_report_of answer).place ≤ most_tones }
     ensures { result ≡ clip_answered (clip_report_of answer) }
 {
     match answer {
-        ClipChecked::Told { clip, register } => ClipAnswer {
+        Ok(ClipTold { clip, register }) => ClipAnswer {
             number: 0,
             place: 0,
-            clip: clip_number(clip),
+            clip: clip.number(),
             reg: register,
         },
-        ClipChecked::Refused { refusal, register } => ClipAnswer {
-            number: number_of(refusal),
-            place: place_of(refusal) as u32,
+        Err(Refused { refusal, register }) => ClipAnswer {
+            number: refusal.number(),
+            place: refusal.place() as u32,
             clip: 0,
             reg: register,
         },
@@ -187,13 +187,13 @@ fn clip_answered(answer: ClipChecked) -> ClipAnswer
 }
 
 // The answer of mapping one label; a refusal has the point (0, 0).
-fn point_answered(answer: Mapped) -> PointAnswer
+fn point_answered(answer: Result<Point, Refusal>) -> PointAnswer
     ensures { result ≡ point_answered (mapped_of answer) }
 {
     match answer {
-        Mapped::Point { x, y } => PointAnswer { number: 0, x, y },
-        Mapped::Refused(refusal) => PointAnswer {
-            number: number_of(refusal),
+        Ok(Point { x, y }) => PointAnswer { number: 0, x, y },
+        Err(refusal) => PointAnswer {
+            number: refusal.number(),
             x: 0,
             y: 0,
         },
@@ -201,26 +201,44 @@ fn point_answered(answer: Mapped) -> PointAnswer
 }
 
 // The answer of reading one point; a refusal has label 0.
-fn label_answered(answer: Labelled) -> LabelAnswer
+fn label_answered(answer: Result<u32, Refusal>) -> LabelAnswer
     ensures { result ≡ label_answered (labelled_of answer) }
 {
     match answer {
-        Labelled::Label(label) => LabelAnswer { number: 0, label },
-        Labelled::Refused(refusal) => LabelAnswer {
-            number: number_of(refusal),
+        Ok(label) => LabelAnswer { number: 0, label },
+        Err(refusal) => LabelAnswer {
+            number: refusal.number(),
             label: 0,
         },
     }
 }
 
+// The answer of drawing a filler bit; a refusal has bit 0.
+fn draw_answered(answer: Result<FillerBit, Refused>) -> DrawAnswer
+    ensures { result ≡ draw_answered (drawn_of answer) }
+{
+    match answer {
+        Ok(FillerBit { bit, register }) => DrawAnswer {
+            number: 0,
+            bit: u32::from(bit),
+            reg: register,
+        },
+        Err(Refused { refusal, register }) => DrawAnswer {
+            number: refusal.number(),
+            bit: 0,
+            reg: register,
+        },
+    }
+}
+
 // The answer of counting a symbol.
-fn tally_answered(answer: Tallied) -> TallyAnswer
+fn tally_answered(answer: Result<Tally, Uncounted>) -> TallyAnswer
     ensures { result ≡ tally_answered (told_of answer) }
 {
     match answer {
-        Tallied::Counted(tally) => TallyAnswer { number: 0, tally },
-        Tallied::Refused { tally, refusal } => TallyAnswer {
-            number: number_of(refusal),
+        Ok(tally) => TallyAnswer { number: 0, tally },
+        Err(Uncounted { tally, refusal }) => TallyAnswer {
+            number: refusal.number(),
             tally,
         },
     }
@@ -235,7 +253,8 @@ pub extern "C" fn clevisroot_check(
 ) -> SymbolAnswer
     ensures { result ≡ answer_of (table_verdict (tables (mode_of coded) bits.now gains.now tones.now)) 0 }
 {
-    checked(ordering::check_tables(mode_of(coded), bits, gains, tones))
+    let t = Tables { bits, gains, tones };
+    checked(ordering::check_tables(mode_of(coded), t))
 }
 
 #[unsafe(no_mangle)]
@@ -249,14 +268,8 @@ pub extern "C" fn clevisroot_reorder(
 ) -> SymbolAnswer
     ensures { ReorderAnswered (tables (mode_of coded) bits.now gains.now tones.now) reordered_tones.old reordered_bits.old result reordered_tones.new reordered_bits.new }
 {
-    checked(ordering::reorder(
-        mode_of(coded),
-        bits,
-        gains,
-        tones,
-        reordered_tones,
-        reordered_bits,
-    ))
+    let t = Tables { bits, gains, tones };
+    checked(ordering::reorder(mode_of(coded), t, reordered_tones, reordered_bits))
 }
 
 #[unsafe(no_mangle)]
@@ -272,7 +285,8 @@ pub extern "C" fn clevisroot_encode(
 ) -> SymbolAnswer
     ensures { EncodeAnswered (tables (mode_of coded) bits.now gains.now tones.now) frame.now reg x.old y.old result x.new y.new }
 {
-    answered(symbol::encode(mode_of(coded), bits, gains, tones, frame, 0, reg, x, y))
+    let t = Tables { bits, gains, tones };
+    answered(symbol::encode(mode_of(coded), t, frame, 0, reg, x, y))
 }
 
 #[unsafe(no_mangle)]
@@ -288,7 +302,9 @@ pub extern "C" fn clevisroot_read(
 ) -> SymbolAnswer
     ensures { ReadAnswered (tables (mode_of coded) bits.now gains.now tones.now) x.now y.now reg frame.old result frame.new }
 {
-    answered(symbol::read(mode_of(coded), bits, gains, tones, x, y, reg, frame, 0))
+    let t = Tables { bits, gains, tones };
+    let points = Points { xs: x, ys: y };
+    answered(symbol::read(mode_of(coded), t, points, reg, frame, 0))
 }
 
 #[unsafe(no_mangle)]
@@ -305,7 +321,8 @@ pub extern "C" fn clevisroot_encode_at(
 ) -> SymbolAnswer
     ensures { EncodeAtAnswered (tables (mode_of coded) bits.now gains.now tones.now) start frame.now reg x.old y.old result x.new y.new }
 {
-    answered(symbol::encode(mode_of(coded), bits, gains, tones, frame, start, reg, x, y))
+    let t = Tables { bits, gains, tones };
+    answered(symbol::encode(mode_of(coded), t, frame, start, reg, x, y))
 }
 
 #[unsafe(no_mangle)]
@@ -322,7 +339,9 @@ pub extern "C" fn clevisroot_read_at(
 ) -> SymbolAnswer
     ensures { ReadAtAnswered (tables (mode_of coded) bits.now gains.now tones.now) x.now y.now reg start frame.old result frame.new }
 {
-    answered(symbol::read(mode_of(coded), bits, gains, tones, x, y, reg, frame, start))
+    let t = Tables { bits, gains, tones };
+    let points = Points { xs: x, ys: y };
+    answered(symbol::read(mode_of(coded), t, points, reg, frame, start))
 }
 
 #[unsafe(no_mangle)]
@@ -340,8 +359,9 @@ pub extern "C" fn clevisroot_read_nearest(
 ) -> NearestAnswer
     ensures { NearestAnswered (tables (mode_of coded) bits.now gains.now tones.now) x.now y.now reg start frame.old work.old result frame.new work.new }
 {
-    let mode = mode_of(coded);
-    nearest_answered(nearest::read(mode, bits, gains, tones, x, y, reg, frame, start, work))
+    let t = Tables { bits, gains, tones };
+    let points = Points { xs: x, ys: y };
+    nearest_answered(nearest::read(mode_of(coded), t, points, reg, frame, start, work))
 }
 
 #[unsafe(no_mangle)]
@@ -355,7 +375,9 @@ pub extern "C" fn clevisroot_clip_check(
 ) -> ClipAnswer
     ensures { result ≡ clip_answered (clip_check (tables Coded bits.now gains.now tones.now) x.now y.now reg) }
 {
-    clip_answered(clip::check(bits, gains, tones, x, y, reg))
+    let t = Tables { bits, gains, tones };
+    let points = Points { xs: x, ys: y };
+    clip_answered(clip::check(t, points, reg))
 }
 
 #[unsafe(no_mangle)]
@@ -369,7 +391,7 @@ pub extern "C" fn clevisroot_map_label(bits: u8, label: u32) -> PointAnswer
 pub extern "C" fn clevisroot_read_point(bits: u8, x: i16, y: i16) -> LabelAnswer
     ensures { result ≡ label_answered (read_point bits (point x y)) }
 {
-    label_answered(constellation::read_point(bits, x, y))
+    label_answered(constellation::read_point(bits, Point { x, y }))
 }
 
 #[unsafe(no_mangle)]
@@ -383,26 +405,14 @@ pub extern "C" fn clevisroot_plain_map_label(bits: u8, label: u32) -> PointAnswe
 pub extern "C" fn clevisroot_plain_read_point(bits: u8, x: i16, y: i16) -> LabelAnswer
     ensures { result ≡ label_answered (read_point bits (point x y)) }
 {
-    label_answered(plain_mapper::read_point(bits, x, y))
+    label_answered(plain_mapper::read_point(bits, Point { x, y }))
 }
 
 #[unsafe(no_mangle)]
 pub extern "C" fn clevisroot_draw(reg: u32) -> DrawAnswer
     ensures { result ≡ draw_answered (draw_answer reg) }
 {
-    let drawn = prbs::draw(reg);
-    match drawn {
-        Drawn::Bit { bit, register } => DrawAnswer {
-            number: 0,
-            bit: bit as u32,
-            reg: register,
-        },
-        Drawn::Refused { refusal, register } => DrawAnswer {
-            number: number_of(refusal),
-            bit: 0,
-            reg: register,
-        },
-    }
+    draw_answered(prbs::draw(reg))
 }
 
 #[unsafe(no_mangle)]

@@ -1,4 +1,5 @@
 -- The look along t finds the first monitored tone of t', with its place there and the silent tones before it.
+use Rattle.std.specs.Prelude.{Option, Some, None}
 use Prim.Native.Nat.{ℕ, zero, suc, ◌+◌, ◌*◌, ◌<◌}
 use mathlib.Core.Bool.{Bool, true, false, not, ◌&&◌}
 use mathlib.Core.List.{List, [], ◌∷◌, ◌++◌}
@@ -16,7 +17,6 @@ use Rattle.g9932.specs.Sizes.{Tables, tables, entry, tone_of, class_by}
 use Rattle.g9932.specs.Symbol.{class_at, classes_by, classes_of, is_monitored, first_monitored}
 use Rattle.g9932.specs.declared.Class.{Class}
 use Rattle.g9932.specs.declared.Class.TheVariants.{Data, Monitored, Silent}
-use Rattle.g9932.specs.declared.Found.TheVariants as F
 use Rattle.g9932.specs.declared.Mode.TheVariants.{Coded}
 use Rattle.g9932.proofs.Counts.{count_append}
 use Rattle.g9932.proofs.Filler.{after_add}
@@ -29,16 +29,14 @@ use Rattle.tables.specs.Modes.{sharing}
 use Rattle.tables.proofs.Scans.{any_nothing}
 use Rattle.clip.specs.Tones.{is_monitored_in, along, past_tone, look}
 use Rattle.clip.specs.declared.Along.{Along}
-use Rattle.clip.specs.declared.Looked.{Looked}
-use Rattle.clip.specs.declared.Looked.TheVariants.{At, Nowhere}
 
 -- of classes in t' order: the first monitored one, and how many before it draw; these are silent
 abbrev is_monitored_at : List Class → ℕ → Bool
 is_monitored_at cs k = is_monitored (get_or cs k Silent)
 
-abbrev Finds : List Class → Looked → Type 0
-Finds cs (At a) = (first (is_monitored_at cs) (length cs) ≡ F.At a.place.0) × (a.silent ≡ count is_drawing (take a.place.0 cs)) × (a.place.0 < length cs)
-Finds cs Nowhere = first (is_monitored_at cs) (length cs) ≡ F.Nothing
+abbrev Finds : List Class → Option Along → Type 0
+Finds cs (Some a) = (first (is_monitored_at cs) (length cs) ≡ Some a.place.0) × (a.silent ≡ count is_drawing (take a.place.0 cs)) × (a.place.0 < length cs)
+Finds cs None = first (is_monitored_at cs) (length cs) ≡ None
 
 -- ---- no tone is monitored
 
@@ -75,7 +73,7 @@ module _ (behind : List Class) (none : NoneIn behind) where
   FindsOn cs own = Finds (own ++ (filter (is_placed 2) cs ++ behind)) (look cs (along (length own) (count is_drawing own)))
 
   -- at a monitored tone
-  here : (own rest : List Class) → NoneIn own → Finds (own ++ Monitored ∷ rest) (At (along (length own) (count is_drawing own)))
+  here : (own rest : List Class) → NoneIn own → Finds (own ++ Monitored ∷ rest) (Some (along (length own) (count is_drawing own)))
   here own rest h =
       let l = length-append own (Monitored ∷ rest) in (
         sym
@@ -127,16 +125,16 @@ register_count r (c ∷ cs) =
     let n : draws c + 2 * count is_drawing cs ≡ 2 * (weight (is_drawing c) + count is_drawing cs) = omega (arith, draws_two c) in
     register_count (after_draws (draws c) r) cs ∙ sym (after_add (draws c) (2 * count is_drawing cs) r) ∙ ap (λ (k : ℕ). after_draws k r) n
 
-abbrev pub FoundIn : Tables → Looked → Type 0
-FoundIn T (At a) =
-    (first_monitored T ≡ F.At a.place.0) × ((r : ℕ) → register_after r (take a.place.0 (classes_of T)) ≡ after_draws (2 * a.silent) r) × (a.place.0 < length T.tones)
-FoundIn T Nowhere = first_monitored T ≡ F.Nothing
+abbrev pub FoundIn : Tables → Option Along → Type 0
+FoundIn T (Some a) =
+    (first_monitored T ≡ Some a.place.0) × ((r : ℕ) → register_after r (take a.place.0 (classes_of T)) ≡ after_draws (2 * a.silent) r) × (a.place.0 < length T.tones)
+FoundIn T None = first_monitored T ≡ None
 
-found_in : (T : Tables) (found : Looked) → Finds (classes_of T) found → FoundIn T found
-found_in T (At a) f =
+found_in : (T : Tables) (found : Option Along) → Finds (classes_of T) found → FoundIn T found
+found_in T (Some a) f =
     let n = length_classes T in
     (rw n at f.0, λ r. register_count r (take a.place.0 (classes_of T)) ∙ ap (λ (k : ℕ). after_draws (2 * k) r) (sym f.1), omega (arith, f.2))
-found_in T Nowhere f = rw (length_classes T) at f
+found_in T None f = rw (length_classes T) at f
 
 pub finds_all : (b g t : List ℕ) → FoundIn (tables Coded b g t) (look (classes_by b g t) (along 0 0))
 finds_all b g t =
@@ -145,12 +143,12 @@ finds_all b g t =
 
 -- ---- where no sub-carrier is as a monitored tone is, nothing is found
 
-look_none : (b g t : List ℕ) (at : Along) → ((k : ℕ) → k < length t → is_monitored_in b g (entry t k) ≡ false) → look (classes_by b g t) at ≡ Nowhere
+look_none : (b g t : List ℕ) (at : Along) → ((k : ℕ) → k < length t → is_monitored_in b g (entry t k) ≡ false) → look (classes_by b g t) at ≡ None
 unfolding look
 look_none b g [] at h = refl
 look_none b g (k ∷ t) at h = rw (h 0 (omega arith)) (look_none b g t (past_tone (class_at b g k) at) (λ j l. h (suc j) (omega arith)))
 
-pub none_monitored : (b g t : List ℕ) → Below (length b) t → any_below (is_monitored_in b g) (length b) ≡ false → first_monitored (tables Coded b g t) ≡ F.Nothing
+pub none_monitored : (b g t : List ℕ) → Below (length b) t → any_below (is_monitored_in b g) (length b) ≡ false → first_monitored (tables Coded b g t) ≡ None
 none_monitored b g t below none =
     let no = first_no (is_monitored_in b g) (length b) (any_nothing (is_monitored_in b g) (length b) none) in
     rw (look_none b g t (along 0 0) (λ k l. no (entry t k) (below k l))) at (finds_all b g t)
@@ -184,7 +182,7 @@ drop_classes b g (k ∷ t) (suc i) h = drop_classes b g t i (omega arith)
 
 module _ (b g t : List ℕ) (i : ℕ) (h : i < length t) (at : Along) where
   -- the look ends at a monitored tone, and goes on past any other
-  pub look_here : is_monitored_in b g (entry t i) ≡ true → At at ≡ look (drop i (classes_by b g t)) at
+  pub look_here : is_monitored_in b g (entry t i) ≡ true → Some at ≡ look (drop i (classes_by b g t)) at
   unfolding look
   look_here e = rw (drop_classes b g t i h, e)
 

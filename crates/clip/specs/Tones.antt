@@ -1,5 +1,5 @@
 -- The look along t for the first monitored tone, with its place in t' and the silent tones before it there.
-use Rattle.std.specs.Prelude.{ℕ, ◌+◌, ◌≤◌, Bool, true, false, List, [], ◌∷◌, ◌≡◌, ℤ, length}
+use Rattle.std.specs.Prelude.{ℕ, ◌+◌, ◌≤◌, Bool, true, false, List, [], ◌∷◌, ◌≡◌, ℤ, length, Option, None, Some}
 use Rattle.g9932.specs.Bits.{weight}
 use Rattle.g9932.specs.Refusals.{table_verdict}
 use Rattle.g9932.specs.Sizes.{tables, most_tones}
@@ -9,8 +9,6 @@ use Rattle.g9932.specs.declared.Mode.TheVariants.{Coded}
 use Rattle.plan.specs.Plan.{is_placed, is_drawing}
 use Rattle.tables.specs.Checks.{Below}
 use Rattle.clip.specs.declared.Along.{Along}
-use Rattle.clip.specs.declared.Looked.{Looked}
-use Rattle.clip.specs.declared.Looked.TheVariants.{At, Nowhere}
 
 -- of a sub-carrier, whether a tone there is monitored
 abbrev pub is_monitored_in : List ℕ → List ℕ → ℕ → Bool
@@ -25,12 +23,12 @@ abbrev pub past_tone : Class → Along → Along
 past_tone c at = along (at.place.0 + weight (is_placed 2 c)) (at.silent + weight (is_drawing c))
 
 -- the look along the classes of t
-abbrev pub look_by : Bool → Along → Looked → Looked
-look_by true at rest = At at
+abbrev pub look_by : Bool → Along → Option Along → Option Along
+look_by true at rest = Some at
 look_by false at rest = rest
 
-unfoldable pub look : List Class → Along → Looked
-look [] at = Nowhere
+unfoldable pub look : List Class → Along → Option Along
+look [] at = None
 look (c ∷ cs) at = look_by (is_monitored c) at (look cs (past_tone c at))
 
 -- t has at most 4,096 indices, all below G, which both tables have

@@ -1,8 +1,11 @@
 -- The label of a point by a layout: the lifted word, and the label lowered again.
+use Rattle.std.specs.Prelude.{None, Some}
+use Rattle.std.specs.Bool.{then_some}
+use Rattle.std.specs.Option.{is_some, option_map}
 use Prim.Native.Nat.{ℕ, ◌+◌, ◌-◌, ◌*◌, ◌/◌, ◌%◌, ◌^◌, ◌≤◌, ◌<◌}
-use mathlib.Core.Bool.{Bool, true, false, ◌&&◌, ◌||◌, not, cond, true≢false}
-use mathlib.Core.Path.{◌≡◌, refl, sym, ap, ap₂, ◌∙◌}
-use native.Mathlib.Nat.{mul_assoc, mul_comm, add-mul, mul-div_cancel_left, mul-le-mul, mul-lt-mul_of_pos_right, mod-lt}
+use mathlib.Core.Bool.{Bool, true, false, cond, true≢false, ◌&&◌}
+use mathlib.Core.Path.{◌≡◌, refl, sym, ap, ◌∙◌}
+use native.Mathlib.Nat.{mul_assoc, mul_comm, add-mul, mul-div_cancel_left, mul-le-mul, mul-lt-mul_of_pos_right}
 use native.Mathlib.Omega.{arith}
 use lib.Bits.{bit_and}
 use lib.Dec.{eqb, ltb}
@@ -11,13 +14,14 @@ use lib.Pow.{pow_pos, pow_mono, pow-add, shr-shr, shl-shr, mod-pow-add, low}
 use Rattle.g9932.specs.Bits.{bits, num}
 use Rattle.g9932.specs.Points.{label_of, same_point}
 use Rattle.g9932.specs.Sizes.{Point, point, origin}
-use Rattle.constellation.specs.Widened.{plain_pairs, sign_weight, interleaved}
-use Rattle.constellation.specs.Reading.{FoundLabelIs, RaisedCoordinate, NarrowedWord, top_six, in_grid}
-use Rattle.constellation.specs.Layouts.{lower, upper, layout_of, ToneLayout, carries, nothing}
-use Rattle.constellation.specs.DemapByLayout.{Power, IsLayout, OnAxis, LiftedWord, TopsBy, LoweredLabel, Demaps}
+use Rattle.constellation.specs.Widened.{coordinate_of, plain_pairs, sign_weight, interleaved}
+use Rattle.constellation.specs.Reading.{NarrowedWord, own_label, top_six, in_grid}
+use Rattle.constellation.specs.Layouts.{lower, upper, layout_of, silent_layout, ToneLayout, carries, nothing}
+use Rattle.constellation.specs.DemapByLayout.{Power, IsLayout, BitsOf, LiftedWord, TopsBy, LoweredLabel, Demaps}
+use Rattle.g9932.proofs.Constellations.{same_point_self, same_point→eq}
 use Rattle.constellation.proofs.Grid.{six_few}
 use Rattle.constellation.proofs.Layouts.{holds, square}
-use Rattle.constellation.proofs.Reading.{test, found_label_law}
+use Rattle.constellation.proofs.Reading.{off_point, off_grid, on_grid}
 use Rattle.constellation.proofs.Tops.{narrowed_top}
 
 -- ---- up and down
@@ -64,70 +68,106 @@ product_le m t w p h = mul-le-mul {n₂ = 65535} {m₂ = 32768} (omega arith) (o
 
 -- ---- what a layout holds
 
-one_test : (c : Bool) → eqb (cond c 1 0) 1 ≡ c
-one_test true = refl
-one_test false = refl
-
 pub is_layout : (s : ℕ) → ToneLayout s → IsLayout s
 is_layout s (carries b l m e) = rw e (plain_pairs b, omega arith, (holds b l m).upper_is, (holds b l m).lower_is)
 is_layout s (nothing e) = rw e (0, omega arith, refl, refl)
 
 -- a point is on a tone's constellation or off it
-pub on_or_off : (s : ℕ) (p : Point) (k l : ℕ) → ToneLayout s → Demaps s p (record { on = true; label = k }) → Demaps s p (record { on = false; label = l }) → ⊥
-on_or_off s p k l (carries b h m e) on off = true≢false ((on.sought b h m e).found ∙ sym (off.sought b h m e).found)
-on_or_off s p k l (nothing e) on off = true≢false (on.silent e ∙ sym (off.silent e))
+pub on_or_off : (s : ℕ) (p : Point) (k : ℕ) → ToneLayout s → Demaps s p (Some k) → Demaps s p None → ⊥
+on_or_off s p k (carries b h m e) on off = true≢false (ap is_some (on.sought b h m e ∙ sym (off.sought b h m e)))
+on_or_off s p k (nothing e) on off = true≢false (on.silent e ∙ sym (off.silent e))
+
+-- the weight of the pairs
+pub upper_fits : (layout : ℕ) → IsLayout layout → (1 ≤ upper layout) × (upper layout ≤ 64)
+upper_fits layout s = (omega (arith, s.2, pow_pos s.0), omega (arith, s.2, pow_mono {i = s.0} {j = 6} s.1))
 
 -- the bits of a coordinate, lifted, are eight
-pub in_width : (layout : ℕ) (z : ℤ) (e : ℕ) (on : Bool) → IsLayout layout → OnAxis (4 * upper layout) z e on → e * lower layout < 256
-in_width layout z e on s ax =
+pub in_width : (layout : ℕ) (e : ℕ) → IsLayout layout → e < 4 * upper layout → e * lower layout < 256
+in_width layout e s l =
     let k = s.0 in
     let n : k + (6 - k) ≡ 6 = omega (arith, s.1) in
     let p : 2 ^ k * 2 ^ (6 - k) ≡ 64 = sym (pow-add 2 k (6 - k)) ∙ ap (λ (i : ℕ). 2 ^ i) n in
-    let h : 0 < 4 * upper layout = omega (arith, s.2, pow_pos k) in
-    let a : e < 4 * 2 ^ k = rw (ax.bits_is, ← s.2) (mod-lt (ax.raised / 2) h) in
+    let a : e < 4 * 2 ^ k = rw (← s.2) l in
     let b = mul-lt-mul_of_pos_right a (pow_pos (6 - k)) in
     rw s.3 (omega (arith, mul_assoc 4 (2 ^ k) (2 ^ (6 - k))))
 
 -- ---- the label
 
-module _ (layout : ℕ) (x y : ℤ) (ex ey w t l : ℕ) (ox oy on origin_is : Bool) (ax : OnAxis (4 * upper layout) x ex ox)
-    (ay : OnAxis (4 * upper layout) y ey oy) (word : LiftedWord (lower layout) ex ey w) (tops : TopsBy layout (w / 1024) on t)
-    (down : LoweredLabel (upper layout) t w l) (o : origin_is ≡ same_point (point x y) origin) where
-  abbrev silence : Bool
-  silence = eqb (bit_and (layout / 32768) (layout / 128 % 2)) 1
+-- a silent tone's layout has two marks, and no bit count's has both
+abbrev marks : ℕ → ℕ
+marks s = bit_and (s / 32768) (s / 128 % 2)
 
-  abbrev on_it : Bool
-  on_it = (silence && origin_is) || (not silence && (on && (ox && oy)))
+pub marked : (s : ℕ) → s ≡ silent_layout → marks s ≡ 1
+marked s e = ap (λ (i : ℕ). marks i) e
 
-  by_bits : (r b : ℕ) → 1 ≤ b → b ≤ 15 → layout ≡ layout_of b → r ≡ cond (eqb (layout / 32768) 1) (l % 2) l
-      → FoundLabelIs (record { found = on_it; label = r }) (label_of b (point x y))
-  unfolding test
-  by_bits r b low high e own =
-      let k = plain_pairs b in
-      let f = holds b low high in
-      let few : k ≤ 6 = omega arith in
-      let m : upper layout ≡ 2 ^ k = rw e f.upper_is in
-      let h : 4 * upper layout ≡ sign_weight k = ap (λ (i : ℕ). 4 * i) m in
-      let fx : ex ≡ ax.raised / 2 % sign_weight k = ax.bits_is ∙ ap (λ (i : ℕ). ax.raised / 2 % i) h in
-      let fy : ey ≡ ay.raised / 2 % sign_weight k = ay.bits_is ∙ ap (λ (i : ℕ). ay.raised / 2 % i) h in
-      let v = num (interleaved (bits 8 ex) (bits 8 ey)) in
-      let up : w ≡ v * 2 ^ (2 * (6 - k)) = word (6 - k) (rw e f.lower_is) in
-      let six : w / 1024 ≡ top_six k v = six_up k v w few up in
-      let g : on ≡ in_grid b (top_six k v) = tops.on_is b low high e (λ z. rw (six, six_few b v z) (omega arith)) ∙ ap (in_grid b) six in
-      let back : NarrowedWord k v l =
-      rw (down k v few m up) (narrowed_top k v t (λ q i j. tops.three_is q i (j ∙ ap (λ (s : ℕ). s / 4) (sym six)))) in
-      let sx : RaisedCoordinate (sign_weight k) x ax.raised = rw h at ax.raised_is in
-      let sy : RaisedCoordinate (sign_weight k) y ay.raised = rw h at ay.raised_is in
-      let tx : ox ≡ eqb (2 * (ax.raised / 2 % sign_weight k) + 65536) ax.raised = ax.on_is ∙ ap (λ (i : ℕ). eqb (2 * i + 65536) ax.raised) fx in
-      let ty : oy ≡ eqb (2 * (ay.raised / 2 % sign_weight k) + 65536) ay.raised = ay.on_is ∙ ap (λ (i : ℕ). eqb (2 * i + 65536) ay.raised) fy in
-      let quiet : silence ≡ false = rw e (ap (λ (n : ℕ). eqb n 1) f.not_silent) in
-      found_label_law b x y ax.raised ay.raised v l low high sx sy (ap₂ (λ (i j : ℕ). num (interleaved (bits 8 i) (bits 8 j))) fx fy) back on_it r
-      (rw quiet (ap₂ ◌&&◌ g (ap₂ ◌&&◌ tx ty)))
-      (own ∙ ap (λ (i : Bool). cond i (l % 2) l) (ap (λ (s : ℕ). eqb (s / 32768) 1) e ∙ ap (λ (n : ℕ). eqb n 1) f.one ∙ one_test (ltb b 2)))
+pub silent_law : (layout l : ℕ) (p : Point) (o : Bool) → marks layout ≡ 1 → o ≡ same_point p origin → Demaps layout p (then_some o l)
+silent_law layout l p o s e = record { sought = λ b low high f. absurd (quiet b low high f); silent = λ f. some o ∙ e }
+  where
+    quiet : (b : ℕ) → 1 ≤ b → b ≤ 15 → layout ≡ layout_of b → ⊥
+    quiet b h k f =
+        let both : 1 ≡ 0 = sym s ∙ ap (λ (i : ℕ). marks i) f ∙ (holds b h k).not_silent in
+        omega (arith, both)
 
-  pub demaps_law : (r : ℕ) → r ≡ cond (eqb (layout / 32768) 1) (l % 2) l → Demaps layout (point x y) (record { on = on_it; label = r })
-  demaps_law r own = record { sought = λ b low high e. by_bits r b low high e own; silent = λ e. rw e (or_none origin_is ∙ o) }
+    some : (o : Bool) → is_some (then_some o l) ≡ o
+    some true = refl
+    some false = refl
+
+module _ (layout : ℕ) (x y : ℤ) (ex ey w t l r : ℕ) (same on : Bool) (bx : BitsOf (4 * upper layout) x ex) (by : BitsOf (4 * upper layout) y ey)
+    (word : LiftedWord (lower layout) ex ey w) (tops : TopsBy layout (w / 1024) on t) (down : LoweredLabel (upper layout) t w l)
+    (same_is : same ≡ same_point (point (coordinate_of (4 * upper layout) ex) (coordinate_of (4 * upper layout) ey)) (point x y))
+    (own : r ≡ cond (eqb (layout / 32768) 1) (l % 2) l) where
+  abbrev own_point : Point
+  own_point = point (coordinate_of (4 * upper layout) ex) (coordinate_of (4 * upper layout) ey)
+
+  by_bits : (b : ℕ) → 1 ≤ b → b ≤ 15 → layout ≡ layout_of b → then_some (same && on) r ≡ option_map num (label_of b (point x y))
+  by_bits b low high e = go same on refl refl
     where
-      or_none : (a : Bool) → a || false ≡ a
-      or_none true = refl
-      or_none false = refl
+      k : ℕ
+      k = plain_pairs b
+
+      few : k ≤ 6
+      few = omega arith
+
+      m : upper layout ≡ 2 ^ k
+      m = rw e (holds b low high).upper_is
+
+      h : 4 * upper layout ≡ sign_weight k
+      h = ap (λ (i : ℕ). 4 * i) m
+
+      v : ℕ
+      v = num (interleaved (bits 8 ex) (bits 8 ey))
+
+      up : w ≡ v * 2 ^ (2 * (6 - k))
+      up = word (6 - k) (rw e (holds b low high).lower_is)
+
+      six : w / 1024 ≡ top_six k v
+      six = six_up k v w few up
+
+      in_it : on ≡ in_grid b (top_six k v)
+      in_it = tops.on_is b low high e (λ z. rw (six, six_few b v z) (omega arith)) ∙ ap (in_grid b) six
+
+      mine : r ≡ own_label b l
+      mine = own ∙ ap (λ (i : Bool). cond i (l % 2) l) (ap (λ (s : ℕ). eqb (s / 32768) 1) e ∙ ap (λ (n : ℕ). eqb n 1) (holds b low high).one ∙ one_test (ltb b 2))
+        where
+          one_test : (c : Bool) → eqb (cond c 1 0) 1 ≡ c
+          one_test true = refl
+          one_test false = refl
+
+      back : NarrowedWord k v l
+      back = rw (down k v few m up) (narrowed_top k v t (λ q i j. tops.three_is q i (j ∙ ap (λ (s : ℕ). s / 4) (sym six))))
+
+      go : (c d : Bool) → same ≡ c → on ≡ d → then_some (c && d) r ≡ option_map num (label_of b (point x y))
+      go false d f g =
+          let off : own_point ≡ point x y → ⊥ = λ s. true≢false (sym (ap (λ (q : Point). same_point q (point x y)) s ∙ same_point_self (point x y)) ∙ sym same_is ∙ f) in
+          off_point b x y low high (rw h at bx) (rw h at by) (rw h at off)
+      go true d f g =
+          let at : own_point ≡ point x y = same_point→eq own_point (point x y) (sym same_is ∙ f) in
+          in_place d g (rw h at at)
+        where
+          in_place : (d : Bool) → on ≡ d → point (coordinate_of (sign_weight k) ex) (coordinate_of (sign_weight k) ey) ≡ point x y
+              → then_some d r ≡ option_map num (label_of b (point x y))
+          in_place true g at = ap Some mine ∙ on_grid b x y low high (rw h at bx) (rw h at by) at refl (sym g ∙ in_it) l back
+          in_place false g at = off_grid b x y low high (rw h at bx) (rw h at by) at refl (sym g ∙ in_it)
+
+  pub demaps_law : (layout ≡ silent_layout → ⊥) → Demaps layout (point x y) (then_some (same && on) r)
+  demaps_law loud = record { sought = by_bits; silent = λ e. absurd (loud e) }

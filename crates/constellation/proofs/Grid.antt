@@ -1,4 +1,5 @@
 -- Which words are those of labels: it shows in their top six bits.
+use Rattle.std.specs.Prelude.{Option, None, Some}
 use Prim.Native.Nat.{ℕ, zero, suc, ◌+◌, ◌-◌, ◌*◌, ◌/◌, ◌%◌, ◌^◌, ◌≤◌, ◌<◌}
 use mathlib.Core.Bool.{Bool, true, false, not, cond, false≢true}
 use mathlib.Core.Path.{◌≡◌, refl, sym, ap, ◌∙◌}
@@ -7,10 +8,8 @@ use native.Mathlib.Omega.{arith}
 use borrow.Author.Tests.{eqb-true, eq-eqb, eqb-false, ltb-true, ltb-false, le-ltb, not-false}
 use lib.Arith.{digits_lt}
 use lib.Dec.{eqb, ltb}
-use lib.Pow.{pow_pos, pow-add, shr-shr, shr_lt, split, high, low, mod-pow-add}
+use lib.Pow.{pow_pos, pow-add, shr-shr, split, high, low, mod-pow-add}
 use Rattle.g9932.specs.Bits.{or_at, first}
-use Rattle.g9932.specs.declared.Found.{Found}
-use Rattle.g9932.specs.declared.Found.TheVariants.{At, Nothing}
 use Rattle.g9932.specs.Trellis.{same}
 use Rattle.g9932.proofs.Identities.{same→eq}
 use Rattle.g9932.proofs.Search.{first_no}
@@ -25,18 +24,18 @@ unfolding first
 first_some p zero e = absurd (false≢true e)
 first_some p (suc n) e = go (first p n) (p n) refl refl e (first_some p n)
   where
-    go : (f : Found) (b : Bool) → first p n ≡ f → p n ≡ b → is_at (or_at f b n) ≡ true → (is_at (first p n) ≡ true → (k : ℕ) × (k < n) × (p k ≡ true))
+    go : (f : Option ℕ) (b : Bool) → first p n ≡ f → p n ≡ b → is_at (or_at f b n) ≡ true → (is_at (first p n) ≡ true → (k : ℕ) × (k < n) × (p k ≡ true))
         → (k : ℕ) × (k < suc n) × (p k ≡ true)
-    go (At j) b f g i r = let w = r (ap is_at f) in (w.0, omega (arith, w.1), w.2)
-    go Nothing true f g i r = (n, omega arith, g)
-    go Nothing false f g i r = absurd (false≢true i)
+    go (Some j) b f g i r = let w = r (ap is_at f) in (w.0, omega (arith, w.1), w.2)
+    go None true f g i r = (n, omega arith, g)
+    go None false f g i r = absurd (false≢true i)
 
 some_first : (p : ℕ → Bool) (n k : ℕ) → k < n → p k ≡ true → is_at (first p n) ≡ true
 some_first p n k h e = go (first p n) refl
   where
-    go : (f : Found) → first p n ≡ f → is_at f ≡ true
-    go (At j) f = refl
-    go Nothing f = absurd (false≢true (sym (first_no p n f k h) ∙ e))
+    go : (f : Option ℕ) → first p n ≡ f → is_at f ≡ true
+    go (Some j) f = refl
+    go None f = absurd (false≢true (sym (first_no p n f k h) ∙ e))
 
 -- ---- a word of at least six bits, by its top six and the bits below
 
@@ -124,40 +123,6 @@ word_grid b l h = go (ltb b 4) refl
         six_rest b (label_word b l) k ∙ ap (λ (w : ℕ). w / 2 ^ rest b) (word_form b l k) ∙ high (4 * top_four q + q % 4) (rest b) r in
         some_first _ _ q i (eq-eqb _ _ (sym e))
 
-pub six_lt : (k w : ℕ) → w < 2 ^ (4 + 2 * k) → top_six k w < 64
-six_lt k w h = shr_lt 6 (2 * k) (rw (pow-add 2 6 (2 * k)) (omega (arith, pow-add 2 4 (2 * k))))
-
--- ---- a table of the grid, a bit for each top six
-
-abbrev held : ℕ → ℕ → Bool
-held table s = eqb (table / 2 ^ s % 2) 1
-
-pub bit_rule : (f g : ℕ → Bool) (n : ℕ) → first (λ k. not (same (f k) (g k))) n ≡ Nothing → (k : ℕ) → k < n → f k ≡ g k
+-- two tests of numbers agree below n, by a test of all of them
+pub bit_rule : (f g : ℕ → Bool) (n : ℕ) → first (λ k. not (same (f k) (g k))) n ≡ None → (k : ℕ) → k < n → f k ≡ g k
 bit_rule f g n e k h = same→eq (f k) (g k) (not-false (same (f k) (g k)) (first_no (λ k. not (same (f k) (g k))) n e k h))
-
--- b from 4, by the number of top fives
-pub grid_table : (table n : ℕ) → first (λ s. not (same (held table s) (is_at (first (λ q. eqb (4 * top_four q + q % 4) s) n)))) 64 ≡ Nothing
-    → (b s : ℕ) → 4 ≤ b → cond (eqb (b % 2) 0) 16 32 ≡ n → s < 64 → held table s ≡ in_grid b s
-unfolding in_grid
-grid_table table n test b s h e k =
-    rw (le-ltb b 4 h, e) (bit_rule (held table) (λ s. is_at (first (λ q. eqb (4 * top_four q + q % 4) s) n)) 64 test s k)
-
--- b up to 3
-pub small_table : (table b : ℕ) → first (λ i. not (same (held table (4 * i)) (in_grid b (4 * i)))) 16 ≡ Nothing
-    → (s : ℕ) → s < 64 → s % 4 ≡ 0 → held table s ≡ in_grid b s
-small_table table b test s h e =
-    let n : 4 * (s / 4) ≡ s = omega arith in
-    rw n at (bit_rule (λ i. held table (4 * i)) (λ i. in_grid b (4 * i)) 16 test (s / 4) (omega arith))
-
--- an even b, from either side of 4
-pub even_table : (table : ℕ) → first (λ s. not (same (held table s) (is_at (first (λ q. eqb (4 * top_four q + q % 4) s) 16)))) 64 ≡ Nothing
-    → first (λ i. not (same (held table (4 * i)) (in_grid 2 (4 * i)))) 16 ≡ Nothing
-    → (b s : ℕ) → 1 ≤ b → b % 2 ≡ 0 → s < 64 → (b < 4 → s % 4 ≡ 0) → held table s ≡ in_grid b s
-even_table table large small b s h e k z = go (ltb b 4) refl
-  where
-    go : (c : Bool) → ltb b 4 ≡ c → held table s ≡ in_grid b s
-    go true c =
-        let l = ltb-true b 4 c in
-        let two : b ≡ 2 = omega arith in
-        rw two (small_table table 2 small s k (z l))
-    go false c = grid_table table 16 large b s (ltb-false b 4 c) (rw (eq-eqb (b % 2) 0 e)) k

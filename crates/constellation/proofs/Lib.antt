@@ -8,7 +8,6 @@ pub mod Grid
 pub mod Reading
 pub mod Layouts
 pub mod MapByLayout
-pub mod Origin
 pub mod Spread
 pub mod TopBits
 pub mod DemapByLayout

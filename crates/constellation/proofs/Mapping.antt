@@ -1,5 +1,6 @@
 -- The point of a label is the one whose coordinates have the bits of its word: once for every bit count, by two bits at a time.
 -- Table 10-3, b = 1 and b = 3 are tests of all labels of 1 to 5 bits.
+use Rattle.std.specs.Prelude.{None}
 use Prim.Native.Nat.{ℕ, zero, suc, ◌+◌, ◌-◌, ◌*◌, ◌/◌, ◌%◌, ◌^◌, ◌≤◌, ◌<◌}
 use mathlib.Core.Bool.{Bool, true, false, not, cond}
 use mathlib.Core.List.{List, [], ◌∷◌}
@@ -14,17 +15,16 @@ use lib.Pow.{shr-shr, mod-pow-add}
 use Rattle.g9932.specs.Bits.{weight, num, odd, bits, first}
 use Rattle.g9932.specs.Sizes.{point}
 use Rattle.g9932.specs.Points.{point_of, sign_bit, twos_complement, evens, odds}
-use Rattle.g9932.specs.declared.Found.TheVariants.{Nothing}
 use Rattle.g9932.proofs.Words.{num_lt, length_bits}
 use Rattle.g9932.proofs.Search.{first_no}
 use Rattle.g9932.proofs.Coordinates.{three, five, coords, axis_bits_pos, coords_length}
 use Rattle.g9932.proofs.Constellations.{point_coords}
 use Rattle.constellation.proofs.Lanes.{twice}
-use Rattle.constellation.proofs.Sizes.{own_bits_lem, word_lt, bits_lt, half_le}
+use Rattle.constellation.proofs.Sizes.{own_bits_lem, word_lt}
 use Rattle.constellation.specs.Widened.{plain_pairs, top_five, top_four, widened_label, label_word, x_bits, y_bits, coordinate_of, sign_weight}
 
 -- two functions of numbers agree below n, by a test of all of them
-pub rule : (f g : ℕ → ℕ) (n : ℕ) → first (λ k. not (eqb (f k) (g k))) n ≡ Nothing → (k : ℕ) → k < n → f k ≡ g k
+pub rule : (f g : ℕ → ℕ) (n : ℕ) → first (λ k. not (eqb (f k) (g k))) n ≡ None → (k : ℕ) → k < n → f k ≡ g k
 rule f g n e k h = eqb-true (f k) (g k) (not-false (eqb (f k) (g k)) (first_no (λ k. not (eqb (f k) (g k))) n e k h))
 
 -- ---- a coordinate by its bits: e is what the bits xs are with k bits below Xd and the sign bit complemented
@@ -109,7 +109,7 @@ module _ (b l : ℕ) where
   y_right : ℕ
   y_right = num (evens (bits (2 * plain_pairs b + 4) (label_word b l))) + sign (coords (bits b l)).ys
 
-few : (b : ℕ) → first (λ l. not (eqb (x_left b l) (x_right b l))) (2 ^ b) ≡ Nothing → first (λ l. not (eqb (y_left b l) (y_right b l))) (2 ^ b) ≡ Nothing
+few : (b : ℕ) → first (λ l. not (eqb (x_left b l) (x_right b l))) (2 ^ b) ≡ None → first (λ l. not (eqb (y_left b l) (y_right b l))) (2 ^ b) ≡ None
     → (l n : ℕ) → l < 2 ^ b → n ≡ 2 * plain_pairs b + 4 → Worded b l n
 unfolding x_left x_right y_left y_right
 few b tx ty l n h e = rw e (record { x = rule (x_left b) (x_right b) (2 ^ b) tx l h; y = rule (y_left b) (y_right b) (2 ^ b) ty l h })
@@ -185,16 +185,3 @@ point_word b l h k s =
     let p : point_of b (bits b l) ≡ point (twos_complement (true ∷ (coords (bits b l)).xs)) (twos_complement (true ∷ (coords (bits b l)).ys)) =
     rw (length_bits b l) at (point_coords (bits b l)) in
     p ∙ ap₂ point (x ∙ ap (coordinate_of (sign_weight (plain_pairs b))) (sym own.0)) (y ∙ ap (coordinate_of (sign_weight (plain_pairs b))) (sym own.1))
-
--- both parts of a label's word, from one number
-pub record Parts (b l both : ℕ) : Type 0 where
-  pub x : both / 65536 ≡ x_bits (label_word b l)
-  pub y : both % 65536 ≡ y_bits (label_word b l)
-  pub x_small : both / 65536 < 256
-  pub y_small : both % 65536 < 256
-
-pub parts_law : (b l both : ℕ) → 1 ≤ b → b ≤ 15 → l < 2 ^ b → both ≡ 65536 * x_bits (label_word b l) + y_bits (label_word b l) → Parts b l both
-parts_law b l both h k s e =
-    let u = bits_lt (plain_pairs b) (label_word b l) (omega arith) (word_lt b l h s) in
-    let m = half_le (plain_pairs b) (omega arith) in
-    record { x = omega arith; y = omega arith; x_small = omega arith; y_small = omega arith }

@@ -1,52 +1,27 @@
 -- Reading a point: the bits of its coordinates leave one label, and the point is its own if the word and the coordinates are in the grid.
-use Prim.Native.Nat.{ℕ, zero, suc, ◌+◌, ◌*◌, ◌/◌, ◌%◌, ◌^◌, ◌≤◌, ◌<◌}
-use mathlib.Core.Bool.{Bool, true, false, ◌&&◌, cond, true≢false, false≢true, and-eq-true_iff}
-use mathlib.Core.List.{List, [], ◌∷◌}
-use mathlib.Core.Option.{Option, none, some}
+use Rattle.std.specs.Prelude.{Option, None, Some}
+use Rattle.std.specs.Option.{option_map}
+use Prim.Native.Nat.{ℕ, ◌*◌, ◌%◌, ◌^◌, ◌≤◌, ◌<◌}
+use mathlib.Core.Bool.{Bool, true, false, cond, false≢true}
+use mathlib.Core.List.{List}
 use mathlib.Core.Path.{◌≡◌, refl, sym, ap, ap₂, ◌∙◌}
-use native.Mathlib.Nat.{pow-suc, mod-eq_of_lt, mod-lt}
+use native.Mathlib.Nat.{mod-eq_of_lt}
 use native.Mathlib.Omega.{arith}
-use borrow.Author.Tests.{eqb-true, eq-eqb, ltb-true}
-use lib.Dec.{eqb, ltb}
+use borrow.Author.Tests.{ltb-true}
+use lib.Dec.{ltb}
 use lib.IntN.{ℤ}
-use lib.Pow.{pow_pos}
 use Rattle.g9932.specs.Bits.{num, bits}
 use Rattle.g9932.specs.Sizes.{Point, point}
 use Rattle.g9932.specs.Points.{point_of, label_of, is_label, label_bits}
-use Rattle.g9932.specs.Answers.{label_found, tone_done, tone_refused}
-use Rattle.g9932.proofs.Words.{bits_num, num_bits, num_lt, length_bits, weight_le}
+use Rattle.g9932.proofs.Words.{bits_num, num_bits, num_lt, length_bits}
 use Rattle.g9932.proofs.Labels.{label_point, label_back}
 use Rattle.constellation.specs.Widened.{plain_pairs, mapping_label, label_word, x_bits, y_bits, interleaved, sign_weight, coordinate_of}
-use Rattle.constellation.specs.Reading.{FoundLabelIs, RaisedCoordinate, NarrowedWord, own_label, top_six, in_grid}
+use Rattle.constellation.specs.Reading.{NarrowedWord, own_label, top_six, in_grid}
+use Rattle.constellation.specs.DemapByLayout.{BitsOf}
 use Rattle.constellation.proofs.Grid.{grid_word, word_grid}
 use Rattle.constellation.proofs.Halves.{interleaved_apart, deinterleave_interleaved}
 use Rattle.constellation.proofs.Mapping.{point_word}
-use Rattle.constellation.proofs.Signed.{raised_bits}
 use Rattle.constellation.proofs.Sizes.{label_lt, word_lt, word_16, bits_lt, half_le}
-
--- ---- the word of two coordinates' bits
-
-interleaved_lt : (m : ℕ) (xs ys : List Bool) → num xs < 2 ^ m → num ys < 2 ^ m → num (interleaved xs ys) < 2 ^ (2 * m)
-unfolding num
-interleaved_lt m [] ys hx hy = pow_pos (2 * m)
-interleaved_lt m (x ∷ xs) [] hx hy = pow_pos (2 * m)
-interleaved_lt zero (x ∷ xs) (y ∷ ys) hx hy =
-    let r = interleaved_lt zero xs ys (omega arith) (omega arith) in
-    omega arith
-interleaved_lt (suc m) (x ∷ xs) (y ∷ ys) hx hy =
-    let e : 2 * suc m ≡ suc (suc (2 * m)) = omega arith in
-    let p = pow-suc 2 m in
-    let r = interleaved_lt m xs ys (omega arith) (omega arith) in
-    rw e (omega (arith, pow-suc 2 (suc (2 * m)), pow-suc 2 (2 * m), weight_le x, weight_le y))
-
-pub interleaved_word : (k x y : ℕ) → k ≤ 6 → x < sign_weight k → y < sign_weight k → num (interleaved (bits 8 x) (bits 8 y)) < 2 ^ (4 + 2 * k)
-interleaved_word k x y h hx hy =
-    let e : 2 * suc (suc k) ≡ 4 + 2 * k = omega arith in
-    let p : sign_weight k ≡ 2 ^ suc (suc k) = omega (arith, pow-suc 2 (suc k), pow-suc 2 k) in
-    let l = half_le k h in
-    let nx : num (bits 8 x) ≡ x = num_bits 8 x ∙ mod-eq_of_lt (omega arith) in
-    let ny : num (bits 8 y) ≡ y = num_bits 8 y ∙ mod-eq_of_lt (omega arith) in
-    rw e at (interleaved_lt (suc (suc k)) (bits 8 x) (bits 8 y) (omega arith) (omega arith))
 
 -- ---- the label back from its mapping label
 
@@ -60,76 +35,83 @@ own_label_lem b m h s = go (ltb b 2) refl
         omega arith
     go false e = refl
 
--- ---- the label that is found
+-- ---- the label of a point
 
-module _ (b : ℕ) (x y : ℤ) (u v w n : ℕ) (low : 1 ≤ b) (high : b ≤ 15)
-    (ux : RaisedCoordinate (sign_weight (plain_pairs b)) x u) (vy : RaisedCoordinate (sign_weight (plain_pairs b)) y v)
-    (word : w ≡ num (interleaved (bits 8 (u / 2 % sign_weight (plain_pairs b))) (bits 8 (v / 2 % sign_weight (plain_pairs b))))) (back : NarrowedWord (plain_pairs b) w n) where
+module _ (b : ℕ) (x y : ℤ) (low : 1 ≤ b) (high : b ≤ 15) where
   abbrev h : ℕ
   h = sign_weight (plain_pairs b)
 
-  -- its word is a label's, and its coordinates have the bits of the word
-  unfoldable pub test : Bool
-  test = in_grid b (top_six (plain_pairs b) w) && (eqb (2 * (u / 2 % h) + 65536) u && eqb (2 * (v / 2 % h) + 65536) v)
+  abbrev sought : Option (List Bool)
+  sought = label_of b (point x y)
 
   few : plain_pairs b ≤ 6
   few = omega arith
 
-  -- the point is that of the label left
-  kept : test ≡ true → label_of b (point x y) ≡ some (bits b (own_label b n))
-  unfolding test
-  kept e =
-      let a = (and-eq-true_iff (in_grid b (top_six (plain_pairs b) w)) (eqb (2 * (u / 2 % h) + 65536) u && eqb (2 * (v / 2 % h) + 65536) v)).0 e in
-      let c = (and-eq-true_iff (eqb (2 * (u / 2 % h) + 65536) u) (eqb (2 * (v / 2 % h) + 65536) v)).0 a.1 in
-      let gx : x ≡ coordinate_of h (u / 2 % h) = ux.back (u / 2 % h) (sym (eqb-true (2 * (u / 2 % h) + 65536) u c.0)) in
-      let gy : y ≡ coordinate_of h (v / 2 % h) = vy.back (v / 2 % h) (sym (eqb-true (2 * (v / 2 % h) + 65536) v c.1)) in
-      let g = grid_word b w a.0 in
-      let m = g.0 in
-      let own : own_label b n ≡ m = ap (own_label b) (back (mapping_label b m) (label_lt b m low g.1) (sym g.2)) ∙ own_label_lem b m low g.1 in
-      let l = half_le (plain_pairs b) few in
-      let z : 0 < h = omega (arith, pow_pos (plain_pairs b)) in
-      let parts = deinterleave_interleaved (u / 2 % h) (v / 2 % h) (omega (arith, mod-lt (u / 2) z)) (omega (arith, mod-lt (v / 2) z)) in
-      let fx : x_bits (label_word b m) ≡ u / 2 % h = ap x_bits (g.2 ∙ word) ∙ parts.0 in
-      let fy : y_bits (label_word b m) ≡ v / 2 % h = ap y_bits (g.2 ∙ word) ∙ parts.1 in
-      let q : point_of b (bits b m) ≡ point x y = point_word b m low high g.1 ∙ ap₂ point (ap (coordinate_of h) fx ∙ sym gx) (ap (coordinate_of h) fy ∙ sym gy) in
-      rw own (rw q at (label_point b (bits b m) (length_bits b m)))
+  -- a label that it has, as a number, and its word
+  number : ℕ
+  number = num (label_bits sought)
 
-  -- a point's label is found
-  found : is_label (label_of b (point x y)) ≡ true → (test ≡ true) × (own_label b n ≡ num (label_bits (label_of b (point x y))))
-  unfolding test
-  found e =
-      let m = num (label_bits (label_of b (point x y))) in
+  word : ℕ
+  word = label_word b number
+
+  small : is_label sought ≡ true → number < 2 ^ b
+  unfolding number
+  small e = rw (label_back b (point x y) e).0 at (num_lt (label_bits sought))
+
+  at_word : is_label sought ≡ true → point x y ≡ point (coordinate_of h (x_bits word)) (coordinate_of h (y_bits word))
+  unfolding number word
+  at_word e =
       let r = label_back b (point x y) e in
-      let s : m < 2 ^ b = rw r.0 at (num_lt (label_bits (label_of b (point x y)))) in
-      let same : bits b m ≡ label_bits (label_of b (point x y)) = rw r.0 at (bits_num (label_bits (label_of b (point x y)))) in
-      let p = sym r.1 ∙ ap (point_of b) (sym same) ∙ point_word b m low high s in
-      let t = word_lt b m low s in
-      let a = bits_lt (plain_pairs b) (label_word b m) few t in
-      let gx : u ≡ 2 * x_bits (label_word b m) + 65536 = ux.to (x_bits (label_word b m)) (ap (λ (q : Point). q.px) p) in
-      let gy : v ≡ 2 * y_bits (label_word b m) + 65536 = vy.to (y_bits (label_word b m)) (ap (λ (q : Point). q.py) p) in
-      let fx : u / 2 % h ≡ x_bits (label_word b m) = ap (λ (i : ℕ). i / 2 % h) gx ∙ raised_bits (plain_pairs b) (x_bits (label_word b m)) few a.0 in
-      let fy : v / 2 % h ≡ y_bits (label_word b m) = ap (λ (i : ℕ). i / 2 % h) gy ∙ raised_bits (plain_pairs b) (y_bits (label_word b m)) few a.1 in
-      let fw : w ≡ label_word b m = word ∙ rw (fx, fy) (interleaved_apart (label_word b m) (word_16 (plain_pairs b) (label_word b m) few t)) in
-      let fl : own_label b n ≡ m = ap (own_label b) (back (mapping_label b m) (label_lt b m low s) fw) ∙ own_label_lem b m low s in
-      let g : in_grid b (top_six (plain_pairs b) w) ≡ true = ap (λ (i : ℕ). in_grid b (top_six (plain_pairs b) i)) fw ∙ word_grid b m s in
-      let tx = eq-eqb (2 * (u / 2 % h) + 65536) u (rw fx (sym gx)) in
-      let ty = eq-eqb (2 * (v / 2 % h) + 65536) v (rw fy (sym gy)) in
-      (rw (g, tx, ty), fl)
+      let same : bits b number ≡ label_bits sought = rw r.0 at (bits_num (label_bits sought)) in
+      sym r.1 ∙ ap (point_of b) (sym same) ∙ point_word b number low high (small e)
 
-  pub found_label_law : (f : Bool) (l : ℕ) → f ≡ test → l ≡ own_label b n → FoundLabelIs (record { found = f; label = l }) (label_of b (point x y))
-  found_label_law f l g e = record { found = g ∙ go test (is_label (label_of b (point x y))) refl refl; label = λ i. e ∙ (found i).1 }
+  within : is_label sought ≡ true → (x_bits word < h) × (y_bits word < h)
+  unfolding word
+  within e = bits_lt (plain_pairs b) (label_word b number) few (word_lt b number low (small e))
+
+  none : (is_label sought ≡ true → ⊥) → None ≡ option_map num sought
+  none not = go sought refl
     where
-      go : (t i : Bool) → test ≡ t → is_label (label_of b (point x y)) ≡ i → test ≡ is_label (label_of b (point x y))
-      go true i e f = e ∙ sym (ap is_label (kept e))
-      go false true e f = (found f).0 ∙ sym f
-      go false false e f = e ∙ sym f
+      go : (o : Option (List Bool)) → sought ≡ o → None ≡ option_map num o
+      go None e = refl
+      go (Some v) e = absurd (not (ap is_label e))
 
--- ---- the answer of a one-tone call
+  -- a point that is not that of its own bits
+  pub off_point : {ex ey : ℕ} → BitsOf h x ex → BitsOf h y ey → (point (coordinate_of h ex) (coordinate_of h ey) ≡ point x y → ⊥) → None ≡ option_map num sought
+  off_point bx by off =
+      none
+      (λ e.
+      let p = at_word e in
+      let fx = bx.own (x_bits word) (within e).0 (ap (λ (q : Point). q.px) p) in
+      let fy = by.own (y_bits word) (within e).1 (ap (λ (q : Point). q.py) p) in
+      off (ap₂ (λ (i j : ℕ). point (coordinate_of h i) (coordinate_of h j)) fx fy ∙ sym p))
 
-pub label_found_lem : (o : Option (List Bool)) → is_label o ≡ true → label_found o ≡ tone_done (num (label_bits o))
-label_found_lem none e = absurd (false≢true e)
-label_found_lem (some v) e = refl
+  module _ {ex ey w : ℕ} (bx : BitsOf h x ex) (by : BitsOf h y ey) (at : point (coordinate_of h ex) (coordinate_of h ey) ≡ point x y)
+      (is : w ≡ num (interleaved (bits 8 ex) (bits 8 ey))) where
+    -- the word of a label that it has
+    own_word : is_label sought ≡ true → w ≡ word
+    unfolding word
+    own_word e =
+        let p = at_word e in
+        let fx : ex ≡ x_bits word = bx.own (x_bits word) (within e).0 (ap (λ (q : Point). q.px) p) in
+        let fy : ey ≡ y_bits word = by.own (y_bits word) (within e).1 (ap (λ (q : Point). q.py) p) in
+        is ∙ rw (fx, fy) (interleaved_apart word (word_16 (plain_pairs b) word few (word_lt b number low (small e))))
 
-pub label_none : (o : Option (List Bool)) → is_label o ≡ false → label_found o ≡ tone_refused 13
-label_none none e = refl
-label_none (some v) e = absurd (true≢false e)
+    pub off_grid : false ≡ in_grid b (top_six (plain_pairs b) w) → None ≡ option_map num sought
+    unfolding word
+    off_grid off =
+        none (λ e. false≢true (off ∙ ap (λ (i : ℕ). in_grid b (top_six (plain_pairs b) i)) (own_word e) ∙ word_grid b number (small e)))
+
+    -- the label left, where the word is in the grid
+    pub on_grid : true ≡ in_grid b (top_six (plain_pairs b) w) → (n : ℕ) → NarrowedWord (plain_pairs b) w n → Some (own_label b n) ≡ option_map num sought
+    on_grid on n back =
+        let g = grid_word b w (sym on) in
+        let m = g.0 in
+        let own : own_label b n ≡ m = ap (own_label b) (back (mapping_label b m) (label_lt b m low g.1) (sym g.2)) ∙ own_label_lem b m low g.1 in
+        let l = half_le (plain_pairs b) few in
+        let parts = deinterleave_interleaved ex ey (omega (arith, bx.small)) (omega (arith, by.small)) in
+        let fx : x_bits (label_word b m) ≡ ex = ap x_bits (g.2 ∙ is) ∙ parts.0 in
+        let fy : y_bits (label_word b m) ≡ ey = ap y_bits (g.2 ∙ is) ∙ parts.1 in
+        let q : point_of b (bits b m) ≡ point x y = point_word b m low high g.1 ∙ ap₂ (λ (i j : ℕ). point (coordinate_of h i) (coordinate_of h j)) fx fy ∙ at in
+        let found : sought ≡ Some (bits b m) = rw q at (label_point b (bits b m) (length_bits b m)) in
+        rw (own, found, num_bits, mod-eq_of_lt g.1) refl

@@ -1,4 +1,5 @@
 -- The stored points: one test of the whole table makes the rule at each entry; and what a layout tells of the table.
+use Rattle.std.specs.Prelude.{Option, None, Some}
 use Prim.Native.Nat.{ℕ, zero, suc, ◌+◌, ◌-◌, ◌*◌, ◌/◌, ◌%◌, ◌^◌, ◌≤◌, ◌<◌}
 use mathlib.Core.Bool.{Bool, true, false, not, cond, true≢false}
 use mathlib.Core.List.{List}
@@ -11,8 +12,6 @@ use lib.Pow.{pow_mono}
 use Rattle.g9932.specs.Bits.{bits, first}
 use Rattle.g9932.specs.Points.{point_of, same_point}
 use Rattle.g9932.specs.Sizes.{Point, entry}
-use Rattle.g9932.specs.declared.Found.{Found}
-use Rattle.g9932.specs.declared.Found.TheVariants.{At, Nothing}
 use Rattle.g9932.proofs.Constellations.{same_point→eq}
 use Rattle.g9932.proofs.Search.{first_no}
 use Rattle.constellation.specs.Layouts.{upper, layout_of, silent_layout}
@@ -29,15 +28,15 @@ abbrev agrees : List ℕ → ℕ → ℕ → Bool
 agrees t b l = same_point (stored_point (entry t (first_entry b + l))) (point_of b (bits b l))
 
 -- the first bit count, less one, that has a label whose entry does not agree with the mapping rule
-abbrev pub first_wrong : List ℕ → Found
+abbrev pub first_wrong : List ℕ → Option ℕ
 first_wrong t = first (λ j. is_at (first (λ l. not (agrees t (suc j) l)) (2 ^ suc j))) 8
 
-none_at : (f : Found) → is_at f ≡ false → f ≡ Nothing
-none_at (At k) e = absurd (true≢false e)
-none_at Nothing e = refl
+none_at : (f : Option ℕ) → is_at f ≡ false → f ≡ None
+none_at (Some k) e = absurd (true≢false e)
+none_at None e = refl
 
 -- The computed test, made the rule.
-pub stored : (t : List ℕ) → first_wrong t ≡ Nothing → Stored t
+pub stored : (t : List ℕ) → first_wrong t ≡ None → Stored t
 stored t e = record { rule = at }
   where
     at : (b l : ℕ) → 1 ≤ b → b ≤ 8 → l < 2 ^ b → stored_point (entry t (first_entry b + l)) ≡ point_of b (bits b l)

@@ -1,12 +1,13 @@
 -- What reading finds by a layout (specs/Layouts), and the steps to it.
-use Rattle.std.specs.Prelude.{ℕ, ◌+◌, ◌-◌, ◌*◌, ◌/◌, ◌%◌, ◌^◌, ◌<◌, ◌≤◌, Bool, false, List, [], ◌∷◌, ◌≡◌, eqb, ℤ}
+use Rattle.std.specs.Prelude.{Option}
+use Rattle.std.specs.Prelude.{ℕ, ◌+◌, ◌-◌, ◌*◌, ◌/◌, ◌%◌, ◌^◌, ◌<◌, ◌≤◌, Bool, false, List, [], ◌∷◌, ◌≡◌, ℤ}
+use Rattle.std.specs.Option.{option_map, is_some}
 use Rattle.g9932.specs.Bits.{bits, num}
 use Rattle.g9932.specs.Points.{label_of, same_point}
 use Rattle.g9932.specs.Sizes.{Point, origin}
-use Rattle.constellation.specs.Widened.{top_four, interleaved}
-use Rattle.constellation.specs.Reading.{FoundLabelIs, RaisedCoordinate, in_grid}
+use Rattle.constellation.specs.Widened.{top_four, interleaved, coordinate_of}
+use Rattle.constellation.specs.Reading.{in_grid}
 use Rattle.constellation.specs.Layouts.{lower, upper, layout_of, silent_layout}
-use Rattle.constellation.specs.declared.demap.PointLabel.{PointLabel}
 
 -- the weights that the pairs give
 abbrev pub Power : ℕ → Type 0
@@ -15,12 +16,10 @@ Power m = (k : ℕ) × (k ≤ 6) × (m ≡ 2 ^ k)
 abbrev pub IsLayout : ℕ → Type 0
 IsLayout s = (k : ℕ) × (k ≤ 6) × (upper s ≡ 2 ^ k) × (lower s ≡ 2 ^ (6 - k))
 
--- a coordinate's bits, and whether it is the one with these bits
-pub record OnAxis (h : ℕ) (z : ℤ) (e : ℕ) (on : Bool) : Type 0 where
-  pub raised : ℕ
-  pub raised_is : RaisedCoordinate h z raised
-  pub bits_is : e ≡ raised / 2 % h
-  pub on_is : on ≡ eqb (2 * e + 65536) raised
+-- the bits of a coordinate, if it is on the axis; h is the weight of its sign bit
+pub record BitsOf (h : ℕ) (z : ℤ) (e : ℕ) : Type 0 where
+  pub small : e < h
+  pub own : (d : ℕ) → d < h → z ≡ coordinate_of h d → e ≡ d
 
 -- bits with a 0 above each
 abbrev pub spread : List Bool → List Bool
@@ -45,6 +44,6 @@ abbrev pub LoweredLabel : ℕ → ℕ → ℕ → ℕ → Type 0
 LoweredLabel m three w l = (k v : ℕ) → k ≤ 6 → m ≡ 2 ^ k → w ≡ v * 2 ^ (2 * (6 - k)) → l ≡ three * 2 ^ (2 * k) + v % 2 ^ (2 * k)
 
 -- the label of a point, by the layout of b bits; a silent tone's point is the origin
-pub record Demaps (layout : ℕ) (p : Point) (r : PointLabel) : Type 0 where
-  pub sought : (b : ℕ) → 1 ≤ b → b ≤ 15 → layout ≡ layout_of b → FoundLabelIs (record { found = r.on; label = r.label }) (label_of b p)
-  pub silent : layout ≡ silent_layout → r.on ≡ same_point p origin
+pub record Demaps (layout : ℕ) (p : Point) (r : Option ℕ) : Type 0 where
+  pub sought : (b : ℕ) → 1 ≤ b → b ≤ 15 → layout ≡ layout_of b → r ≡ option_map num (label_of b p)
+  pub silent : layout ≡ silent_layout → is_some r ≡ same_point p origin

@@ -1,22 +1,8 @@
--- What reading a point finds.
-use Rattle.std.specs.Prelude.{Bool, true, false, cond, List, ◌≡◌, ℕ, ◌+◌, ◌*◌, ◌/◌, ◌%◌, ◌^◌, ◌<◌, eqb, ltb, ℤ}
-use Rattle.std.proofs.Math.Option.{Option}
-use Rattle.g9932.specs.Bits.{num, first}
-use Rattle.g9932.specs.Points.{is_label, label_bits}
-use Rattle.g9932.specs.declared.Found.{Found}
-use Rattle.g9932.specs.declared.Found.TheVariants.{At, Nothing}
-use Rattle.constellation.specs.Widened.{coordinate_of, top_four, widened_label, label_word}
-use Rattle.constellation.specs.declared.FoundLabel.{FoundLabel}
-
--- whether there is a label, and its number where there is one
-pub record FoundLabelIs (r : FoundLabel) (o : Option (List Bool)) : Type 0 where
-  pub found : r.found ≡ is_label o
-  pub label : is_label o ≡ true → r.label ≡ num (label_bits o)
-
--- u is the coordinate z raised so that it is positive: to 65,536 plus twice its bits d, where it is on the axis
-pub record RaisedCoordinate (h : ℕ) (z : ℤ) (u : ℕ) : Type 0 where
-  pub to : (d : ℕ) → z ≡ coordinate_of h d → u ≡ 2 * d + 65536
-  pub back : (d : ℕ) → u ≡ 2 * d + 65536 → z ≡ coordinate_of h d
+-- What reading a point goes by.
+use Rattle.std.specs.Prelude.{Option, None, Some}
+use Rattle.std.specs.Prelude.{Bool, true, false, cond, ◌≡◌, ℕ, ◌+◌, ◌*◌, ◌/◌, ◌%◌, ◌^◌, ◌<◌, eqb, ltb}
+use Rattle.g9932.specs.Bits.{first}
+use Rattle.constellation.specs.Widened.{top_four, widened_label, label_word}
 
 -- l is the only label with k pairs whose word can be w
 abbrev pub NarrowedWord : ℕ → ℕ → ℕ → Type 0
@@ -39,9 +25,9 @@ tops b = cond (ltb b 4) (2 ^ b) (cond (eqb (b % 2) 0) 16 32)
 abbrev pub six_of : ℕ → ℕ → ℕ
 six_of b q = cond (ltb b 4) (4 * label_word b q) (4 * top_four q + q % 4)
 
-abbrev pub is_at : Found → Bool
-is_at (At k) = true
-is_at Nothing = false
+abbrev pub is_at : Option ℕ → Bool
+is_at (Some k) = true
+is_at None = false
 
 -- some label's word has these top six bits
 unfoldable pub in_grid : ℕ → ℕ → Bool

@@ -1,65 +1,33 @@
-// Labels of points by a tone's layout (specs/Layouts), in numbers of sixteen bits and with no branch: a loop over many points takes eight at a
-// time.
+// Labels of points by a tone's layout (specs/Layouts), in numbers of sixteen bits and with no branch: a loop over many points takes eight
+// at a time.
 ghost use Rattle.std.specs.Prelude.{◌≡◌, ◌*◌, ◌<◌, pos, ◌+ℤ◌};
-ghost use Rattle.g9932.specs.Points.{same_point};
-ghost use Rattle.g9932.specs.Sizes.{point, origin};
-ghost use Rattle.constellation.specs.DemapByLayout.{Power, IsLayout, OnAxis, spread_byte, LiftedWord, TopsBy, LoweredLabel, Demaps};
+ghost use Rattle.g9932.specs.Sizes.{point};
+ghost use Rattle.constellation.specs.DemapByLayout.{Power, IsLayout, BitsOf, spread_byte, LiftedWord, TopsBy, LoweredLabel, Demaps};
 
-use super::pick;
+use super::{coordinate_of, pick};
+use g9932::Point;
 
-// Whether the constellation has a point, and the label where it has.
-#[derive(Clone, Copy)]
-pub struct PointLabel {
-    pub on: bool,
-    pub label: u16,
-}
-
-// The bits of a coordinate, and whether it is one with these bits.
-#[derive(Clone, Copy)]
-struct AxisBits {
-    on: bool,
-    bits: u16,
-}
-
-// The top three bits of a label, and whether the constellation has a word with such top bits.
+// The top three bits of a label, and whether the constellation has a word with such top bits. This is no `Option`: with one, and `?`, the
+// loop over all places takes 176 instructions for eight of them; as it stands it takes 163.
 #[derive(Clone, Copy)]
 struct TopBits {
     on: bool,
     three: u16,
 }
 
-// Whether a point is (0, 0).
-fn is_origin(x: i16, y: i16) -> bool
-    ensures { result ≡ same_point (point x y) origin }
-{
-    if x != 0 {
-        return false;
-    }
-    if y != 0 {
-        return false;
-    }
-    true
-}
-
 // A coordinate plus 32,768.
 pub fn raised(z: i16) -> u16
     ensures { pos result ≡ z +ℤ pos 32768 }
 {
-    (z as i32 + 32768) as u16
+    (i32::from(z) + 32768) as u16
 }
 
-// The bits of a coordinate whose sign bit has the weight 4 · m. On the axis only 16,384 stands above them, and the coordinate is odd.
-fn axis_bits(m: u16, z: i16) -> AxisBits
+// The bits of a coordinate whose sign bit has the weight 4 · m. One that is not on the axis gets bits, too, of another coordinate.
+fn axis_bits(m: u16, z: i16) -> u16
     requires { Power m }
-    ensures { OnAxis (4 * m) z result.bits result.on }
+    ensures { BitsOf (4 * m) z result }
 {
-    let u = raised(z);
-    let f = u / 2 + 2 * m;
-    let bits = f & (4 * m - 1);
-    AxisBits {
-        on: f - bits + u % 2 == 16385,
-        bits,
-    }
+    (raised(z) / 2 + 2 * m) & (4 * m - 1)
 }
 
 // Eight bits, a zero above each.
@@ -80,9 +48,9 @@ fn lifted_word(c: u16, x: u16, y: u16) -> u16
     2 * spread_byte(x * c) + spread_byte(y * c)
 }
 
-// The top three bits of a label, and the grid, by the top six bits of its word: the sign bits of X and Y, complemented, and two more bits of
-// each in turn. A coordinate whose first two are alike is an outer one. An odd b from 3 has the inner half of the outer columns and rows,
-// without corners; with no pairs, a bit of the other coordinate tells the half.
+// The top three bits of a label, and the grid, by the top six bits of its word: the sign bits of X and Y, complemented, and two more bits
+// of each in turn. A coordinate whose first two are alike is an outer one. An odd b from 3 has the inner half of the outer columns and
+// rows, without corners; with no pairs, a bit of the other coordinate tells the half.
 fn top_of(layout: u16, six: u16) -> TopBits
     requires { six < 64 }
     ensures { TopsBy layout six result.on result.three }
@@ -115,26 +83,29 @@ fn lowered_label(m: u16, three: u16, word: u16) -> u16
     ensures { LoweredLabel m three word result }
 {
     let lifted = 8192 * three + 2 * (word % 4096);
-    ((lifted as u32 * (8 * (m * m)) as u32) >> 16) as u16
+    ((u32::from(lifted) * u32::from(8 * (m * m))) >> 16) as u16
 }
 
-// Whether a tone of a layout can have a point, and the point's label. A silent tone's has both of the bits 7 and 15. Called by proved code only.
-pub fn label_by(layout: u16, x: i16, y: i16) -> PointLabel
+// The label of a point, where a tone of the layout can have the point. A silent tone's layout has both of the bits 7 and 15, and its label
+// does not count. Called by proved code only.
+#[inline(always)]
+pub fn label_by(layout: u16, p: Point) -> Option<u16>
     requires { IsLayout layout }
-    ensures { Demaps layout (point x y) result }
+    ensures { Demaps layout (point p.x p.y) result }
 {
+    let one = layout / 32768;
+    if one & (layout / 128 % 2) == 1 {
+        return (p == Point { x: 0, y: 0 }).then_some(0);
+    }
     let m = layout / 256 % 128;
-    let c = layout % 128;
-    let ax = axis_bits(m, x);
-    let ay = axis_bits(m, y);
-    let word = lifted_word(c, ax.bits, ay.bits);
+    let ex = axis_bits(m, p.x);
+    let ey = axis_bits(m, p.y);
+    let word = lifted_word(layout % 128, ex, ey);
     let t = top_of(layout, word / 1024);
     let label = lowered_label(m, t.three, word);
-    let one = layout / 32768;
-    let silent = one & (layout / 128 % 2) == 1;
-    let inside = t.on & (ax.on & ay.on);
-    PointLabel {
-        on: (silent & is_origin(x, y)) | (!silent & inside),
-        label: pick(one == 1, label % 2, label),
-    }
+    let own = Point {
+        x: coordinate_of(m, ex),
+        y: coordinate_of(m, ey),
+    };
+    ((own == p) & t.on).then_some(pick(one == 1, label % 2, label))
 }

@@ -1,11 +1,12 @@
-// Points of many labels of 9 bits or more, by the rule. Plain arithmetic on sixteen bits, the same steps for every bit count: a loop over it
-// takes eight tones at a time, and may give it tones of fewer bits too, of which it tells nothing.
+// Points of many labels of 9 bits or more, by the rule. Plain arithmetic on sixteen bits, the same steps for every bit count: a loop over
+// it takes eight tones at a time, and may give it tones of fewer bits too, of which it tells nothing.
 ghost use Rattle.std.specs.Prelude.{◌≡◌, ◌*◌, ◌<◌, ◌≤◌};
 ghost use Rattle.g9932.specs.Sizes.{point};
 ghost use Rattle.constellation.specs.Widened.{top_four, y_bits};
 ghost use Rattle.constellation.specs.MapByLayout.{Mappable, MapsByRule, lifted_label, widened_lifted, scaled_coordinate};
 
-use super::Coordinates;
+use super::coordinate_of;
+use g9932::Point;
 
 // A label with its top bit in bit 15. c is 2 to the (6 less the pairs).
 fn lifted_label(c: u16, label: u16) -> u16
@@ -57,17 +58,18 @@ fn scaled_coordinate(e: u16, m: u16) -> i16
     requires { (e < 256) × (1 ≤ m) × (m ≤ 64) }
     ensures { result ≡ scaled_coordinate m e }
 {
-    (2 * ((e * m) >> 6) + 1) as i16 - (4 * m) as i16
+    coordinate_of(m, (e * m) >> 6)
 }
 
 // The point of a label of 9 bits or more, by the layout of its tone. Called by proved code only.
-pub fn point_by(layout: u16, label: u16) -> Coordinates
+#[inline(always)]
+pub fn point_by(layout: u16, label: u16) -> Point
     requires { Mappable layout label }
     ensures { MapsByRule layout label (point result.x result.y) }
 {
     let w = widened_lifted(lifted_label(layout % 128, label));
     let m = layout / 256 % 128;
-    Coordinates {
+    Point {
         x: scaled_coordinate(evens(w / 2), m),
         y: scaled_coordinate(evens(w), m),
     }

@@ -1,11 +1,12 @@
 // Points of 1 to 8 bits from the table, by a tone's layout (specs/Layouts). No step branches: a loop over many tones takes eight at a time,
 // but for the look-up itself.
-ghost use Rattle.std.specs.Prelude.{◌≡◌, cond};
+ghost use Rattle.std.specs.Prelude.{◌≡◌};
 ghost use Rattle.g9932.specs.Sizes.{point};
 ghost use Rattle.constellation.specs.MapByLayout.{Mappable};
 ghost use Rattle.constellation.specs.Stored.{stored_point, is_stored, EntryOf, stored_or};
 
-use super::{Coordinates, is_silent, pick};
+use super::{is_silent, pick};
+use g9932::Point;
 
 // The layout of 9 bits: those of fewer are below it, bit 15 left out.
 const NINE_BITS: u16 = 0x0888;
@@ -34,31 +35,23 @@ pub fn entry_of(layout: u16, label: u16) -> u16
 }
 
 // The point that an entry holds.
-pub fn stored_point(entry: u16) -> Coordinates
+pub fn stored_point(entry: u16) -> Point
     ensures { point result.x result.y ≡ stored_point entry }
 {
-    Coordinates {
+    Point {
         x: (entry % 256) as i16 - 16,
         y: (entry / 256) as i16 - 16,
     }
 }
 
-// One of two coordinates, by products: the compiler makes no branch of them.
-fn one_of(first: bool, a: i16, b: i16) -> i16
-    ensures { result ≡ cond first a b }
-{
-    let n = if first { 1i16 } else { 0i16 };
-    a * n + b * (1 - n)
-}
-
 // The point of an entry, where the table has the layout's points, and (0, 0) for a silent tone; else the point that is given.
-pub fn stored_or(layout: u16, entry: u16, x: i16, y: i16) -> Coordinates
-    ensures { point result.x result.y ≡ stored_or layout entry (point x y) }
+pub fn stored_or(layout: u16, entry: u16, p: Point) -> Point
+    ensures { point result.x result.y ≡ stored_or layout entry (point p.x p.y) }
 {
     let stored = is_stored(layout);
-    let p = stored_point(pick(is_silent(layout), ORIGIN, entry));
-    Coordinates {
-        x: one_of(stored, p.x, x),
-        y: one_of(stored, p.y, y),
+    let q = stored_point(pick(is_silent(layout), ORIGIN, entry));
+    Point {
+        x: pick(stored, q.x, p.x),
+        y: pick(stored, q.y, p.y),
     }
 }

@@ -1,4 +1,5 @@
 -- Every label's place is in the rectangles, and every place there is a label's.
+use Rattle.std.specs.Prelude.{None}
 use Prim.Native.Nat.{ℕ, zero, suc, ◌+◌, ◌-◌, ◌*◌, ◌/◌, ◌%◌, ◌≤◌}
 use mathlib.Core.Bool.{Bool, true, false, not, ◌&&◌, ◌||◌, and-eq-true_iff, false≢true}
 use mathlib.Core.List.{List, [], ◌∷◌}
@@ -9,7 +10,6 @@ use borrow.Author.Tests.{eqb-true, lt-ltb, le-leb}
 use lib.Dec.{ltb, leb, eqb}
 use lib.ListN.{length}
 use Rattle.g9932.specs.Bits.{weight, num, odd, bits, first}
-use Rattle.g9932.specs.declared.Found.TheVariants.{Nothing}
 use Rattle.g9932.proofs.Words.{weight_odd, weight_le}
 use Rattle.g9932.specs.Trellis.{same}
 use Rattle.g9932.proofs.Search.{first_no}
@@ -91,7 +91,7 @@ by_missed true false e h = sym e
 by_missed false true e h = refl
 by_missed false false e h = h
 
-found : (region : ℕ → ℕ → Bool) (b u w : ℕ) → first (missed region b) 36 ≡ Nothing → 509 ≤ u → u ≤ 514 → 509 ≤ w → w ≤ 514
+found : (region : ℕ → ℕ → Bool) (b u w : ℕ) → first (missed region b) 36 ≡ None → 509 ≤ u → u ≤ 514 → 509 ≤ w → w ≤ 514
     → region u w ≡ true → LabelAt b u w
 found region b u w e hu gu hw gw r =
     let k : ℕ = 6 * (u - 509) + (w - 509) in
@@ -102,7 +102,7 @@ found region b u w e hu gu hw gw r =
     subst (λ (y : ℕ). region u y && not (finds b u y) ≡ false) ew (subst (λ (x : ℕ). region x (grid (k % 6)) && not (finds b x (grid (k % 6))) ≡ false) eu m) in
     label_by b u w (by_missed (region u w) (finds b u w) n r)
 
-five_all : first (missed (cross_test 2 3) 5) 36 ≡ Nothing
+five_all : first (missed (cross_test 2 3) 5) 36 ≡ None
 unfolding first num weight odd bits five
 five_all = refl
 
@@ -134,7 +134,7 @@ five_label u w k =
     near' : Within 3 u → Within 2 w → (509 ≤ u) × (u ≤ 514) × (509 ≤ w) × (w ≤ 514)
     near' p q = (omega (arith, p.left), omega (arith, p.right), omega (arith, q.left), omega (arith, q.right))
 
-two_all : first (missed (cross_test 1 1) 2) 36 ≡ Nothing
+two_all : first (missed (cross_test 1 1) 2) 36 ≡ None
 unfolding first num weight odd bits
 two_all = refl
 
@@ -198,7 +198,7 @@ three_inside a b c =
 abbrev three_region : ℕ → ℕ → Bool
 three_region u w = three_test (same (odd u) (odd w)) u w
 
-three_all : first (missed three_region 3) 36 ≡ Nothing
+three_all : first (missed three_region 3) 36 ≡ None
 unfolding first num weight odd bits three
 three_all = refl
 

@@ -1,45 +1,27 @@
 -- From raised coordinates to the labels and costs of an entry.
-use Prim.Native.Nat.{ℕ, zero, suc, ◌+◌, ◌-◌, ◌*◌, ◌/◌, ◌%◌, ◌^◌, ◌≤◌, ◌<◌, min}
-use mathlib.Core.Bool.{Bool, true, false, cond}
+use Rattle.std.specs.Prelude.{Some}
+use Prim.Native.Nat.{ℕ, ◌+◌, ◌*◌, ◌/◌, ◌≤◌, ◌<◌}
+use mathlib.Core.Bool.{Bool, true, false}
 use mathlib.Core.List.{List, [], ◌∷◌}
-use mathlib.Core.Path.{◌≡◌, refl, sym, ap, subst, ◌∙◌}
+use mathlib.Core.Path.{◌≡◌, refl, sym, ap, ◌∙◌}
 use native.Mathlib.Omega.{arith}
-use borrow.Author.Tests.{le-ltb, ltb-true, ltb-false, eq-eqb, ne_eqb}
-use lib.Dec.{ltb, eqb}
-use lib.IntN.{ℤ, pos, negsuc, ◌+ℤ◌, ◌-ℤ◌}
+use lib.IntN.{ℤ, pos, negsuc}
 use lib.ListN.{length}
 use mir.Syntax.{w16}
-use mir.Val.{SFits, to_z}
-use mir.ValLaws.{to_z_pos}
-use Rattle.g9932.specs.Bits.{bit, weight, odd, num, bits}
+use mir.Val.{SFits}
+use Rattle.g9932.specs.Bits.{bit, weight, odd}
 use Rattle.g9932.specs.Nearest.{squared_distance}
-use Rattle.g9932.specs.Points.{point_of, label_of, is_label, label_bits}
+use Rattle.g9932.specs.Points.{point_of, label_of}
 use Rattle.g9932.specs.Sizes.{Point, point}
 use Rattle.g9932.proofs.Constellations.{point_coords}
 use Rattle.g9932.proofs.Labels.{label_point}
-use Rattle.g9932.proofs.TwosComplement.{pos_inj}
-use Rattle.g9932.proofs.Words.{bits_num, num_lt, weight_le, weight_odd}
-use Rattle.constellation.specs.Reading.{FoundLabelIs}
-use Rattle.constellation.specs.declared.FoundLabel.{FoundLabel}
+use Rattle.g9932.proofs.Words.{weight_le, weight_odd}
 use Rattle.cosets.specs.declared.Costs.{Costs}
 use Rattle.cosets.specs.declared.Coset.{Coset}
-use Rattle.cosets.specs.Nearest.{InRange, Raised, Nearest, CosetCost, CostsOf, OneCostsOf}
-use Rattle.cosets.specs.Meters.{Meter, tone_meter, shared, cost_of, bit_cost, LeastOf, CosetLabel, BestLabel, shared_costs, LeastAmong, LeastCoset}
+use Rattle.cosets.specs.Nearest.{Raised, Nearest, CosetCost, CostsOf, OneCostsOf}
+use Rattle.cosets.specs.Meters.{Meter, tone_meter, shared, cost_of, bit_cost, LeastOf, CosetLabel, PointOfLabel, BestLabel, shared_costs, LeastAmong}
 
 -- ---- coordinates, raised and back
-
-pub raised_is_lem : (z : ℤ) (r : ℕ) → InRange z → pos r ≡ z +ℤ pos 32768 → Raised z (r - 31744) × (31745 ≤ r) × (r ≤ 33791)
-raised_is_lem (pos a) r h e = let n = pos_inj r (a + 32768) e in (omega arith, omega arith, omega arith)
-raised_is_lem (negsuc a) r h e =
-    let n = pos_inj r (32768 - suc a) (e ∙ rw (le-ltb 32768 (suc a) (omega arith)) refl) in
-    (omega arith, omega arith, omega arith)
-
-pub lowered_is : (n : ℕ) → 1 ≤ n → n < 2048 → SFits w16 (to_z w16 n -ℤ pos 1024) × Raised (to_z w16 n -ℤ pos 1024) n
-lowered_is n l h = rw (to_z_pos w16 n (omega arith)) (go (ltb n 1024) refl)
-  where
-    go : (c : Bool) → ltb n 1024 ≡ c → SFits w16 (cond c (negsuc (1024 - suc n)) (pos (n - 1024))) × Raised (cond c (negsuc (1024 - suc n)) (pos (n - 1024))) n
-    go true t = let k = ltb-true n 1024 t in (record { sfits = omega arith }, omega arith)
-    go false t = let k = ltb-false n 1024 t in (record { sfits = omega arith }, omega arith)
 
 pub raised_fits : (z : ℤ) (n : ℕ) → Raised z n → n < 2048 → SFits w16 z
 raised_fits (pos a) n r h = record { sfits = omega arith }
@@ -54,22 +36,13 @@ raised_same (negsuc a) (negsuc b) n p q = let e : a ≡ b = omega arith in ap ne
 -- ---- the nearest label of a coset, from the nearest point
 
 pub label_nearest : {b x y d : ℕ} {v1 v0 : Bool} {p : Point} → Nearest b v1 v0 p x y d → (a c : ℤ) → Raised a x → Raised c y
-    → (s : FoundLabel) → FoundLabelIs s (label_of b (point a c)) → (s.label < 2 ^ b) × CosetLabel (tone_meter b p) v1 v0 (bits b s.label)
-label_nearest {b = b} {d = d} {v1 = v1} {v0 = v0} {p = p} n a c ra rc s f =
+    → PointOfLabel b (point a c) (CosetLabel (tone_meter b p) v1 v0)
+label_nearest {b = b} n a c ra rc =
     let v = n.label in
     let ex = raised_same a (point_of b v).px _ ra n.at.rx in
     let ey = raised_same c (point_of b v).py _ rc n.at.ry in
-    let o = (λ i. label_of b (point (ex i) (ey i))) ∙ label_point b v n.size in
-    let l : s.label ≡ num v = f.label (ap is_label o) ∙ ap (λ z. num (label_bits z)) o in
-    let e : bits b s.label ≡ v = ap (bits b) l ∙ subst (λ (k : ℕ). bits k (num v) ≡ v) n.size (bits_num v) in (
-      subst (λ (k : ℕ). s.label < 2 ^ k) n.size (rw l (num_lt v)),
-      record {
-        size = ap length e ∙ n.size;
-        low1 = ap (λ z. bit z 1) e ∙ n.low1;
-        low0 = ap (λ z. bit z 0) e ∙ n.low0;
-        least = λ w h l1 l0. rw (e, n.cost) (n.least w h l1 l0);
-      },
-    )
+    let o : label_of b (point a c) ≡ Some v = (λ i. label_of b (point (ex i) (ey i))) ∙ label_point b v n.size in
+    (v, o, record { size = n.size; low1 = n.low1; low0 = n.low0; least = λ w h l1 l0. rw n.cost (n.least w h l1 l0) })
 
 -- ---- the costs of a tone, and of two that share
 
@@ -159,60 +132,6 @@ coset_cost {m = m} {c = c} {v1 = v1} {v0 = v0} {v = v} l h =
     let least = h.least (l.label v1 v0) (l.size v1 v0) (l.low1 v1 v0) (l.low0 v1 v0) in
     let other : c (weight v0 + 2 * weight v1) ≤ m.cost v = rw (h.low1, h.low0) at (l.least v h.size) in
     omega (arith, least, l.is v1 v0, other)
-
--- ---- the nearest of all labels
-
--- the least of four numbers, each 4 times a cost, plus the two lowest bits
-abbrev pub Fourfold : ℕ → ℕ → ℕ → ℕ → ℕ → Type 0
-Fourfold c0 c1 c2 c3 m = m ≡ min (min (4 * c0) (4 * c1 + 1)) (min (4 * c2 + 2) (4 * c3 + 3))
-
--- the coset that a number tells
-abbrev pub told : ℕ → Coset
-told m = record { low = m % 4; cost = m / 4 }
-
-module _ (c : Costs) (m : ℕ) (h : Fourfold c.c0 c.c1 c.c2 c.c3 m) where
-  cost_is : (k : ℕ) → m % 4 ≡ k → m / 4 ≡ cost_of c k
-  cost_is zero e = omega (arith, h, e)
-  cost_is (suc zero) e = omega (arith, h, e)
-  cost_is (suc (suc zero)) e = omega (arith, h, e)
-  cost_is (suc (suc (suc zero))) e = omega (arith, h, e)
-  cost_is (suc (suc (suc (suc k)))) e = absurd (omega (arith, e))
-
-  under : (i : ℕ) → i < 4 → m / 4 ≤ cost_of c i
-  under zero l = omega (arith, h)
-  under (suc zero) l = omega (arith, h)
-  under (suc (suc zero)) l = omega (arith, h)
-  under (suc (suc (suc zero))) l = omega (arith, h)
-  under (suc (suc (suc (suc i)))) l = absurd (omega arith)
-
-  four_least : LeastAmong 4 (cost_of c) (told m)
-  four_least = record { small = omega arith; is = cost_is (m % 4) refl; least = under }
-
-  two_least : c.c2 ≡ c.c0 → c.c3 ≡ c.c1 → LeastAmong 2 (cost_of c) (told m)
-  two_least e f = record { small = omega (arith, h, e, f); is = cost_is (m % 4) refl; least = λ i l. under i (omega arith) }
-
-pub coset_of : (layout : ℕ) (c : Costs) (c1 c2 m : ℕ) → c1 ≡ cond (eqb layout 33088) c.c3 c.c1 → c2 ≡ cond (eqb layout 33088) c.c0 c.c2
-    → Fourfold c.c0 c1 c2 c.c3 m → LeastCoset layout c (told m)
-coset_of layout c c1 c2 m e1 e2 h =
-    record {
-      tone = λ z. let b = ne_eqb layout 33088 z in four_least c m (rw (e1, e2, b) at h);
-      one = λ z. let b = eq-eqb layout 33088 z in
-          let k = two_least doubled m (rw (e1, e2, b) at h) refl refl in
-          record { small = k.small; is = k.is ∙ bits_are_lem (m % 4) k.small; least = λ i l. rw (← (bits_are_lem i l)) (k.least i l) };
-    }
-  where
-    doubled : Costs
-    doubled = record { c0 = c.c0; c1 = c.c3; c2 = c.c0; c3 = c.c3 }
-
-    bits_are_lem : (i : ℕ) → i < 2 → cost_of doubled i ≡ bit_cost c i
-    bits_are_lem zero h = refl
-    bits_are_lem (suc zero) h = refl
-    bits_are_lem (suc (suc i)) h = absurd (omega arith)
-
--- a pick of two small costs is small
-pub picked_small : (b : Bool) (m n : ℕ) {r : ℕ} → r ≡ cond b m n → m ≤ 8_388_608 → n ≤ 8_388_608 → r ≤ 8_388_608
-picked_small true m n e p q = omega (arith, e)
-picked_small false m n e p q = omega (arith, e)
 
 -- a number of two bits, by its bits
 two_numbers : (n : ℕ) → n < 4 → weight (odd n) + 2 * weight (odd (n / 2)) ≡ n

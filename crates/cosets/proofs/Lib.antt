@@ -1,5 +1,4 @@
 pub mod Places
-pub mod Squares
 pub mod Spots
 pub mod Regions
 pub mod Cosets

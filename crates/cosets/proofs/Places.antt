@@ -59,9 +59,6 @@ module _ (x a low k : ℕ) (hx : 1 ≤ x) (ha : 1 ≤ a) (ga : a ≤ 256) (hl : 
 square_le : (m n : ℕ) → m ≤ n → m * m ≤ n * n
 square_le m n h = mul-le-mul {n₁ = m} {m₁ = m} {n₂ = n} {m₂ = n} h h
 
-pub square_small : (d : ℕ) → d ≤ 2048 → d * d ≤ 4194304
-square_small d h = square_le d 2048 h
-
 pub rectangle : (x y ax ay v1 v0 u w s t : ℕ) → NearestPlace x ax v1 u → NearestPlace y ay v0 w → s ≡ square x u → t ≡ square y w
     → NearestIn x y ax ay v1 v0 (record { u = u; w = w; cost = s + t })
 rectangle x y ax ay v1 v0 u w s t p q e f =

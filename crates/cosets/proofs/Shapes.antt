@@ -14,7 +14,7 @@ use Rattle.constellation.specs.Layouts.{upper, layout_of, ToneLayout}
 use Rattle.g9932.specs.Bits.{◌⊕◌, first, weight}
 use Rattle.g9932.specs.Sizes.{Point}
 use Rattle.cosets.specs.declared.Near.{Near}
-use Rattle.cosets.specs.declared.Shape.{Shape}
+use Rattle.cosets.specs.declared.given.Shape.{Shape}
 use Rattle.cosets.specs.declared.Costs.{Costs}
 use Rattle.cosets.specs.declared.Sides.{Sides}
 use Rattle.cosets.specs.Grid.{inner, outer, NearestIn, SidesOf, ShapeOf, Sided}
@@ -46,25 +46,33 @@ not_one zero s l m e z = omega arith
 not_one (suc zero) s l m e z = omega arith
 not_one (suc (suc j)) s l m e z = eqb-false (layout_of (suc (suc j))) 33088 (one_by j (omega arith)) (sym e ∙ z)
 
-pub side_fits : (s : ℕ) → ToneLayout s → (1 ≤ upper s) × (upper s ≤ 64)
-side_fits s t =
+-- the longer side, as the code has it
+abbrev longer : ℕ → ℕ
+longer s = upper s + s / 128 % 2 * ((upper s + 1) / 2)
+
+pub sides_fit : (s : ℕ) → ToneLayout s → (1 ≤ upper s) × (upper s ≤ 64) × (1 ≤ longer s) × (longer s ≤ 96)
+sides_fit s t =
     let l = is_layout s t in
     let e = l.2 in
-    (omega (arith, e, pow_pos l.0), omega (arith, e, pow_mono {i = l.0} {j = 6} l.1))
+    let least : 1 ≤ upper s = omega (arith, e, pow_pos l.0) in
+    let most : upper s ≤ 64 = omega (arith, e, pow_mono {i = l.0} {j = 6} l.1) in
+    let m = half_more (s / 128 % 2) (upper s) (omega arith) most in
+    (least, most, omega arith, omega arith)
 
-pub sided : (s : ℕ) → ToneLayout s → Sided s (record { inner = upper s; outer = upper s + s / 128 % 2 * ((upper s + 1) / 2); three = eqb s 448 })
-sided s t =
-    let f = side_fits s t in
-    let m = half_more (s / 128 % 2) (upper s) (omega arith) f.1 in
-    record { fits = record { inner_least = f.0; inner_most = f.1; outer_least = omega arith; outer_most = omega arith }; shaped = go; one = λ e. record { inner_is = ap upper e; outer_is = ap (λ (z : ℕ). upper z + z / 128 % 2 * ((upper z + 1) / 2)) e; three_is = ap (λ (z : ℕ). eqb z 448) e } }
+pub sided : (s : ℕ) (h : Shape) → h.inner ≡ upper s → h.outer ≡ longer s → h.three ≡ eqb s 448 → Sided s h
+sided s h ei eo et =
+    record {
+      shaped = go;
+      one = λ e. record { inner_is = ei ∙ ap upper e; outer_is = eo ∙ ap (λ (z : ℕ). longer z) e; three_is = et ∙ ap (λ (z : ℕ). eqb z 448) e };
+    }
   where
-    go : (b : ℕ) → 2 ≤ b → b ≤ 15 → s ≡ layout_of b → ShapeOf b (record { inner = upper s; outer = upper s + s / 128 % 2 * ((upper s + 1) / 2); three = eqb s 448 })
+    go : (b : ℕ) → 2 ≤ b → b ≤ 15 → s ≡ layout_of b → ShapeOf b h
     go zero l m e = absurd (omega arith)
     go (suc zero) l m e = absurd (omega arith)
     go (suc (suc j)) l m e =
         let i = ap upper e ∙ inner_by j (omega arith) in
         let o = ap (λ (z : ℕ). z / 128 % 2) e ∙ odd_by j (omega arith) in
-        record { inner_is = i; outer_is = (λ k. i k + o k * ((i k + 1) / 2)); three_is = ap (λ (z : ℕ). eqb z 448) e ∙ three_by j (omega arith) }
+        record { inner_is = ei ∙ i; outer_is = eo ∙ (λ k. i k + o k * ((i k + 1) / 2)); three_is = et ∙ ap (λ (z : ℕ). eqb z 448) e ∙ three_by j (omega arith) }
 
 -- ---- the nearer of the two rectangles, of 3 bits the one that the lowest bits tell
 

@@ -2,7 +2,7 @@
 use Rattle.std.specs.Prelude.{ℕ, ◌+◌, ◌-◌, ◌*◌, ◌/◌, ◌%◌, ◌^◌, ◌≤◌, ◌<◌, ◌≡◌, eqb}
 use Rattle.constellation.specs.Layouts.{layout_of}
 use Rattle.cosets.specs.declared.Near.{Near}
-use Rattle.cosets.specs.declared.Shape.{Shape}
+use Rattle.cosets.specs.declared.given.Shape.{Shape}
 use Rattle.cosets.specs.declared.Sides.{Sides}
 
 -- a of the places on each side of the origin
@@ -55,13 +55,6 @@ pub record SidesOf (x a c : ℕ) (r : Sides) : Type 0 where
 
 -- ---- a constellation's shape, from its layout
 
--- sides that the code can work with
-pub record SidesFit (h : Shape) : Type 0 where
-  pub inner_least : 1 ≤ h.inner
-  pub inner_most : h.inner ≤ 64
-  pub outer_least : 1 ≤ h.outer
-  pub outer_most : h.outer ≤ 96
-
 -- that of b bits
 pub record ShapeOf (b : ℕ) (h : Shape) : Type 0 where
   pub inner_is : h.inner ≡ inner b
@@ -70,6 +63,5 @@ pub record ShapeOf (b : ℕ) (h : Shape) : Type 0 where
 
 -- by layout, whatever the bits are that it is the layout of; 1 bit has the shape of 2
 pub record Sided (layout : ℕ) (h : Shape) : Type 0 where
-  pub fits : SidesFit h
   pub shaped : (b : ℕ) → 2 ≤ b → b ≤ 15 → layout ≡ layout_of b → ShapeOf b h
   pub one : layout ≡ layout_of 1 → ShapeOf 2 h

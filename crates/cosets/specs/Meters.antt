@@ -1,15 +1,14 @@
 -- What the labels of an entry cost: the squared distances of their points from received ones.
-use Rattle.std.specs.Prelude.{ℕ, ◌+◌, ◌*◌, ◌/◌, ◌^◌, ◌≤◌, ◌<◌, Bool, List, [], ◌∷◌, ◌≡◌, length, take, drop, get_or}
+use Rattle.std.specs.Prelude.{Some}
+use Rattle.std.specs.Prelude.{ℕ, ◌+◌, ◌*◌, ◌/◌, ◌≤◌, ◌<◌, Bool, List, [], ◌∷◌, ◌≡◌, length, take, drop, get_or}
 use Rattle.constellation.specs.Layouts.{layout_of}
-use Rattle.constellation.specs.Reading.{FoundLabelIs}
-use Rattle.constellation.specs.declared.FoundLabel.{FoundLabel}
-use Rattle.g9932.specs.Bits.{bit, weight, odd, bits}
+use Rattle.g9932.specs.Bits.{bit, weight, odd}
 use Rattle.g9932.specs.Nearest.{squared_distance}
 use Rattle.g9932.specs.Points.{point_of, label_of}
 use Rattle.g9932.specs.Sizes.{Point}
 use Rattle.cosets.specs.declared.Costs.{Costs}
 use Rattle.cosets.specs.declared.Coset.{Coset}
-use Rattle.cosets.specs.declared.Received.{Received}
+use Rattle.cosets.specs.declared.given.Received.{Received}
 use Rattle.cosets.specs.Nearest.{IsReceived, OneCostsOf, SmallCosts}
 
 -- how many bits an entry's labels have, and what each of them costs
@@ -63,10 +62,14 @@ pub record CostsBy (layout : ℕ) (s : Received) (r : Costs) : Type 0 where
   pub one : layout ≡ layout_of 1 → (p : Point) → IsReceived p s → OneCostsOf p r
   pub small : SmallCosts r
 
--- a nearest point of the coset with the two lowest bits `low`, by the label that is found for it
+-- q is the point of a label
+abbrev pub PointOfLabel : ℕ → Point → (List Bool → Type 0) → Type 0
+PointOfLabel b q has = (v : List Bool) × (label_of b q ≡ Some v) × has v
+
+-- a nearest point of the coset with the two lowest bits `low`
 pub record PointBy (layout : ℕ) (s : Received) (low : ℕ) (q : Point) : Type 0 where
-  pub tone : (b : ℕ) → 2 ≤ b → b ≤ 15 → layout ≡ layout_of b → (p : Point) → IsReceived p s → (f : FoundLabel) → FoundLabelIs f (label_of b q)
-      → (f.label < 2 ^ b) × CosetLabel (tone_meter b p) (odd (low / 2)) (odd low) (bits b f.label)
+  pub tone : (b : ℕ) → 2 ≤ b → b ≤ 15 → layout ≡ layout_of b → (p : Point) → IsReceived p s
+      → PointOfLabel b q (CosetLabel (tone_meter b p) (odd (low / 2)) (odd low))
 
 -- the label that is found for a tone's point; of 1 bit, the two lowest bits themselves
 pub record LabelOf (layout found low r : ℕ) : Type 0 where

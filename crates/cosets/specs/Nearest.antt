@@ -6,8 +6,8 @@ use Rattle.g9932.specs.Points.{point_of}
 use Rattle.g9932.specs.Nearest.{squared_distance}
 use Rattle.cosets.specs.declared.Costs.{Costs}
 use Rattle.cosets.specs.declared.Near.{Near}
-use Rattle.cosets.specs.declared.Received.{Received}
-use Rattle.cosets.specs.declared.Shape.{Shape}
+use Rattle.cosets.specs.declared.given.Received.{Received}
+use Rattle.cosets.specs.declared.given.Shape.{Shape}
 use Rattle.cosets.specs.Grid.{ShapeOf}
 
 -- 23 does not apply to a coordinate
@@ -24,15 +24,8 @@ pub record RaisedPoint (p : Point) (x y : ℕ) : Type 0 where
   pub ry : Raised p.py y
 
 -- a received point that the code holds raised
-pub record Bounded (s : Received) : Type 0 where
-  pub x_least : 1 ≤ s.x
-  pub x_most : s.x ≤ 2047
-  pub y_least : 1 ≤ s.y
-  pub y_most : s.y ≤ 2047
-
-pub record IsReceived (p : Point) (s : Received) : Type 0 where
-  pub raised : RaisedPoint p s.x s.y
-  pub bounded : Bounded s
+abbrev pub IsReceived : Point → Received → Type 0
+IsReceived p s = RaisedPoint p s.x s.y
 
 -- (x, y), raised, is a point of a label with the lowest bits v1 v0, at the squared distance d from p, and no such label's point is nearer
 pub record Nearest (b : ℕ) (v1 v0 : Bool) (p : Point) (x y d : ℕ) : Type 0 where

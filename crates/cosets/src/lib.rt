@@ -1,18 +1,22 @@
 // What the labels of a tone cost, and the nearest of a coset, the labels with given two lowest bits. Nothing is searched: the points of a
 // coset are odd numbers four apart on each axis, in a rectangle or in the union of two, and the nearest one is found by clamping.
 // Coordinates are raised by 1,024, so that they are positive; a raised coordinate of 2 u + 1 has the place u. Coordinates and places have
-// sixteen bits and the steps are the same for every tone, so that a loop over many takes several at a time. Proved code alone calls what has
-// a `requires`.
+// sixteen bits and the steps are the same for every tone, so that a loop over many takes several at a time. Proved code alone calls what
+// has a `requires`.
 #![tactic(auto)]
 
-ghost use Rattle.std.specs.Prelude.{cond, ◌≡◌, ◌+◌, ◌*◌, ◌≤◌, ◌<◌, min, max};
+pub mod given;
+
+ghost use Rattle.std.specs.Prelude.{◌≡◌, ◌+◌, ◌*◌, ◌≤◌, ◌<◌};
 ghost use Rattle.constellation.specs.Layouts.{ToneLayout};
 ghost use Rattle.g9932.specs.Sizes.{point};
-ghost use Rattle.cosets.specs.Grid.{square, NearestPlace, NearestIn, SquareTo, SidesOf, SidesFit, Sided};
-ghost use Rattle.cosets.specs.Nearest.{Raised, InRange, IsReceived, Bounded, NearestBy, CostsFor, SmallCosts};
+ghost use Rattle.cosets.specs.Grid.{square, NearestPlace, NearestIn, SquareTo, SidesOf, Sided};
+ghost use Rattle.cosets.specs.Nearest.{Raised, InRange, IsReceived, NearestBy, CostsFor, SmallCosts};
 ghost use Rattle.cosets.specs.Meters.{CostsBy, PointBy, LabelOf, shared_costs, LeastCoset};
 
-use constellation::Coordinates;
+use constellation::pick;
+use g9932::Point;
+use given::{Received, Shape};
 
 // The layouts of 1 bit and of 3 bits: see specs/Layouts of constellation.
 const ONE: u16 = 0x8140;
@@ -27,31 +31,8 @@ pub struct Near {
     pub cost: u32,
 }
 
-fn larger(m: u16, n: u16) -> u16
-    ensures { result ≡ max m n }
-{
-    if m < n { n } else { m }
-}
-
-fn smaller(m: u16, n: u16) -> u16
-    ensures { result ≡ min m n }
-{
-    if n < m { n } else { m }
-}
-
-fn cheaper(m: u32, n: u32) -> u32
-    ensures { result ≡ min m n }
-{
-    if n < m { n } else { m }
-}
-
-fn pick(first: bool, m: u32, n: u32) -> u32
-    ensures { result ≡ cond first m n }
-{
-    if first { m } else { n }
-}
-
-// The nearest place of a parity among the a on each side of the origin.
+// The nearest place of a parity among the a on each side of the origin. `Received` and `Shape` have these bounds; here their single numbers
+// come in, each with its own as a clause.
 fn place(x: u16, a: u16, low: u16) -> u16
     requires { (1 ≤ x) × (x ≤ 2047) × (1 ≤ a) × (a ≤ 256) × (low ≤ 1) }
     ensures { NearestPlace x a low result }
@@ -59,7 +40,7 @@ fn place(x: u16, a: u16, low: u16) -> u16
     let first = (513 - a - low) / 2;
     let last = (511 + a - low) / 2;
     let free = (x + 1 - 2 * low) / 4;
-    2 * smaller(larger(free, first), last) + low
+    2 * free.max(first).min(last) + low
 }
 
 // The squared distance of a coordinate from a place. A signed difference is squared with fewer steps than |x − (2 u + 1)|.
@@ -67,20 +48,13 @@ fn square_at(x: u16, u: u16) -> u32
     requires { (x ≤ 2047) × (u < 1024) }
     ensures { (result ≡ square x u) × (result ≤ 4194304) }
 {
-    let d = (x as i16 - (2 * u + 1) as i16) as i32;
+    let d = i32::from(x as i16 - (2 * u + 1) as i16);
     (d * d) as u32
-}
-
-// A received point, its coordinates raised by 1,024.
-#[derive(Clone, Copy)]
-pub struct Received {
-    pub x: u16,
-    pub y: u16,
 }
 
 // The nearest of a rectangle.
 fn in_rectangle(s: Received, ax: u16, ay: u16, v1: u16, v0: u16) -> Near
-    requires { Bounded s × (1 ≤ ax) × (ax ≤ 256) × (1 ≤ ay) × (ay ≤ 256) × (v1 ≤ 1) × (v0 ≤ 1) }
+    requires { (1 ≤ ax) × (ax ≤ 256) × (1 ≤ ay) × (ay ≤ 256) × (v1 ≤ 1) × (v0 ≤ 1) }
     ensures { NearestIn s.x s.y ax ay v1 v0 result }
 {
     let u = place(s.x, ax, v1);
@@ -92,14 +66,7 @@ fn in_rectangle(s: Received, ax: u16, ay: u16, v1: u16, v0: u16) -> Near
     }
 }
 
-// Half the shorter and half the longer side of a constellation, in places, and whether it is that of 3 bits.
-#[derive(Clone, Copy)]
-pub struct Shape {
-    pub inner: u16,
-    pub outer: u16,
-    pub three: bool,
-}
-
+// The shape of a layout's constellation.
 fn shape_of(layout: u16) -> Shape
     requires { ToneLayout layout }
     ensures { Sided layout result }
@@ -114,7 +81,7 @@ fn shape_of(layout: u16) -> Shape
 
 // The nearest point of the labels with the lowest bits v1 v0.
 fn nearest(h: Shape, s: Received, v1: u16, v0: u16) -> Near
-    requires { SidesFit h × Bounded s × (v1 ≤ 1) × (v0 ≤ 1) }
+    requires { (v1 ≤ 1) × (v0 ≤ 1) }
     ensures { NearestBy h s v1 v0 result }
 {
     let p = in_rectangle(s, h.inner, h.outer, v1, v0);
@@ -162,7 +129,6 @@ fn sides_of(x: u16, a: u16, c: u16) -> Sides
 
 // The costs of the four cosets.
 fn coset_costs(h: Shape, s: Received) -> Costs
-    requires { SidesFit h × Bounded s }
     ensures { CostsFor h s result }
 {
     let x = sides_of(s.x, h.inner, h.outer);
@@ -176,16 +142,17 @@ fn coset_costs(h: Shape, s: Received) -> Costs
         };
     }
     Costs {
-        c0: cheaper(x.inner0 + y.outer0, x.outer0 + y.inner0),
-        c1: cheaper(x.inner0 + y.outer1, x.outer0 + y.inner1),
-        c2: cheaper(x.inner1 + y.outer0, x.outer1 + y.inner0),
-        c3: cheaper(x.inner1 + y.outer1, x.outer1 + y.inner1),
+        c0: (x.inner0 + y.outer0).min(x.outer0 + y.inner0),
+        c1: (x.inner0 + y.outer1).min(x.outer0 + y.inner1),
+        c2: (x.inner1 + y.outer0).min(x.outer1 + y.inner0),
+        c3: (x.inner1 + y.outer1).min(x.outer1 + y.inner1),
     }
 }
 
-// The costs of a tone, by its layout. 1 bit has the shape of 2 bits, and its points are those of their labels 00 and 11: one way serves all.
+// The costs of a tone, by its layout. 1 bit has the shape of 2 bits, and its points are those of their labels 00 and 11: one way serves
+// all.
 pub fn costs_by(layout: u16, s: Received) -> Costs
-    requires { ToneLayout layout × Bounded s }
+    requires { ToneLayout layout }
     ensures { CostsBy layout s result }
 {
     coset_costs(shape_of(layout), s)
@@ -212,13 +179,13 @@ fn raise(z: i16) -> u16
     constellation::demap::raised(z) - 31744
 }
 
-pub fn raise_point(x: i16, y: i16) -> Received
-    requires { InRange x × InRange y }
-    ensures { IsReceived (point x y) result }
+pub fn raise_point(p: Point) -> Received
+    requires { InRange p.x × InRange p.y }
+    ensures { IsReceived (point p.x p.y) result }
 {
     Received {
-        x: raise(x),
-        y: raise(y),
+        x: raise(p.x),
+        y: raise(p.y),
     }
 }
 
@@ -231,12 +198,12 @@ fn coordinate_at(u: u16) -> i16
 }
 
 // The nearest point of the coset with the two lowest bits `low`.
-pub fn point_by(layout: u16, s: Received, low: u16) -> Coordinates
-    requires { ToneLayout layout × Bounded s × (low < 4) }
+pub fn point_by(layout: u16, s: Received, low: u16) -> Point
+    requires { ToneLayout layout × (low < 4) }
     ensures { PointBy layout s low (point result.x result.y) }
 {
     let n = nearest(shape_of(layout), s, low / 2, low % 2);
-    Coordinates {
+    Point {
         x: coordinate_at(n.u),
         y: coordinate_at(n.w),
     }
@@ -256,8 +223,9 @@ pub struct Coset {
     pub cost: u32,
 }
 
-// The nearest coset, the first of several; of 1 bit, the nearest bit. Its two costs stand for 0 and 1, and for 2 and 3 once more, so that the
-// steps are the same for every tone. A number is 4 times a cost, plus the two lowest bits: the least has the least cost and tells its coset.
+// The nearest coset, the first of several; of 1 bit, the nearest bit. Its two costs stand for 0 and 1, and for 2 and 3 once more, so that
+// the steps are the same for every tone. A number is 4 times a cost, plus the two lowest bits: the least has the least cost and tells its
+// coset.
 pub fn least_coset(layout: u16, c: Costs) -> Coset
     requires { SmallCosts c }
     ensures { LeastCoset layout c result }
@@ -265,10 +233,9 @@ pub fn least_coset(layout: u16, c: Costs) -> Coset
     let one = layout == ONE;
     let c1 = pick(one, c.c3, c.c1);
     let c2 = pick(one, c.c0, c.c2);
-    let m = cheaper(
-        cheaper(4 * c.c0, 4 * c1 + 1),
-        cheaper(4 * c2 + 2, 4 * c.c3 + 3),
-    );
+    let m = (4 * c.c0)
+        .min(4 * c1 + 1)
+        .min((4 * c2 + 2).min(4 * c.c3 + 3));
     Coset {
         low: (m % 4) as u16,
         cost: m / 4,

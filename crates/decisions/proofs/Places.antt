@@ -1,8 +1,17 @@
 -- The loops over the places: what each step adds.
-use Prim.Native.Nat.{ℕ, ◌+◌, ◌%◌, ◌≤◌, ◌<◌}
-use mathlib.Core.Bool.{Bool}
+use Prim.Native.Nat.{ℕ, ◌+◌, ◌%◌, ◌^◌, ◌≤◌, ◌<◌}
+use mathlib.Core.Bool.{Bool, true, false, false≢true}
+use mathlib.Core.Logic.{◌⊎◌, inl, inr}
+use Rattle.std.specs.Prelude.{Option, Some}
+use Rattle.std.specs.Option.{option_map, unwrap_or, is_some}
+use Rattle.g9932.specs.Bits.{num, bits}
+use Rattle.g9932.specs.Points.{label_of}
+use Rattle.g9932.proofs.Words.{num_lt, bits_num}
+use lib.Dec.{eqb}
+use borrow.Author.Tests.{eqb-true, eqb-false}
+use Rattle.constellation.specs.Layouts.{layout_of}
 use mathlib.Core.List.{List}
-use mathlib.Core.Path.{◌≡◌, sym, ap, ◌∙◌}
+use mathlib.Core.Path.{◌≡◌, refl, sym, ap, ◌∙◌}
 use native.Mathlib.Numerals.{add-one}
 use native.Mathlib.Omega.{arith}
 use borrow.Author.Count.{below_more}
@@ -14,41 +23,25 @@ use Rattle.cosets.specs.Meters.{CostsBy, PointBy, LabelOf, LeastCoset}
 use Rattle.cosets.specs.Nearest.{IsReceived}
 use Rattle.cosets.specs.declared.Coset.{Coset}
 use Rattle.cosets.specs.declared.Costs.{Costs}
-use Rattle.cosets.specs.declared.Received.{Received}
-use Rattle.g9932.specs.Sizes.{entry, Point, point, origin}
-use Rattle.mapper.specs.Reading.{point_at, DemapsAll}
-use Rattle.decisions.specs.Deciding.{costs_of, PlaceCosts, Costed, PlacePoint, PlacePoints, PutsLabels, PlaceLabels, LeastAt, LeastPlaces, total_at}
+use Rattle.cosets.specs.declared.given.Received.{Received}
+use Rattle.g9932.specs.Sizes.{entry, Point, point, origin, point_at}
+use Rattle.mapper.specs.Reading.{LabelIs, Off, DemapsAll}
+use Rattle.decisions.specs.CostLists.{costs_of, PutsCosts, PutsLeast}
+use Rattle.decisions.specs.declared.cost_lists.CostLists.{CostLists}
+use Rattle.decisions.specs.Deciding.{PlaceCosts, Costed, PlacePoint, PlacePoints, PutsLabels, PlaceLabels, LeastAt, LeastPlaces, total_at}
 
 -- ---- costs
 
 pub costs_of_lem : {layout : ℕ} {p : Point} {s : Received} {r : Costs} → IsReceived p s → CostsBy layout s r → PlaceCosts layout p r
 costs_of_lem {p = p} i c = record { tone = λ b l m e. c.tone b l m e p i; one = λ e. c.one e p i; small = c.small }
 
-costs_set : (k0 k1 k2 k3 : List ℕ) (i : ℕ) (r : Costs) → i < length k0 → i < length k1 → i < length k2 → i < length k3
-    → costs_of (set k0 i r.c0) (set k1 i r.c1) (set k2 i r.c2) (set k3 i r.c3) i ≡ r
-costs_set k0 k1 k2 k3 i r h0 h1 h2 h3 =
-    λ z. record { c0 = get_or-set_same k0 i r.c0 0 h0 z; c1 = get_or-set_same k1 i r.c1 0 h1 z; c2 = get_or-set_same k2 i r.c2 0 h2 z; c3 = get_or-set_same k3 i r.c3 0 h3 z }
-
-costs_other : (k0 k1 k2 k3 : List ℕ) (i j : ℕ) (r : Costs) → j < i → costs_of (set k0 i r.c0) (set k1 i r.c1) (set k2 i r.c2) (set k3 i r.c3) j ≡ costs_of k0 k1 k2 k3 j
-costs_other k0 k1 k2 k3 i j r h =
-    let n : j ≡ i → ⊥ = λ e. omega (arith, e) in
-    λ z. record { c0 = get_or-set_other k0 i j r.c0 0 n z; c1 = get_or-set_other k1 i j r.c1 0 n z; c2 = get_or-set_other k2 i j r.c2 0 n z; c3 = get_or-set_other k3 i j r.c3 0 n z }
-
-module _ {layouts : List ℕ} {q : List Point} {k0 k1 k2 k3 : List ℕ} {i : ℕ} (old : Costed layouts q k0 k1 k2 k3 i) where
-  pub costed_more : (r : Costs) → i < length layouts → PlaceCosts (entry layouts i) (get_or q i origin) r
-      → Costed layouts q (set k0 i r.c0) (set k1 i r.c1) (set k2 i r.c2) (set k3 i r.c3) (i + 1)
-  costed_more r h c =
+module _ {layouts : List ℕ} {q : List Point} {ks : CostLists} {i : ℕ} (old : Costed layouts q ks i) where
+  pub costed_more : {r : Costs} {after : CostLists} → PutsCosts ks i r after → PlaceCosts (entry layouts i) (get_or q i origin) r → Costed layouts q after (i + 1)
+  costed_more {r} {after} p c =
       record {
-        costs = below_more has i (λ j l. rw (costs_other k0 k1 k2 k3 i j r l) (old.costs j l))
-            (rw (costs_set k0 k1 k2 k3 i r (omega (arith, old.length0)) (omega (arith, old.length1)) (omega (arith, old.length2)) (omega (arith, old.length3))) c);
-        length0 = length-set k0 i r.c0 ∙ old.length0;
-        length1 = length-set k1 i r.c1 ∙ old.length1;
-        length2 = length-set k2 i r.c2 ∙ old.length2;
-        length3 = length-set k3 i r.c3 ∙ old.length3;
+        costs = below_more (λ j. PlaceCosts (entry layouts j) (get_or q j origin) (costs_of after j)) i
+            (λ j l. rw (p.others j (λ e. omega (arith, e))) (old.costs j l)) (rw p.here c);
       }
-    where
-      has : ℕ → Type 0
-      has j = PlaceCosts (entry layouts j) (get_or q j origin) (costs_of (set k0 i r.c0) (set k1 i r.c1) (set k2 i r.c2) (set k3 i r.c3) j)
 
 -- ---- labels
 
@@ -89,6 +82,14 @@ module _ {layouts found lows labels : List ℕ} {i : ℕ} (old : PutsLabels layo
       has : ℕ → Type 0
       has j = LabelOf (entry layouts j) (entry found j) (entry lows j % 4) (entry (set labels i l) j)
 
+-- the label that is told of a point that has one
+told_label : {layout l b : ℕ} {q : Point} {v : List Bool} → LabelIs layout q l ⊎ Off layout q → 1 ≤ b → b ≤ 15 → layout ≡ layout_of b → label_of b q ≡ Some v → length v ≡ b
+    → (l < 2 ^ b) × (bits b l ≡ v)
+told_label {l = l} {b = b} {v = v} (inl d) h k e is n =
+    let m : l ≡ num v = ap (λ (o : Option ℕ). unwrap_or o 0) (d.sought b h k e ∙ ap (option_map num) is) in
+    (rw m (rw n at (num_lt v)), rw m (rw n at (bits_num v)))
+told_label {b = b} (inr d) h k e is n = absurd (false≢true (ap is_some (d.sought b h k e ∙ ap (option_map num) is)))
+
 -- the labels that are found for nearest points are nearest labels
 pub labels_are_lem : {layouts : List ℕ} {q : List Point} {lows found labels : List ℕ} {near_xs near_ys : List ℤ} {all : Bool} {n : ℕ} → length layouts ≡ n → length near_xs ≡ n
     → PlacePoints layouts q lows near_xs near_ys n → DemapsAll layouts near_xs near_ys found all → PutsLabels layouts found lows labels (length layouts) → PlaceLabels layouts q lows labels n
@@ -97,8 +98,9 @@ labels_are_lem {layouts} k m p d l =
       labelled = λ i h.
           record {
             tone = λ b lb mb e.
-                let t = d.each i (omega arith) in
-                rw ((l.put i (omega arith)).tone (λ z. not_one b (entry layouts i) lb mb e z)) (p.near i h b lb mb e _ (t.1.sought b (omega arith) mb e));
+                let near = p.near i h b lb mb e in
+                let t = told_label (d.each i (omega arith)) (omega arith) mb e near.1 near.2.size in
+                rw ((l.put i (omega arith)).tone (λ z. not_one b (entry layouts i) lb mb e z), t.1) (t.0, near.2);
             one = (l.put i (omega arith)).one;
           };
       labels_length = l.labels_length;
@@ -106,19 +108,30 @@ labels_are_lem {layouts} k m p d l =
 
 -- ---- uncoded: the nearest coset of every place, and the total
 
-module _ {layouts k0 k1 k2 k3 lows costs : List ℕ} {i : ℕ} (old : LeastPlaces layouts k0 k1 k2 k3 lows costs i) where
-  pub least_more : {r : Coset} → i < length layouts → LeastCoset (entry layouts i) (costs_of costs k1 k2 k3 i) r → LeastPlaces layouts k0 k1 k2 k3 (set lows i r.low) (set costs i r.cost) (i + 1)
-  least_more {r} h c =
+-- the least cost is at most that of the first coset
+pub least_small : {layout : ℕ} {c : Costs} {r : Coset} → LeastCoset layout c r → r.cost ≤ c.c0
+least_small {layout} {c} {r} l = go (eqb layout (layout_of 1)) refl
+  where
+    go : (b : Bool) → eqb layout (layout_of 1) ≡ b → r.cost ≤ c.c0
+    go true e = (l.one (eqb-true layout (layout_of 1) e)).least 0 (omega arith)
+    go false e = (l.tone (eqb-false layout (layout_of 1) e)).least 0 (omega arith)
+
+module _ {layouts : List ℕ} {ks : CostLists} {lows : List ℕ} {mid : CostLists} {i : ℕ} (old : LeastPlaces layouts ks lows mid i) where
+  pub least_more : {r : Coset} {after : CostLists} → i < length layouts → LeastCoset (entry layouts i) (costs_of mid i) r → PutsLeast mid i r.cost after
+      → LeastPlaces layouts ks (set lows i r.low) after (i + 1)
+  least_more {r} {after} h c p =
       record {
-        least = below_more has i (λ j l. let n : j ≡ i → ⊥ = λ e. omega (arith, e) in rw (get_or-set_other lows i j r.low 0 n, get_or-set_other costs i j r.cost 0 n) (old.least j l))
-            (rw (get_or-set_same lows i r.low 0 (omega (arith, old.lows_length)), get_or-set_same costs i r.cost 0 (omega (arith, old.costs_length)), ← (old.kept i (omega arith))) c);
-        kept = λ j l. get_or-set_other costs i j r.cost 0 (λ e. omega (arith, e)) ∙ old.kept j (omega arith);
+        least = below_more has i (λ j l. let n : j ≡ i → ⊥ = λ e. omega (arith, e) in rw (ap first_of (p.others j n), get_or-set_other lows i j r.low 0 n) (old.least j l))
+            (rw (p.here, get_or-set_same lows i r.low 0 (omega (arith, old.lows_length)), ← (old.kept i (omega arith))) c);
+        kept = λ j l. p.others j (λ e. omega (arith, e)) ∙ old.kept j (omega arith);
         lows_length = length-set lows i r.low ∙ old.lows_length;
-        costs_length = length-set costs i r.cost ∙ old.costs_length;
       }
     where
       has : ℕ → Type 0
-      has j = LeastAt layouts k0 k1 k2 k3 (set lows i r.low) (set costs i r.cost) j
+      has j = LeastAt layouts ks (set lows i r.low) after.c0 j
+
+      first_of : Costs → ℕ
+      first_of r = r.c0
 
 pub total_more : (costs ps : List ℕ) (k n p c : ℕ) → k < length ps → p ≡ entry ps k → c ≡ entry costs p → n + total_at costs (drop k ps) ≡ total_at costs ps → n + c + total_at costs (drop (k + 1) ps) ≡ total_at costs ps
 total_more costs ps k n p c h at is old =

@@ -18,15 +18,17 @@ use Rattle.paths.proofs.Steps.{surviving_start, surviving_step}
 use Rattle.paths.specs.Frames.{PairMeter, Suits, Matches}
 use Rattle.paths.specs.Paths.{Branch}
 use Rattle.paths.specs.Survivors.{branch_of, lone_branch, edges_of, Advanced, Below, FirstAlone}
-use Rattle.decisions.specs.Deciding.{costs_of, entry_costs, meters_in_twos, no_meter, meter_in_front, pair_meters, lone_in, MeterCosts, Selected, LeastPath}
+use Rattle.decisions.specs.CostLists.{costs_of}
+use Rattle.decisions.specs.declared.cost_lists.CostLists.{CostLists}
+use Rattle.decisions.specs.Deciding.{entry_costs, meters_in_twos, no_meter, meter_in_front, pair_meters, lone_in, MeterCosts, Selected, LeastPath}
 
 -- ---- the costs of an entry whose place is p
 
-module _ (from : ℕ) (ps k0 k1 k2 k3 : List ℕ) (k : ℕ) {p : ℕ} (at : p ≡ entry ps k) where
-  pub own_costs : p < from → costs_of k0 k1 k2 k3 p ≡ entry_costs from ps k0 k1 k2 k3 k
+module _ (from : ℕ) (ps : List ℕ) (ks : CostLists) (k : ℕ) {p : ℕ} (at : p ≡ entry ps k) where
+  pub own_costs : p < from → costs_of ks p ≡ entry_costs from ps ks k
   own_costs h = rw (at, lt-ltb (entry ps k) from (rw at at h)) refl
 
-  pub both_costs : from ≤ p → shared_costs (costs_of k0 k1 k2 k3 p) (costs_of k0 k1 k2 k3 (p + 1)) ≡ entry_costs from ps k0 k1 k2 k3 k
+  pub both_costs : from ≤ p → shared_costs (costs_of ks p) (costs_of ks (p + 1)) ≡ entry_costs from ps ks k
   both_costs h = rw (at, le-ltb (entry ps k) from (rw at at h)) refl
 
 -- ---- no pair yet, and one pair more
@@ -35,7 +37,7 @@ suits : (x : ℕ) (m : PairMeter) (b : Branch) → 2 ≤ x → b.lone ≡ false 
 suits zero m b h l v w = absurd (omega arith)
 suits (suc a) m b h l v w = (l, v, w)
 
-module _ {from : ℕ} {ps k0 k1 k2 k3 : List ℕ} (ms : List Meter) (d : MeterCosts ms from ps k0 k1 k2 k3) (n : ℕ) (whole : 2 * n ≡ length ps + lone_in ps) where
+module _ {from : ℕ} {ps : List ℕ} {ks : CostLists} (ms : List Meter) (d : MeterCosts ms from ps ks) (n : ℕ) (whole : 2 * n ≡ length ps + lone_in ps) where
   pub selected_none : (σ : List ℕ) → Selected (drop (2 * n - lone_in ps) ms) n σ (replicate 16 0)
   selected_none σ =
       let e : drop (2 * n - lone_in ps) ms ≡ [] = drop_of_length-le ms {i = 2 * n - lone_in ps} (omega (arith, d.count)) in
@@ -43,7 +45,7 @@ module _ {from : ℕ} {ps k0 k1 k2 k3 : List ℕ} (ms : List Meter) (d : MeterCo
       (record { branches = []; count = refl; surviving = surviving_start n σ; matches = tt })
 
   module _ (j : ℕ) {σ m σ' m' e : List ℕ} (v w : Costs) (above : lone_in ps < j) (inside : j ≤ n) (old : Selected (drop (2 * j - lone_in ps) ms) j σ m)
-      (cv : v ≡ entry_costs from ps k0 k1 k2 k3 (2 * (j - 1) - lone_in ps)) (cw : w ≡ entry_costs from ps k0 k1 k2 k3 (2 * (j - 1) - lone_in ps + 1))
+      (cv : v ≡ entry_costs from ps ks (2 * (j - 1) - lone_in ps)) (cw : w ≡ entry_costs from ps ks (2 * (j - 1) - lone_in ps + 1))
       (is : e ≡ edges_of (branch_of v w)) (below : Below (2 ^ 37) e) (a : Advanced m e (ltb (n - (j - 1)) 3) σ (16 * (j - 1)) 4 m' σ') where
     abbrev k : ℕ
     k = 2 * (j - 1) - lone_in ps
@@ -78,7 +80,7 @@ module _ {from : ℕ} {ps k0 k1 k2 k3 : List ℕ} (ms : List Meter) (d : MeterCo
       omega (arith, s.surviving.small i, c)
 
 -- and they are small in the end
-pub whole_small : {from : ℕ} {ps k0 k1 k2 k3 : List ℕ} (ms : List Meter) {σ m : List ℕ} → MeterCosts ms from ps k0 k1 k2 k3 → length ps ≤ 4096
+pub whole_small : {from : ℕ} {ps : List ℕ} {ks : CostLists} (ms : List Meter) {σ m : List ℕ} → MeterCosts ms from ps ks → length ps ≤ 4096
     → Selected (drop (lone_in ps) ms) (lone_in ps) σ m → Below (2 ^ 60) m
 whole_small {ps = ps} ms d most s i =
     let c : length s.branches ≤ 2048 = omega (arith, s.count, length-drop (lone_in ps) ms, d.count) in
@@ -92,12 +94,12 @@ matches_length [] (b ∷ bs) h = absurd h
 matches_length (m ∷ ms) [] h = absurd h
 matches_length (m ∷ ms) (b ∷ bs) h = ap suc (matches_length ms bs h.1)
 
-module _ {from : ℕ} {ps k0 k1 k2 k3 : List ℕ} (ms : List Meter) (d : MeterCosts ms from ps k0 k1 k2 k3) (enough : 1 ≤ length ps) where
+module _ {from : ℕ} {ps : List ℕ} {ks : CostLists} (ms : List Meter) (d : MeterCosts ms from ps ks) (enough : 1 ≤ length ps) where
   same_parity : length ms % 2 ≡ lone_in ps
   same_parity = ap (λ (n : ℕ). n % 2) d.count
 
   -- the first pair has x = 0
-  pub path_lone : {σ m σ' : List ℕ} {w : Costs} {r : ℕ} → length ps % 2 ≡ 1 → w ≡ entry_costs from ps k0 k1 k2 k3 0 → Selected (drop (lone_in ps) ms) (lone_in ps) σ m
+  pub path_lone : {σ m σ' : List ℕ} {w : Costs} {r : ℕ} → length ps % 2 ≡ 1 → w ≡ entry_costs from ps ks 0 → Selected (drop (lone_in ps) ms) (lone_in ps) σ m
       → FirstAlone w m σ σ' r → LeastPath (pair_meters ms) σ' r
   path_lone {σ} {m} {σ'} {w} {r} e c s f =
       let s1 : Selected (drop 1 ms) 1 σ m = rw e at s in

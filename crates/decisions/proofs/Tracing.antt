@@ -18,7 +18,8 @@ use Rattle.g9932.specs.declared.TrellisState.{TrellisState}
 use Rattle.paths.specs.Paths.{after, low_by}
 use Rattle.paths.specs.Survivors.{survivor, Followed, state_at, low_at}
 use Rattle.trellis.specs.Steps.{state_at as state_of}
-use Rattle.trellis.specs.declared.pairs.NumberStep.{NumberStep}
+use Rattle.trellis.specs.declared.PairCode.{PairCode}
+use Rattle.trellis.specs.declared.by_number.StateNumber.{StateNumber}
 use Rattle.decisions.specs.Deciding.{lone_in, upper_at, lower_at, low_number, StateBefore, LowTraced}
 
 -- ---- one entry more
@@ -56,19 +57,19 @@ odd_low σ t j e f = (rw (e, f) refl, rw (e, f) refl)
 
 -- ---- pair by pair
 
-pub zero_before : (σ : List ℕ) → StateBefore σ 0 0
+pub zero_before : {σ : List ℕ} {n : ℕ} → n ≡ 0 → StateBefore σ 0 n
 unfolding state_of state_at odd
-zero_before σ = record { small = omega arith; is = refl }
+zero_before e = rw e (record { is = refl })
 
-pub lows_small : {σ : List ℕ} {j : ℕ} {s : TrellisState} {r : NumberStep} → Followed σ j s r → (r.v < 4) × (r.w < 4)
+pub lows_small : {σ : List ℕ} {j : ℕ} {s : TrellisState} {r : PairCode StateNumber} → Followed σ j s r → (r.v < 4) × (r.w < 4)
 lows_small {σ} {j} {s} {r} f =
     let l : LowBits = low_by s (survivor σ j s) in
     (omega (arith, f.v_is, weight_le l.v0, weight_le l.v1), omega (arith, f.w_is, weight_le l.w0, weight_le l.w1))
 
-module _ {σ : List ℕ} {j s : ℕ} {r : NumberStep} (b : StateBefore σ j s) (f : Followed σ j (state_of s) r) where
-  pub next_before : StateBefore σ (suc j) r.next.0
+module _ {σ : List ℕ} {j s : ℕ} {r : PairCode StateNumber} (b : StateBefore σ j s) (f : Followed σ j (state_of s) r) where
+  pub next_before : StateBefore σ (suc j) r.next.number
   unfolding state_at
-  next_before = record { small = f.next_small; is = f.next_is ∙ ap (λ (z : TrellisState). after z (survivor σ j z)) b.is }
+  next_before = record { is = f.next_is ∙ ap (λ (z : TrellisState). after z (survivor σ j z)) b.is }
 
   v_low : r.v ≡ low_number (low_at σ j).v1 (low_at σ j).v0
   v_low = f.v_is ∙ ap (λ (z : TrellisState). let l = low_by z (survivor σ j z) in low_number l.v1 l.v0) b.is
@@ -102,8 +103,8 @@ module _ {ps σ labels : List ℕ} {n s k : ℕ} (rising : Rising ps n) (t : Tra
   pub second_inside : k + 1 < length ps
   second_inside = omega (arith, t.parity)
 
-  pub tracing_more : {r : NumberStep} {mid after : List ℕ} {p q : ℕ} → Followed σ ((k + lone_in ps) / 2) (state_of s) r
-      → mid ≡ set labels p r.v → p ≡ entry ps k → after ≡ set mid q r.w → q ≡ entry ps (k + 1) → Tracing ps n σ after r.next.0 (k + 2)
+  pub tracing_more : {r : PairCode StateNumber} {mid after : List ℕ} {p q : ℕ} → Followed σ ((k + lone_in ps) / 2) (state_of s) r
+      → mid ≡ set labels p r.v → p ≡ entry ps k → after ≡ set mid q r.w → q ≡ entry ps (k + 1) → Tracing ps n σ after r.next.number (k + 2)
   tracing_more {r} {mid} {after} {p} {q} d pm pp qm qq =
       let j : ℕ = (k + lone_in ps) / 2 in
       let a = even_low σ (lone_in ps + k) j (omega (arith, t.parity)) (omega arith) in
@@ -121,7 +122,7 @@ module _ {ps σ labels : List ℕ} {n s k : ℕ} (rising : Rising ps n) (t : Tra
       record {
         parity = omega (arith, t.parity);
         inside = omega (arith, second_inside);
-        state = subst (λ (i : ℕ). StateBefore σ i r.next.0) f (next_before t.state d);
+        state = subst (λ (i : ℕ). StateBefore σ i r.next.number) f (next_before t.state d);
         traced = subst (LowTraced ps σ after) e t2;
         labels_length = ap length qm ∙ length-set mid q r.w ∙ nm;
       }

@@ -2,29 +2,24 @@
 -- by place.
 use Rattle.std.specs.Prelude.{ℕ, zero, suc, ◌+◌, ◌*◌, ◌/◌, ◌%◌, ◌^◌, ◌≤◌, ◌<◌, Bool, true, false, List, [], ◌∷◌, ◌++◌, ◌≡◌, ltb, ℤ, pos, length, get_or}
 use Rattle.constellation.specs.Layouts.{layout_of, ToneLayout}
-use Rattle.constellation.specs.Reading.{FoundLabelIs}
-use Rattle.constellation.specs.declared.FoundLabel.{FoundLabel}
-use Rattle.cosets.specs.Meters.{Meter, tone_meter, cost_of, LeastOf, CosetLabel, BestLabel, LabelOf, shared_costs, LeastCoset}
+use Rattle.cosets.specs.Meters.{Meter, tone_meter, cost_of, LeastOf, CosetLabel, PointOfLabel, BestLabel, LabelOf, shared_costs, LeastCoset}
 use Rattle.cosets.specs.Nearest.{InRange, OneCostsOf, SmallCosts}
 use Rattle.cosets.specs.declared.Costs.{Costs}
 use Rattle.frame.specs.Labels.{Rising}
 use Rattle.g9932.specs.Bits.{weight, odd, bits}
 use Rattle.g9932.specs.Order.{is_one}
-use Rattle.g9932.specs.Points.{label_of}
-use Rattle.g9932.specs.Sizes.{entry, Point, origin, most_tones}
+use Rattle.g9932.specs.Sizes.{entry, Point, origin, most_tones, point_at}
 use Rattle.g9932.specs.Trellis.{zero_state}
 use Rattle.g9932.specs.declared.LowBits.{LowBits}
-use Rattle.mapper.specs.Reading.{point_at}
 use Rattle.paths.specs.Frames.{PairMeter, Matches}
 use Rattle.paths.specs.Paths.{Branch, Shortest}
 use Rattle.paths.specs.Survivors.{follow, state_at, low_at, Surviving}
 use Rattle.trellis.specs.Steps.{state_at as state_of}
+use Rattle.decisions.specs.CostLists.{costs_of}
 use Rattle.decisions.specs.Entries.{meter_at}
+use Rattle.decisions.specs.declared.cost_lists.CostLists.{CostLists}
 
--- ---- by place: four lists, one for each coset
-
-abbrev pub costs_of : List ℕ → List ℕ → List ℕ → List ℕ → ℕ → Costs
-costs_of k0 k1 k2 k3 i = record { c0 = entry k0 i; c1 = entry k1 i; c2 = entry k2 i; c3 = entry k3 i }
+-- ---- by place
 
 -- every place has a tone's layout and a point in range
 pub record PlaceNeeds (layouts : List ℕ) (xs ys : List ℤ) : Type 0 where
@@ -35,13 +30,6 @@ pub record PlaceNeeds (layouts : List ℕ) (xs ys : List ℤ) : Type 0 where
   pub y_in_range : (i : ℕ) → i < length xs → InRange (get_or ys i (pos 0))
   pub few : length xs ≤ most_tones
 
-pub record CostNeeds (layouts : List ℕ) (xs ys : List ℤ) (k0 k1 k2 k3 : List ℕ) : Type 0 where
-  pub places : PlaceNeeds layouts xs ys
-  pub length0 : length k0 ≡ length xs
-  pub length1 : length k1 ≡ length xs
-  pub length2 : length k2 ≡ length xs
-  pub length3 : length k3 ≡ length xs
-
 -- what a tone that was received at p costs, whatever its bits
 pub record PlaceCosts (layout : ℕ) (p : Point) (r : Costs) : Type 0 where
   pub tone : (b : ℕ) → 2 ≤ b → b ≤ 15 → layout ≡ layout_of b → LeastOf (tone_meter b p) (cost_of r)
@@ -49,33 +37,22 @@ pub record PlaceCosts (layout : ℕ) (p : Point) (r : Costs) : Type 0 where
   pub small : SmallCosts r
 
 -- of the first n places
-pub record Costed (layouts : List ℕ) (q : List Point) (k0 k1 k2 k3 : List ℕ) (n : ℕ) : Type 0 where
-  pub costs : (i : ℕ) → i < n → PlaceCosts (entry layouts i) (get_or q i origin) (costs_of k0 k1 k2 k3 i)
-  pub length0 : length k0 ≡ length layouts
-  pub length1 : length k1 ≡ length layouts
-  pub length2 : length k2 ≡ length layouts
-  pub length3 : length k3 ≡ length layouts
+pub record Costed (layouts : List ℕ) (q : List Point) (ks : CostLists) (n : ℕ) : Type 0 where
+  pub costs : (i : ℕ) → i < n → PlaceCosts (entry layouts i) (get_or q i origin) (costs_of ks i)
 
 -- ---- by entry: those of its tone, or of the two that share it
 
-abbrev pub cost_by : Bool → List ℕ → List ℕ → List ℕ → List ℕ → ℕ → Costs
-cost_by true k0 k1 k2 k3 p = costs_of k0 k1 k2 k3 p
-cost_by false k0 k1 k2 k3 p = shared_costs (costs_of k0 k1 k2 k3 p) (costs_of k0 k1 k2 k3 (p + 1))
+abbrev pub cost_by : Bool → CostLists → ℕ → Costs
+cost_by true ks p = costs_of ks p
+cost_by false ks p = shared_costs (costs_of ks p) (costs_of ks (p + 1))
 
-abbrev pub entry_costs : ℕ → List ℕ → List ℕ → List ℕ → List ℕ → List ℕ → ℕ → Costs
-entry_costs from ps k0 k1 k2 k3 k = cost_by (ltb (entry ps k) from) k0 k1 k2 k3 (entry ps k)
+abbrev pub entry_costs : ℕ → List ℕ → CostLists → ℕ → Costs
+entry_costs from ps ks k = cost_by (ltb (entry ps k) from) ks (entry ps k)
 
--- the four lists, as long, with costs that can be added; and the places that rise in them, a shared one with the next
-pub record CostLists (k0 k1 k2 k3 : List ℕ) : Type 0 where
-  pub length1 : length k1 ≡ length k0
-  pub length2 : length k2 ≡ length k0
-  pub length3 : length k3 ≡ length k0
-  pub small : (i : ℕ) → i < length k0 → SmallCosts (costs_of k0 k1 k2 k3 i)
-
-pub record EntryNeeds (from : ℕ) (ps k0 k1 k2 k3 : List ℕ) : Type 0 where
-  pub lists : CostLists k0 k1 k2 k3
-  pub inside : (k : ℕ) → k < length ps → entry ps k < length k0
-  pub shared_inside : (k : ℕ) → k < length ps → from ≤ entry ps k → suc (entry ps k) < length k0
+-- the entries' places, a shared one with the next, are in the lists
+pub record EntryNeeds (from : ℕ) (ps : List ℕ) : Type 0 where
+  pub inside : (k : ℕ) → k < length ps → entry ps k < most_tones
+  pub shared_inside : (k : ℕ) → k < length ps → from ≤ entry ps k → suc (entry ps k) < most_tones
 
 -- ---- entries in pairs, the first with x = 0 where their number is odd
 
@@ -100,16 +77,16 @@ abbrev pub lone_in : List ℕ → ℕ
 lone_in ps = length ps % 2
 
 -- the entries' costs are those of these meters, of at least 2 bits each
-pub record MeterCosts (ms : List Meter) (from : ℕ) (ps k0 k1 k2 k3 : List ℕ) : Type 0 where
+pub record MeterCosts (ms : List Meter) (from : ℕ) (ps : List ℕ) (ks : CostLists) : Type 0 where
   pub count : length ms ≡ length ps
   pub bits_least : (k : ℕ) → k < length ms → 2 ≤ (get_or ms k no_meter).bits
-  pub costs : (k : ℕ) → k < length ms → LeastOf (get_or ms k no_meter) (cost_of (entry_costs from ps k0 k1 k2 k3 k))
+  pub costs : (k : ℕ) → k < length ms → LeastOf (get_or ms k no_meter) (cost_of (entry_costs from ps ks k))
 
 -- ---- add, compare, select
 
 -- 16 survivors a pair
-pub record PathNeeds (from : ℕ) (ps k0 k1 k2 k3 σ : List ℕ) : Type 0 where
-  pub entries : EntryNeeds from ps k0 k1 k2 k3
+pub record PathNeeds (from : ℕ) (ps σ : List ℕ) : Type 0 where
+  pub entries : EntryNeeds from ps
   pub enough : 4 ≤ length ps
   pub many : length ps ≤ most_tones
   pub sixteens : length σ ≡ 16 * ((length ps + 1) / 2)
@@ -158,7 +135,6 @@ pub record TraceNeeds (ps σ labels : List ℕ) : Type 0 where
 
 -- n is the number of the state before pair j
 pub record StateBefore (σ : List ℕ) (j n : ℕ) : Type 0 where
-  pub small : n < 16
   pub is : state_of n ≡ state_at σ j
 
 -- the first n entries have the lowest bits that the survivors give, at their places
@@ -181,10 +157,10 @@ pub record PlaceLabel (layout : ℕ) (p : Point) (low r : ℕ) : Type 0 where
   pub tone : (b : ℕ) → 2 ≤ b → b ≤ 15 → layout ≡ layout_of b → (r < 2 ^ b) × CosetLabel (tone_meter b p) (odd (low / 2)) (odd low) (bits b r)
   pub one : layout ≡ layout_of 1 → r ≡ low
 
--- by its point: the label that is found for q is such a one
+-- by its point: q is that of such a label
 abbrev pub PlacePoint : ℕ → Point → ℕ → Point → Type 0
 PlacePoint layout p low q =
-    (b : ℕ) → 2 ≤ b → b ≤ 15 → layout ≡ layout_of b → (f : FoundLabel) → FoundLabelIs f (label_of b q) → (f.label < 2 ^ b) × CosetLabel (tone_meter b p) (odd (low / 2)) (odd low) (bits b f.label)
+    (b : ℕ) → 2 ≤ b → b ≤ 15 → layout ≡ layout_of b → PointOfLabel b q (CosetLabel (tone_meter b p) (odd (low / 2)) (odd low))
 
 pub record PointNeeds (layouts : List ℕ) (xs ys : List ℤ) (lows : List ℕ) (near_xs near_ys : List ℤ) : Type 0 where
   pub places : PlaceNeeds layouts xs ys
@@ -219,24 +195,19 @@ pub record PlaceLabels (layouts : List ℕ) (q : List Point) (lows labels : List
 
 -- ---- uncoded: the nearest coset of each place
 
-pub record LeastNeeds (layouts k0 k1 k2 k3 labels : List ℕ) : Type 0 where
-  pub length0 : length k0 ≡ length layouts
-  pub length1 : length k1 ≡ length layouts
-  pub length2 : length k2 ≡ length layouts
-  pub length3 : length k3 ≡ length layouts
+pub record LeastNeeds (layouts labels : List ℕ) : Type 0 where
   pub labels_length : length labels ≡ length layouts
-  pub small : (i : ℕ) → i < length layouts → SmallCosts (costs_of k0 k1 k2 k3 i)
+  pub few : length layouts ≤ most_tones
 
 -- the nearest coset of a place, by its lowest bits and its cost
-abbrev pub LeastAt : List ℕ → List ℕ → List ℕ → List ℕ → List ℕ → List ℕ → List ℕ → ℕ → Type 0
-LeastAt layouts k0 k1 k2 k3 lows costs i = LeastCoset (entry layouts i) (costs_of k0 k1 k2 k3 i) (record { low = entry lows i; cost = entry costs i })
+abbrev pub LeastAt : List ℕ → CostLists → List ℕ → List ℕ → ℕ → Type 0
+LeastAt layouts ks lows costs i = LeastCoset (entry layouts i) (costs_of ks i) (record { low = entry lows i; cost = entry costs i })
 
 -- of the first n places; the others have the first coset's cost
-pub record LeastPlaces (layouts k0 k1 k2 k3 lows costs : List ℕ) (n : ℕ) : Type 0 where
-  pub least : (i : ℕ) → i < n → LeastAt layouts k0 k1 k2 k3 lows costs i
-  pub kept : (i : ℕ) → n ≤ i → entry costs i ≡ entry k0 i
+pub record LeastPlaces (layouts : List ℕ) (ks : CostLists) (lows : List ℕ) (after : CostLists) (n : ℕ) : Type 0 where
+  pub least : (i : ℕ) → i < n → LeastAt layouts ks lows after.c0 i
+  pub kept : (i : ℕ) → n ≤ i → costs_of after i ≡ costs_of ks i
   pub lows_length : length lows ≡ length layouts
-  pub costs_length : length costs ≡ length layouts
 
 -- entries at places below n
 pub record PlacesBelow (ps : List ℕ) (n : ℕ) : Type 0 where
@@ -248,14 +219,14 @@ abbrev pub total_at : List ℕ → List ℕ → ℕ
 total_at costs [] = 0
 total_at costs (p ∷ ps) = entry costs p + total_at costs ps
 
-pub record ToneNeeds (layouts ps k0 k1 k2 k3 labels : List ℕ) : Type 0 where
-  pub places : LeastNeeds layouts k0 k1 k2 k3 labels
+pub record ToneNeeds (layouts ps labels : List ℕ) : Type 0 where
+  pub places : LeastNeeds layouts labels
   pub entries : PlacesBelow ps (length layouts)
 
 -- the lowest bits of the nearest cosets, and what those of the entries cost
-pub record LeastLows (layouts ps k0 k1 k2 k3 lows : List ℕ) (n : ℕ) : Type 0 where
+pub record LeastLows (layouts ps : List ℕ) (ks : CostLists) (lows : List ℕ) (n : ℕ) : Type 0 where
   pub costs : List ℕ
-  pub least : (i : ℕ) → i < length layouts → LeastAt layouts k0 k1 k2 k3 lows costs i
+  pub least : (i : ℕ) → i < length layouts → LeastAt layouts ks lows costs i
   pub total : n ≡ total_at costs ps
 
 -- nearest labels one after the other, as bits, and their cost

@@ -1,6 +1,7 @@
 -- The loop that reads pair by pair: the frame bits so far and the reading of the rest make the whole reading.
+use Rattle.std.specs.Prelude.{None, Some, Ok}
 use mathlib.Core.Path.{◌≡◌, refl, sym, ap, ◌∙◌}
-use mathlib.Core.Bool.{Bool, true, false}
+use mathlib.Core.Bool.{Bool, true, false, true≢false}
 use mathlib.Core.List.{List, [], ◌∷◌, ◌++◌, append_assoc, append-nil}
 use Prim.Native.Nat.{ℕ, suc, ◌+◌, ◌-◌, ◌/◌, ◌≤◌, ◌<◌}
 use native.Mathlib.Nat.{zero-add}
@@ -17,10 +18,8 @@ use Rattle.g9932.specs.Answers.{break_in}
 use Rattle.g9932.specs.Bits.{bits}
 use Rattle.g9932.specs.Order.{Wide, Pair, pair, in_twos}
 use Rattle.g9932.specs.Trellis.{Word, Reading, frame, breaks, after as after', last_two, taken, width, decoded_word, decoded_at, obeys_code, taken_bits, next_of, read_pairs, taken_total}
-use Rattle.g9932.specs.declared.Found.TheVariants.{At, Nothing}
-use Rattle.decoder.specs.Reading.{decoded_in, ReadPairNeeds, ReadsPair, ReadPairsNeeds, onward, reading_from, ReadsFrom, CollectsFrom}
+use Rattle.decoder.specs.Reading.{decoded_in, ReadPairNeeds, GoesOn, ReadPairsNeeds, onward, reading_from, ReadsFrom}
 use Rattle.decoder.specs.declared.Reader.{Reader}
-use Rattle.decoder.specs.declared.PairRead.{PairRead}
 use Rattle.trellis.proofs.Entries.{cut_pair, pair_wide, in_twos_short, is_forced_lem}
 use Rattle.decoder.proofs.DecodePair.{length_takes}
 use Rattle.g9932.proofs.Search.{found_not}
@@ -38,18 +37,26 @@ after_one : (n : ℕ) (b x : List Bool) (r : Reading) → after_pairs n b (after
 after_one n b x (frame f) = ap frame (sym (append_assoc b x f))
 after_one n b x (breaks k) = ap breaks (let e : n + suc k ≡ n + 1 + k = omega arith in e)
 
--- the bits so far in any case; the whole reading where S says that the pairs so far obey the code
-pub record Decoding (S : Type 0) (c k : Reader) (es labels out₀ out : List ℕ) (from i : ℕ) : Type 0 where
+-- no pair breaks the code
+abbrev pub Unbroken : Reader → List ℕ → ℕ → List ℕ → Type 0
+Unbroken c es i labels = break_in (reading_from c es i labels) ≡ None
+
+-- where pairs are not checked, none breaks the code
+abbrev pub Sure : Bool → Reader → List ℕ → ℕ → List ℕ → Type 0
+Sure check c es i labels = check ≡ false → Unbroken c es i labels
+
+-- the bits so far in any case; the whole reading where it is sure that the pairs so far obey the code
+pub record Decoding (check : Bool) (c k : Reader) (es labels out₀ out : List ℕ) (from i : ℕ) : Type 0 where
   pub kept : length out ≡ length out₀
   pub needs : ReadPairsNeeds k es i labels out
   pub pairs : ℕ
   numbered : pairs + (from + 1) / 2 ≡ (i + 1) / 2
   pub done : List Bool
   pub so_far : written k.writer out ≡ written c.writer out₀ ++ done
-  pub rest : S → reading_from c es from labels ≡ after_pairs pairs done (reading_from k es i labels)
+  pub rest : Sure check c es from labels → reading_from c es from labels ≡ after_pairs pairs done (reading_from k es i labels)
   pub counted : bits_put k.writer + taken_total (in_twos (drop i es)) ≡ bits_put c.writer + taken_total (in_twos (drop from es))
 
-pub decoding_start : {S : Type 0} {c : Reader} {es labels out : List ℕ} {from : ℕ} → ReadPairsNeeds c es from labels out → Decoding S c c es labels out out from from
+pub decoding_start : {check : Bool} {c : Reader} {es labels out : List ℕ} {from : ℕ} → ReadPairsNeeds c es from labels out → Decoding check c c es labels out out from from
 decoding_start {c = c} {es = es} {labels = labels} {out = out} {from = from} r =
     record {
       kept = refl;
@@ -62,37 +69,29 @@ decoding_start {c = c} {es = es} {labels = labels} {out = out} {from = from} r =
       counted = refl;
     }
 
-pub decoding_end : {S : Type 0} {c k : Reader} {es labels out₀ out : List ℕ} {from i : ℕ} → Decoding S c k es labels out₀ out from i → length es ≤ i + 1 → S
-    → ReadsFrom c es from labels out₀ (record { broken = Nothing; writer = k.writer }) out
+-- the entry, told otherwise
+pub decoding_to : {check : Bool} {c k : Reader} {es labels out₀ out : List ℕ} {from i j : ℕ} → Decoding check c k es labels out₀ out from i → i ≡ j
+    → Decoding check c k es labels out₀ out from j
+decoding_to g e = rw e at g
+
+pub decoding_end : {check : Bool} {c k : Reader} {es labels out₀ out : List ℕ} {from i : ℕ} → Decoding check c k es labels out₀ out from i → length es ≤ i + 1
+    → ReadsFrom check c es from labels out₀ (Ok k.writer) out
 unfolding read_pairs
-decoding_end {c = c} {k = k} {es = es} {labels = labels} {from = from} {i = i} g h s =
+decoding_end {check = check} {c = c} {es = es} {labels = labels} {from = from} {i = i} g h =
     let e : in_twos (drop i es) ≡ [] = in_twos_short (drop i es) (simp length-drop (omega arith)) in
-    let r : reading_from c es from labels ≡ frame (g.done ++ []) = g.rest s ∙ rw e in
-    record {
-      broken = rw r;
-      whole = λ _. g.so_far ∙ rw (r, append-nil g.done);
-      waits = g.needs.waits;
-      counted = λ _. omega (arith, rw e at g.counted);
-    }
-
--- no pair breaks the code
-abbrev pub Unbroken : Reader → List ℕ → ℕ → List ℕ → Type 0
-Unbroken c es i labels = break_in (reading_from c es i labels) ≡ Nothing
-
-pub collecting_end : {c k : Reader} {es labels out₀ out : List ℕ} {from i : ℕ} → Decoding (Unbroken c es from labels) c k es labels out₀ out from i → length es ≤ i + 1
-    → CollectsFrom c es from labels out₀ k.writer out
-collecting_end {es = es} {i = i} g h =
-    let e : in_twos (drop i es) ≡ [] = in_twos_short (drop i es) (simp length-drop (omega arith)) in
-    record {
-      whole = λ z. (decoding_end g h z).whole refl;
-      waits = g.needs.waits;
-      counted = omega (arith, rw e at g.counted);
-    }
+    let r : Sure check c es from labels → reading_from c es from labels ≡ frame (g.done ++ []) = λ s. g.rest s ∙ rw e in (
+      λ t. ap break_in (r (λ f. absurd (true≢false (sym t ∙ f)))),
+      record {
+        whole = λ z. g.so_far ∙ rw (r (λ _. z), append-nil g.done);
+        waits = g.needs.waits;
+        counted = omega (arith, rw e at g.counted);
+      },
+    )
 
 -- the pair at hand: x and y are the entries at i, v and w their labels
-pub record AtPair (S : Type 0) (c k : Reader) (es labels out₀ out : List ℕ) (from i x y v w : ℕ) (forced : Bool) : Type 0 where
+pub record AtPair (check : Bool) (c k : Reader) (es labels out₀ out : List ℕ) (from i x y v w : ℕ) (forced : Bool) : Type 0 where
   pub wide : Wide es
-  pub up_to : Decoding S c k es labels out₀ out from i
+  pub up_to : Decoding check c k es labels out₀ out from i
   pub more : i + 1 < length es
   pub is_x : x ≡ get_or es i 0
   pub is_y : y ≡ get_or es (i + 1) 0
@@ -100,7 +99,12 @@ pub record AtPair (S : Type 0) (c k : Reader) (es labels out₀ out : List ℕ) 
   pub is_w : w ≡ get_or labels (i + 1) 0
   pub is_forced : forced ≡ ltb (length es - i) 6
 
-module _ {S : Type 0} {c k : Reader} {es labels out₀ out : List ℕ} {from i x y v w : ℕ} {forced : Bool} (h : AtPair S c k es labels out₀ out from i x y v w forced) where
+pub at_pair : {check : Bool} {c k : Reader} {es labels out₀ out : List ℕ} {from i x y v w : ℕ} → Wide es → Decoding check c k es labels out₀ out from i → i + 1 < length es
+    → x ≡ get_or es i 0 → y ≡ get_or es (i + 1) 0 → v ≡ get_or labels i 0 → w ≡ get_or labels (i + 1) 0 → AtPair check c k es labels out₀ out from i x y v w (ltb (length es - i) 6)
+at_pair wide g h is_x is_y is_v is_w =
+    record { wide = wide; up_to = g; more = h; is_x = is_x; is_y = is_y; is_v = is_v; is_w = is_w; is_forced = refl }
+
+module _ {check : Bool} {c k : Reader} {es labels out₀ out : List ℕ} {from i x y v w : ℕ} {forced : Bool} (h : AtPair check c k es labels out₀ out from i x y v w forced) where
   cut : in_twos (drop i es) ≡ pair x y ∷ in_twos (drop (i + 2) es)
   cut = cut_pair es i x y h.more h.is_x h.is_y
 
@@ -145,35 +149,37 @@ module _ {S : Type 0} {c k : Reader} {es labels out₀ out : List ℕ} {from i x
   after_is : drop (width (pair x y)) (bits_of_labels (drop i es) (drop i labels)) ≡ later
   after_is = ap (drop (width (pair x y))) cut_labels ∙ drop_at (bits x v ++ bits y w) later (width (pair x y)) sized
 
-  module _ {p : PairRead} {after : List ℕ} (reads : ReadsPair k forced (pair x y) v w out p after) where
-    obeys_is : p.obeys ≡ obeys_code (last_two (in_twos (drop (i + 2) es))) k.state (decoded_in (pair x y) v w)
-    obeys_is = reads.obeys ∙ ap (λ (b : Bool). obeys_code b k.state (decoded_in (pair x y) v w)) last_two_lem
+  abbrev obeys : Bool
+  obeys = obeys_code forced k.state (decoded_in (pair x y) v w)
 
-    -- a pair that breaks the code
-    pub decoding_broken : p.obeys ≡ false → S → ReadsFrom c es from labels out₀ (record { broken = At ((i + 1) / 2); writer = k.writer }) after
-    decoding_broken e z =
-        let g = h.up_to in
-        let s : read_pairs k.state (pair x y ∷ in_twos (drop (i + 2) es)) (bits_of_labels (drop i es) (drop i labels)) ≡ breaks 0 =
-        read_stop (pair x y) (in_twos (drop (i + 2) es)) k.state (bits_of_labels (drop i es) (drop i labels)) (rw decoded_is (sym obeys_is ∙ e)) in
-        let r : reading_from c es from labels ≡ breaks (g.pairs + 0) = g.rest z ∙ rw (cut, s) in
-        record {
-          broken = rw r (ap At (let n = g.numbered in let m : (i + 1) / 2 ≡ (from + 1) / 2 + (g.pairs + 0) = omega arith in m));
-          whole = λ z. absurd (found_not z);
-          waits = g.needs.waits;
-          counted = λ z. absurd (found_not z);
-        }
+  obeys_is : obeys ≡ obeys_code (last_two (in_twos (drop (i + 2) es))) k.state (decoded_in (pair x y) v w)
+  obeys_is = ap (λ (b : Bool). obeys_code b k.state (decoded_in (pair x y) v w)) last_two_lem
 
-    -- where none breaks it, this pair does not
-    pub pair_obeys : (S → Unbroken c es from labels) → S → p.obeys ≡ true
-    pair_obeys u s = go p.obeys refl
+  -- a pair that breaks the code
+  breaks_here : obeys ≡ false → Sure check c es from labels → break_in (reading_from c es from labels) ≡ Some (h.up_to.pairs + 0)
+  breaks_here e z =
+      let s : read_pairs k.state (pair x y ∷ in_twos (drop (i + 2) es)) (bits_of_labels (drop i es) (drop i labels)) ≡ breaks 0 =
+      read_stop (pair x y) (in_twos (drop (i + 2) es)) k.state (bits_of_labels (drop i es) (drop i labels)) (rw decoded_is (sym obeys_is ∙ e)) in
+      let r : reading_from c es from labels ≡ breaks (h.up_to.pairs + 0) = h.up_to.rest z ∙ rw (cut, s) in
+      ap break_in r
+
+  pub decoding_broken : check ≡ true → obeys ≡ false → (check ≡ true) × (onward ((from + 1) / 2) (break_in (reading_from c es from labels)) ≡ Some ((i + 1) / 2))
+  decoding_broken t e =
+      let n : (from + 1) / 2 + (h.up_to.pairs + 0) ≡ (i + 1) / 2 = omega (arith, h.up_to.numbered) in
+      (t, ap (onward ((from + 1) / 2)) (breaks_here e (λ f. absurd (true≢false (sym t ∙ f)))) ∙ ap Some n)
+
+  module _ {r : Reader} {after : List ℕ} (reads : GoesOn check k forced (pair x y) v w out r after) where
+    -- it obeys the code where it is checked, or where none breaks it
+    obeyed : Sure check c es from labels → obeys ≡ true
+    obeyed s = go check refl obeys refl
       where
-        go : (b : Bool) → p.obeys ≡ b → p.obeys ≡ true
-        go true e = e
-        go false e = absurd (found_not ((decoding_broken e s).broken ∙ ap (onward ((from + 1) / 2)) (u s)))
+        go : (b : Bool) → check ≡ b → (o : Bool) → obeys ≡ o → obeys ≡ true
+        go true e o f = reads.obeys e
+        go false e true f = f
+        go false e false f = absurd (found_not (sym (breaks_here f s) ∙ s e))
 
-    -- a pair that obeys it
-    pub decoding_step : (S → p.obeys ≡ true) → length after ≡ length out → Decoding S c p.reader es labels out₀ after from (i + 2)
-    decoding_step e same =
+    pub decoding_step : length after ≡ length out → Decoding check c r es labels out₀ after from (i + 2)
+    decoding_step same =
         let u : Word = decoded_in (pair x y) v w in
         let ps : List Pair = in_twos (drop (i + 2) es) in
         let f : List Bool = bits_of_labels (drop i es) (drop i labels) in
@@ -185,8 +191,8 @@ module _ {S : Type 0} {c k : Reader} {es labels out₀ out : List ℕ} {from i x
         let t = rw cut at g.counted in
         let l = reads.puts.counted in
         let n = length_takes x y v w q.0 q.2 pair_needs.v_small pair_needs.w_small forced in
-        let o : S → read_pairs k.state (pair x y ∷ ps) f ≡ after' (taken_bits (last_two ps) x u) (read_pairs (next_of k.state u) ps later) =
-        λ z. read_on (pair x y) ps k.state f u later decoded_is after_is (sym obeys_is ∙ e z) in
+        let o : Sure check c es from labels → read_pairs k.state (pair x y ∷ ps) f ≡ after' (taken_bits (last_two ps) x u) (read_pairs (next_of k.state u) ps later) =
+        λ z. read_on (pair x y) ps k.state f u later decoded_is after_is (sym obeys_is ∙ obeyed z) in
         record {
           kept = same ∙ g.kept;
           needs =

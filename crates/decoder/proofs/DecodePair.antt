@@ -1,8 +1,8 @@
 -- One pair read: what the code works out in numbers is the word that the labels imply and its frame bits.
 use mathlib.Core.Path.{◌≡◌, refl, sym, ap, ◌∙◌}
-use mathlib.Core.Bool.{Bool, true, false, not}
+use mathlib.Core.Bool.{Bool, true, false, not, ◌&&◌, true≢false}
 use mathlib.Core.List.{List, ◌∷◌, ◌++◌}
-use Prim.Native.Nat.{ℕ, zero, suc, ◌+◌, ◌-◌, ◌*◌, ◌/◌, ◌^◌, ◌≤◌, ◌<◌}
+use Prim.Native.Nat.{ℕ, zero, suc, ◌+◌, ◌-◌, ◌*◌, ◌/◌, ◌%◌, ◌^◌, ◌≤◌, ◌<◌}
 use native.Mathlib.Nat.{lt_of_lt_of_le, mul_comm, mul-le-mul_left, mod-eq_of_lt}
 use native.Mathlib.Omega.{arith}
 use lib.ListN.{length, take, drop, length-append, length-drop}
@@ -17,6 +17,17 @@ use Rattle.g9932.proofs.Words.{num_append, num_bits, num_lt, num_drop, length_bi
 use Rattle.decoder.specs.Reading.{decoded_of, word_by, taken_number, decoded_in}
 use Rattle.decoder.specs.declared.PairWord.{PairWord}
 use Rattle.trellis.proofs.Numbers.{lowest, bit_num}
+
+-- a pair is checked and breaks the code, or it goes on
+pub both_true : (k o : Bool) → k && not o ≡ true → (k ≡ true) × (o ≡ false)
+both_true true false e = (refl, refl)
+both_true true true e = absurd (true≢false (sym e))
+both_true false o e = absurd (true≢false (sym e))
+
+pub not_both : (k o : Bool) → k && not o ≡ false → k ≡ true → o ≡ true
+not_both true true e f = refl
+not_both true false e f = absurd (true≢false e)
+not_both false o e f = absurd (true≢false (sym f))
 
 -- what the code has of a word
 pub record IsDecoded (u : Word) (r : PairWord) : Type 0 where
@@ -129,6 +140,10 @@ pub decoded_fits : (w x : ℕ) → x ≤ 15 → w < 32768 → w / 4 * 2 ^ (x - 2
 decoded_fits w x h k =
     let a : w / 4 * 2 ^ (x - 2) ≤ w / 4 * 8192 = mul-le-mul_left (w / 4) (pow_mono {j = 13} (omega arith)) in
     omega arith
+
+-- and nothing of it is shifted out
+pub decoded_shift : (w x : ℕ) → x ≤ 15 → w < 32768 → w / 4 * 2 ^ (x - 2) % 4294967296 ≡ w / 4 * 2 ^ (x - 2)
+decoded_shift w x h k = mod-eq_of_lt (omega (arith, decoded_fits w x h k))
 
 -- ---- a first pair with x = 0: the labels d are w alone
 

@@ -6,13 +6,13 @@ ghost use Rattle.std.specs.Prelude.{◌≡◌, false, ◌^◌, ◌≤◌, ◌<�
 ghost use Rattle.frame.specs.Labels.{labels_at, Placed, Rising};
 ghost use Rattle.g9932.specs.Sizes.{most_tones};
 ghost use Rattle.g9932.specs.Order.{Wide, pair};
-ghost use Rattle.g9932.specs.Trellis.{taken, next_state, obeys_code};
-ghost use Rattle.decoder.specs.Reading.{first_reader, decoded_of, word_by, taken_number, ReadPairNeeds, ReadsPair, CollectsPair, ReadPairsNeeds, ReadsFrom, ReadLabelNeeds, ReadsLabels, CollectsFrom, CollectsPairs};
+ghost use Rattle.g9932.specs.Trellis.{taken, obeys_code};
+ghost use Rattle.decoder.specs.Reading.{first_reader, decoded_of, word_by, taken_number, ReadPairNeeds, ReadsPair, ReadPairsNeeds, ReadsFrom, ReadLabelNeeds, ReadsPairs, ReadsLabels, CollectsPairs};
 
 use frame::BitWriter;
 use frame::by_place::{label_at, place_at};
-use g9932::{Found, TrellisState};
-use trellis::{entry, label, power, weight, zero_state};
+use g9932::{Entries, TrellisState};
+use trellis::{entry, label, zero_state};
 
 // The word that a pair's labels imply: u0 to u3 and, as a number, u4 upward.
 #[derive(Clone, Copy)]
@@ -24,7 +24,8 @@ pub struct PairWord {
     pub high: u32,
 }
 
-// The word of the labels of a pair, v having x bits.
+// The word of the labels of a pair, v having x bits. The bounds of a pair's counts are clauses, not types: `Wide` says them of all entries,
+// and each pair's come from there.
 fn decode_word(v: u32, w: u32, x: usize) -> PairWord
     requires { (2 ≤ x) × (x ≤ 15) × (v < 2 ^ 15) × (w < 2 ^ 15) }
     ensures { result ≡ decoded_of v w x }
@@ -38,7 +39,7 @@ fn decode_word(v: u32, w: u32, x: usize) -> PairWord
         u1: v0 ^ v1,
         u2: v0 ^ w0,
         u3: v0,
-        high: v / 4 + w / 4 * power(x - 2),
+        high: v / 4 + ((w / 4) << (x - 2)),
     }
 }
 
@@ -47,9 +48,9 @@ fn obeys_code(s: TrellisState, forced: bool, u: PairWord) -> bool
     ensures { result ≡ obeys_code forced s (word_by u) }
 {
     if forced {
-        return !(u.u0 ^ s.s0) & !(u.u1 ^ (s.s1 ^ s.s3)) & !(u.u2 ^ s.s2);
+        return (u.u0 == s.s0) & (u.u1 == s.s1 ^ s.s3) & (u.u2 == s.s2);
     }
-    !(u.u0 ^ s.s0)
+    u.u0 == s.s0
 }
 
 // How many bits a pair takes from the frame.
@@ -68,19 +69,11 @@ fn taken_number(forced: bool, u: PairWord) -> u32
     requires { u.high < 2 ^ 26 }
     ensures { result ≡ taken_number forced u }
 {
-    let free = weight(u.u3) + 2 * u.high;
+    let free = u32::from(u.u3) + 2 * u.high;
     if forced {
         return free;
     }
     label(u.u1, u.u2, free)
-}
-
-// The state after a pair.
-fn next_state(s: TrellisState, u1: bool, u2: bool) -> TrellisState
-    ensures { result ≡ next_state s u1 u2 }
-{
-    let t = s.step(u1, u2, false);
-    t.next
 }
 
 // The reader between two pairs: the state, and the writer of frame bits.
@@ -90,15 +83,8 @@ pub struct Reader {
     pub writer: BitWriter,
 }
 
-// A pair read: whether it obeys the code, and the reader after it.
-#[derive(Clone, Copy)]
-pub struct PairRead {
-    pub obeys: bool,
-    pub reader: Reader,
-}
-
-// Reads a pair with x at least 2, by its labels.
-fn read_pair(
+// Reads a pair with x at least 2, by its labels: the reader after it, or nothing where it is checked and breaks the code.
+fn read_pair<const CHECK: bool>(
     c: Reader,
     forced: bool,
     x: usize,
@@ -106,40 +92,45 @@ fn read_pair(
     v: u32,
     w: u32,
     frame: &mut [u8],
-) -> PairRead
+) -> Option<Reader>
     requires { (2 ≤ x) × (x ≤ 15) × (2 ≤ y) × (y ≤ 15) × ReadPairNeeds c (pair x y) v w frame.old }
-    ensures { ReadsPair c forced (pair x y) v w frame.old result frame.new }
+    ensures { ReadsPair CHECK c forced (pair x y) v w frame.old result frame.new }
 {
-    let s = c.state;
-    let writer = c.writer;
     let u = decode_word(v, w, x);
-    let next = next_state(s, u.u1, u.u2);
-    let reader = Reader {
-        state: next,
-        writer: writer.put(frame, taken_count(forced, x, y), taken_number(forced, u)),
-    };
-    PairRead {
-        obeys: obeys_code(s, forced, u),
-        reader,
+    let breaks = CHECK & !obeys_code(c.state, forced, u);
+    let t = c.state.step(u.u1, u.u2, u.u3);
+    let count = taken_count(forced, x, y);
+    let writer = c.writer.put(frame, count, taken_number(forced, u));
+    if breaks {
+        return None;
     }
+    Some(Reader {
+        state: t.next,
+        writer,
+    })
 }
 
-// Reads a first pair with x = 0: it has no label v.
-fn read_first(writer: BitWriter, y: usize, w: u32, frame: &mut [u8]) -> PairRead
+// Reads a first pair with x = 0, which has no label v, likewise.
+fn read_first<const CHECK: bool>(
+    writer: BitWriter,
+    y: usize,
+    w: u32,
+    frame: &mut [u8],
+) -> Option<Reader>
     requires { (2 ≤ y) × (y ≤ 15) × ReadPairNeeds (first_reader writer) (pair 0 y) 0 w frame.old }
-    ensures { ReadsPair (first_reader writer) false (pair 0 y) 0 w frame.old result frame.new }
+    ensures { ReadsPair CHECK (first_reader writer) false (pair 0 y) 0 w frame.old result frame.new }
 {
     let w0 = w % 2 == 1;
     let w1 = w / 2 % 2 == 1;
-    let next = next_state(zero_state(), false, w0);
-    let reader = Reader {
-        state: next,
-        writer: writer.put(frame, y - 1, weight(w0) + 2 * (w / 4)),
-    };
-    PairRead {
-        obeys: !(w0 ^ w1),
-        reader,
+    if CHECK && w0 ^ w1 {
+        return None;
     }
+    let t = zero_state().step(false, w0, false);
+    let after = writer.put(frame, y - 1, u32::from(w0) + 2 * (w / 4));
+    Some(Reader {
+        state: t.next,
+        writer: after,
+    })
 }
 
 // The label of an entry, from its place.
@@ -147,174 +138,86 @@ fn entry_label(labels: &[u16], places: &[u16], i: usize) -> u32
     requires { (i < length places.now) × Rising places.now (length labels.now) }
     ensures { result ≡ get_or (labels_at places.now labels.now) i 0 }
 {
-    label_at(labels, place_at(places, i)) as u32
+    u32::from(label_at(labels, place_at(places, i)))
 }
 
-// Pairs read: the first that breaks the code, and the writer after the last.
-#[derive(Clone, Copy)]
-pub struct PairsRead {
-    pub broken: Found,
-    pub writer: BitWriter,
-}
-
-// Reads the pairs of the entries from `from` on. The pair that begins at entry i is pair (i + 1) / 2.
-fn read_from(
+// Reads the pairs of the entries from `from` on: the writer after the last, or the first that is checked and breaks the code. The pair
+// that begins at entry i is pair (i + 1) / 2. The loop counts pairs: a step of 2 over the entries takes a test more.
+fn read_from<const CHECK: bool>(
     c: Reader,
     labels: &[u16],
-    entries: &[u8],
-    places: &[u16],
+    entries: Entries,
     from: usize,
     frame: &mut [u8],
-) -> PairsRead
-    requires { Wide entries.now × (length entries.now ≤ most_tones) × Placed entries.now places.now labels.now × ReadPairsNeeds c entries.now from (labels_at places.now labels.now) frame.old }
-    ensures { ReadsFrom c entries.now from (labels_at places.now labels.now) frame.old result frame.new }
+) -> Result<BitWriter, usize>
+    requires { Wide entries.bits.now × (length entries.bits.now ≤ most_tones) × Placed entries.bits.now entries.places.now labels.now × ReadPairsNeeds c entries.bits.now from (labels_at entries.places.now labels.now) frame.old }
+    ensures { ReadsFrom CHECK c entries.entry.bits.now from (labels_at entries.entry.places.now labels.now) frame.old result frame.new }
 {
     let mut k = c;
-    let mut i = from;
-    while i + 1 < entries.len() {
-        let forced = entries.len() - i < 6;
-        let p = read_pair(
-            k,
-            forced,
-            entry(entries, i),
-            entry(entries, i + 1),
-            entry_label(labels, places, i),
-            entry_label(labels, places, i + 1),
-            frame,
-        );
-        let obeys = p.obeys;
-        let old = k.writer;
-        if !obeys {
-            return PairsRead {
-                broken: Found::At((i + 1) / 2),
-                writer: old,
-            };
+    for n in 0..(entries.bits.len() - from) / 2 {
+        let i = from + 2 * n;
+        let forced = entries.bits.len() - i < 6;
+        let x = entry(entries.bits, i);
+        let y = entry(entries.bits, i + 1);
+        let v = entry_label(labels, entries.places, i);
+        let w = entry_label(labels, entries.places, i + 1);
+        match read_pair::<CHECK>(k, forced, x, y, v, w, frame) {
+            Some(next) => k = next,
+            None => return Err((i + 1) / 2),
         }
-        k = p.reader;
-        i += 2;
     }
-    let writer = k.writer;
-    PairsRead {
-        broken: Found::Nothing,
-        writer,
+    Ok(k.writer)
+}
+
+// Reads all pairs likewise. A first pair has x = 0 where the count of entries is odd.
+fn read_pairs<const CHECK: bool>(
+    writer: BitWriter,
+    labels: &[u16],
+    entries: Entries,
+    frame: &mut [u8],
+) -> Result<BitWriter, usize>
+    requires { Placed entries.bits.now entries.places.now labels.now × ReadLabelNeeds writer entries.bits.now (labels_at entries.places.now labels.now) frame.old }
+    ensures { ReadsPairs CHECK writer entries.entry.bits.now (labels_at entries.entry.places.now labels.now) frame.old result frame.new }
+{
+    if entries.bits.len() % 2 == 0 {
+        let reader = Reader {
+            state: zero_state(),
+            writer,
+        };
+        return read_from::<CHECK>(reader, labels, entries, 0, frame);
+    }
+    let y = entry(entries.bits, 0);
+    let w = entry_label(labels, entries.places, 0);
+    match read_first::<CHECK>(writer, y, w, frame) {
+        Some(reader) => read_from::<CHECK>(reader, labels, entries, 1, frame),
+        None => Err(0),
     }
 }
 
-// Reads the labels of the entries back, each from its place: the first pair that breaks the code, or else the frame's bits put behind
-// those that a writer has put. A first pair has x = 0 where the count of entries is odd. Called by proved code only.
+// Reads the labels of the entries back, each from its place: the first pair that breaks the code, or else the writer behind which the
+// frame's bits are put. Called by proved code only.
 pub fn read_labels(
     writer: BitWriter,
     labels: &[u16],
-    entries: &[u8],
-    places: &[u16],
+    entries: Entries,
     frame: &mut [u8],
-) -> PairsRead
-    requires { Placed entries.now places.now labels.now × ReadLabelNeeds writer entries.now (labels_at places.now labels.now) frame.old }
-    ensures { ReadsLabels writer entries.now (labels_at places.now labels.now) frame.old result frame.new }
+) -> Result<BitWriter, usize>
+    requires { Placed entries.bits.now entries.places.now labels.now × ReadLabelNeeds writer entries.bits.now (labels_at entries.places.now labels.now) frame.old }
+    ensures { ReadsLabels writer entries.entry.bits.now (labels_at entries.entry.places.now labels.now) frame.old result frame.new }
 {
-    if entries.len() % 2 == 1 {
-        let first = read_first(
-            writer,
-            entry(entries, 0),
-            entry_label(labels, places, 0),
-            frame,
-        );
-        let obeys = first.obeys;
-        let reader = first.reader;
-        if !obeys {
-            let after = reader.writer;
-            return PairsRead {
-                broken: Found::At(0),
-                writer: after,
-            };
-        }
-        return read_from(reader, labels, entries, places, 1, frame);
-    }
-    let reader = Reader {
-        state: zero_state(),
-        writer,
-    };
-    read_from(reader, labels, entries, places, 0, frame)
+    read_pairs::<true>(writer, labels, entries, frame)
 }
 
-// The reader after a pair with x at least 2 whose labels obey the code. It is not `read_pair`'s, so that the compiler has one caller of each
-// and can leave out here the state, which nothing is compared with.
-fn collect_pair(
-    c: Reader,
-    forced: bool,
-    x: usize,
-    y: usize,
-    v: u32,
-    w: u32,
-    frame: &mut [u8],
-) -> Reader
-    requires { (2 ≤ x) × (x ≤ 15) × (2 ≤ y) × (y ≤ 15) × ReadPairNeeds c (pair x y) v w frame.old }
-    ensures { CollectsPair c forced (pair x y) v w frame.old result frame.new }
-{
-    let s = c.state;
-    let writer = c.writer;
-    let u = decode_word(v, w, x);
-    let next = next_state(s, u.u1, u.u2);
-    Reader {
-        state: next,
-        writer: writer.put(frame, taken_count(forced, x, y), taken_number(forced, u)),
-    }
-}
-
-// Collects the frame bits of the pairs from entry `from` on. Labels along a path through the trellis obey the code: nothing is tested.
-fn collect_from(
-    c: Reader,
-    labels: &[u16],
-    entries: &[u8],
-    places: &[u16],
-    from: usize,
-    frame: &mut [u8],
-) -> BitWriter
-    requires { Wide entries.now × (length entries.now ≤ most_tones) × Placed entries.now places.now labels.now × ReadPairsNeeds c entries.now from (labels_at places.now labels.now) frame.old }
-    ensures { CollectsFrom c entries.now from (labels_at places.now labels.now) frame.old result frame.new }
-{
-    let mut k = c;
-    let mut i = from;
-    while i + 1 < entries.len() {
-        let ends = entries.len() - i < 6;
-        k = collect_pair(
-            k,
-            ends,
-            entry(entries, i),
-            entry(entries, i + 1),
-            entry_label(labels, places, i),
-            entry_label(labels, places, i + 1),
-            frame,
-        );
-        i += 2;
-    }
-    k.writer
-}
-
-// The frame bits of labels that obey the code, put behind those that a writer has put. A first pair has x = 0 where the count of
-// entries is odd. Called by proved code only.
+// The frame bits of labels that obey the code, as those along a path through the trellis do, put behind those that a writer has put.
+// Nothing is tested, so that the compiler leaves out the states, and no `Err` comes. Called by proved code only.
 pub fn collect_pairs(
     writer: BitWriter,
     labels: &[u16],
-    entries: &[u8],
-    places: &[u16],
+    entries: Entries,
     frame: &mut [u8],
 ) -> BitWriter
-    requires { Placed entries.now places.now labels.now × ReadLabelNeeds writer entries.now (labels_at places.now labels.now) frame.old }
-    ensures { CollectsPairs writer entries.now (labels_at places.now labels.now) frame.old result frame.new }
+    requires { Placed entries.bits.now entries.places.now labels.now × ReadLabelNeeds writer entries.bits.now (labels_at entries.places.now labels.now) frame.old }
+    ensures { CollectsPairs writer entries.entry.bits.now (labels_at entries.entry.places.now labels.now) frame.old result frame.new }
 {
-    if entries.len() % 2 == 1 {
-        let first = read_first(
-            writer,
-            entry(entries, 0),
-            entry_label(labels, places, 0),
-            frame,
-        );
-        return collect_from(first.reader, labels, entries, places, 1, frame);
-    }
-    let reader = Reader {
-        state: zero_state(),
-        writer,
-    };
-    collect_from(reader, labels, entries, places, 0, frame)
+    read_pairs::<false>(writer, labels, entries, frame).unwrap_or(writer)
 }

@@ -1,17 +1,17 @@
 -- A block of places, and block after block: the lists have the numbers of the places so far, and the peak is theirs.
+use Rattle.std.specs.Prelude.{Option, None}
 use Prim.Native.Nat.{ℕ, zero, suc, ◌+◌, ◌-◌, ◌≤◌, ◌<◌}
 use native.Mathlib.Omega.{arith}
 use borrow.Author.Tests.{ltb-true, ltb-false}
 use borrow.Rule.Slice.PartMut.{put_mid, same_len_mid}
 use mathlib.Core.Bool.{Bool, true, false}
 use mathlib.Core.List.{List, [], ◌∷◌, ◌++◌, map}
-use mathlib.Core.Option.{Option, none}
 use mathlib.Core.Path.{◌≡◌, refl, sym, ap, ◌∙◌}
 use lib.Dec.{ltb}
 use lib.Ieee.{Float, nan}
 use lib.IntN.{ℤ}
 use lib.ListN.{length, get_or, take, drop, length-map}
-use lib.Seq.{ext_get_or, length-take-le, take-add, take_all}
+use lib.Seq.{ext_get_or, length-take-le, length_front, take-add, take_all}
 use Rattle.constellation.specs.MapByLayout.{Mappable, MapsTo, label, silent}
 use Rattle.constellation.specs.Stored.{Stored}
 use Rattle.g9932.proofs.Distances.{InRange, point_range}
@@ -19,10 +19,9 @@ use Rattle.g9932.proofs.Lists.{map_take}
 use Rattle.g9932.proofs.Words.{length_bits}
 use Rattle.g9932.specs.Bits.{bits}
 use Rattle.g9932.specs.Drive.{size_at, signal_of, x_of, y_of}
-use Rattle.g9932.specs.Sizes.{entry, Point}
+use Rattle.g9932.specs.Sizes.{entry, Point, point_at}
 use Rattle.g9932.specs.declared.Peak.{Peak}
 use Rattle.mapper.specs.Blocks.{most_places, BlockEnd}
-use Rattle.mapper.specs.Reading.{point_at}
 use Rattle.mapper.specs.Writing.{PutsPoints}
 use Rattle.mapper.proofs.Parts.{part, length_part, part_at, put_before, put_inside}
 use Rattle.drive.specs.Numbers.{whole_by, PutNeeds, PutsNumbers}
@@ -59,11 +58,11 @@ module _ {table layouts labels gains entries : List ℕ} {px₀ py₀ : List ℤ
     pub block_lists : (ws : List (Option Point)) → Stand layouts labels gains ws → Lists ws xs ys
     block_lists ws s =
         let n : length ws ≡ length xs = s.count ∙ g.put.put.layouts_length ∙ sym g.xs_length ∙ sym mx in
-        let same : (k : ℕ) → k < length xs → whole_by (entry gains k) (point_at px py k) ≡ get_or ws k none =
+        let same : (k : ℕ) → k < length xs → whole_by (entry gains k) (point_at px py k) ≡ get_or ws k None =
         λ k h. s.wholes k (omega arith) (point_at px py k) (p.points k (omega (arith, mx, g.xs_length, nx))) in
         record {
-          xs_are = list_is (λ w. x_of (signal_of w)) xs ws none (sym n) (λ k h. q.xs_are k h ∙ ap (λ (w : Option Point). x_of (signal_of w)) (same k h));
-          ys_are = list_is (λ w. y_of (signal_of w)) ys ws none (my ∙ g.ys_length ∙ sym g.xs_length ∙ sym mx ∙ sym n)
+          xs_are = list_is (λ w. x_of (signal_of w)) xs ws None (sym n) (λ k h. q.xs_are k h ∙ ap (λ (w : Option Point). x_of (signal_of w)) (same k h));
+          ys_are = list_is (λ w. y_of (signal_of w)) ys ws None (my ∙ g.ys_length ∙ sym g.xs_length ∙ sym mx ∙ sym n)
               (λ k h. let i : k < length xs = omega (arith, mx, my, g.xs_length, g.ys_length) in q.ys_are k i ∙ ap (λ (w : Option Point). y_of (signal_of w)) (same k i));
         }
 
@@ -79,8 +78,8 @@ pub record DrivenTo (layouts labels gains : List ℕ) (xs₀ xs ys : List Float)
   pub entries_length : length entries ≡ most_places
   pub points_x_length : length px ≡ most_places
   pub points_y_length : length py ≡ most_places
-  pub xs_are : (ws : List (Option Point)) → Stand layouts labels gains ws → (j : ℕ) → j < i → get_or xs j nan ≡ x_of (signal_of (get_or ws j none))
-  pub ys_are : (ws : List (Option Point)) → Stand layouts labels gains ws → (j : ℕ) → j < i → get_or ys j nan ≡ y_of (signal_of (get_or ws j none))
+  pub xs_are : (ws : List (Option Point)) → Stand layouts labels gains ws → (j : ℕ) → j < i → get_or xs j nan ≡ x_of (signal_of (get_or ws j None))
+  pub ys_are : (ws : List (Option Point)) → Stand layouts labels gains ws → (j : ℕ) → j < i → get_or ys j nan ≡ y_of (signal_of (get_or ws j None))
   pub peak_is : (ws : List (Option Point)) → Stand layouts labels gains ws → peak ≡ peak_by (carried (none_yet (length xs₀)) (take i (map size_at ws)) 0)
 
 map_drop : {A B : Type 0} (f : A → B) (k : ℕ) (l : List A) → map f (drop k l) ≡ drop k (map f l)
@@ -162,18 +161,18 @@ module _ {table layouts labels gains : List ℕ} {xs₀ ys₀ : List Float} (s :
         count = n ∙ sym part_layouts;
         wholes = λ j h.
             let l : j < e - i = omega arith in
-            rw (part_at layouts i e j 0 l, part_at labels i e j 0 l, part_at gains i e j 0 l, part_at ws i e j none l) (w.wholes (i + j) (omega (arith, places, w.count, g.layouts_length)));
+            rw (part_at layouts i e j 0 l, part_at labels i e j 0 l, part_at gains i e j 0 l, part_at ws i e j None l) (w.wholes (i + j) (omega (arith, places, w.count, g.layouts_length)));
       }
 
   -- of either list: what stands before the block, and what the block has
   over : (f : Option Point → Float) (l new : List Float) → length l ≡ length xs₀ → length new ≡ e - i → (ws : List (Option Point)) → Stand layouts labels gains ws
-      → ((j : ℕ) → j < i → get_or l j nan ≡ f (get_or ws j none)) → new ≡ map f (part ws i e) → (j : ℕ) → j < e → get_or (put_mid i (e - i) l new) j nan ≡ f (get_or ws j none)
+      → ((j : ℕ) → j < i → get_or l j nan ≡ f (get_or ws j None)) → new ≡ map f (part ws i e) → (j : ℕ) → j < e → get_or (put_mid i (e - i) l new) j nan ≡ f (get_or ws j None)
   over f l new nl nn ws w before is j h = by (ltb j i) refl
     where
       to : i ≤ length l
       to = omega (arith, c.inside)
 
-      by : (t : Bool) → ltb j i ≡ t → get_or (put_mid i (e - i) l new) j nan ≡ f (get_or ws j none)
+      by : (t : Bool) → ltb j i ≡ t → get_or (put_mid i (e - i) l new) j nan ≡ f (get_or ws j None)
       by true t = put_before l i (e - i) new to j nan (ltb-true j i t) ∙ before j (ltb-true j i t)
       by false t =
           let k = ltb-false j i t in
@@ -183,21 +182,22 @@ module _ {table layouts labels gains : List ℕ} {xs₀ ys₀ : List Float} (s :
           ap (λ (n : ℕ). get_or (put_mid i (e - i) l new) n nan) (sym z)
           ∙ put_inside l i (e - i) new to (j - i) nan (omega (arith, nn))
           ∙ ap (λ (x : List Float). get_or x (j - i) nan) is
-          ∙ mapped_at f (part ws i e) (j - i) none nan (omega arith)
-          ∙ ap f (part_at ws i e (j - i) none m ∙ ap (λ (n : ℕ). get_or ws n none) z)
+          ∙ mapped_at f (part ws i e) (j - i) None nan (omega arith)
+          ∙ ap f (part_at ws i e (j - i) None m ∙ ap (λ (n : ℕ). get_or ws n None) z)
 
-  module _ {new_xs_lem new_ys_lem : List Float} {new_entries : List ℕ} {new_px new_py : List ℤ} {r : Peak} (mx : length new_xs_lem ≡ length (part xs i e)) (my : length new_ys_lem ≡ length (part ys i e))
-      (ke : length new_entries ≡ most_places) (kx : length new_px ≡ most_places) (ky : length new_py ≡ most_places)
+  module _ {new_xs_lem new_ys_lem : List Float} (new_entries : List ℕ) (new_px new_py : List ℤ) {r : Peak} (mx : length new_xs_lem ≡ length (part xs i e)) (my : length new_ys_lem ≡ length (part ys i e))
+      (ke : length new_entries ≡ length (take (e - i) entries)) (kx : length new_px ≡ length (take (e - i) px)) (ky : length new_py ≡ length (take (e - i) py))
       (d : Drives peak (part layouts i e) (part labels i e) (part gains i e) i new_xs_lem new_ys_lem r) where
-    pub block_step : DrivenTo layouts labels gains xs₀ (put_mid i (e - i) xs new_xs_lem) (put_mid i (e - i) ys new_ys_lem) new_entries new_px new_py r e
+    pub block_step : DrivenTo layouts labels gains xs₀ (put_mid i (e - i) xs new_xs_lem) (put_mid i (e - i) ys new_ys_lem)
+        (new_entries ++ drop (e - i) entries) (new_px ++ drop (e - i) px) (new_py ++ drop (e - i) py) r e
     block_step =
         record {
           inside = places;
           xs_length = same_len_mid i (e - i) xs new_xs_lem mx ∙ c.xs_length;
           ys_length = same_len_mid i (e - i) ys new_ys_lem my ∙ c.ys_length;
-          entries_length = ke;
-          points_x_length = kx;
-          points_y_length = ky;
+          entries_length = length_front entries new_entries (e - i) ke ∙ c.entries_length;
+          points_x_length = length_front px new_px (e - i) kx ∙ c.points_x_length;
+          points_y_length = length_front py new_py (e - i) ky ∙ c.points_y_length;
           xs_are = λ ws w. over (λ w. x_of (signal_of w)) xs new_xs_lem c.xs_length (mx ∙ part_xs) ws w (c.xs_are ws w) (d.lists (part ws i e) (part_stands ws w)).xs_are;
           ys_are = λ ws w. over (λ w. y_of (signal_of w)) ys new_ys_lem c.ys_length (my ∙ part_ys) ws w (c.ys_are ws w) (d.lists (part ws i e) (part_stands ws w)).ys_are;
           peak_is = λ ws w.
@@ -209,6 +209,10 @@ module _ {table layouts labels gains : List ℕ} {xs₀ ys₀ : List Float} (s :
               ∙ sym (carried_append (none_yet (length xs₀)) (take i (map size_at ws)) (map size_at (part ws i e)) 0)
               ∙ ap (λ (l : List ℕ). carried (none_yet (length xs₀)) l 0) (sym (parts_meet size_at ws i e (omega (arith, b.after)))));
         }
+
+pub driven_to : {layouts labels gains : List ℕ} {xs₀ xs ys : List Float} {entries : List ℕ} {px py : List ℤ} {peak : Peak} {i j : ℕ} → i ≡ j
+    → DrivenTo layouts labels gains xs₀ xs ys entries px py peak i → DrivenTo layouts labels gains xs₀ xs ys entries px py peak j
+driven_to e c = rw e at c
 
 module _ {layouts labels gains : List ℕ} {xs₀ ys₀ : List Float} (g : SymbolNeeds layouts labels gains xs₀ ys₀) where
   pub driven_start : {entries : List ℕ} {px py : List ℤ} {peak : Peak} → length entries ≡ most_places → length px ≡ most_places → length py ≡ most_places → peak ≡ peak_by (none_yet (length xs₀))
@@ -233,8 +237,8 @@ module _ {layouts labels gains : List ℕ} {xs₀ ys₀ : List Float} (g : Symbo
       record {
         lists = λ ws w.
             record {
-              xs_are = list_is (λ w. x_of (signal_of w)) xs ws none (c.xs_length ∙ sym g.layouts_length ∙ sym w.count) (λ k l. c.xs_are ws w k (omega arith));
-              ys_are = list_is (λ w. y_of (signal_of w)) ys ws none (c.ys_length ∙ sym g.layouts_length ∙ sym w.count) (λ k l. c.ys_are ws w k (omega (arith, c.xs_length, c.ys_length)));
+              xs_are = list_is (λ w. x_of (signal_of w)) xs ws None (c.xs_length ∙ sym g.layouts_length ∙ sym w.count) (λ k l. c.xs_are ws w k (omega arith));
+              ys_are = list_is (λ w. y_of (signal_of w)) ys ws None (c.ys_length ∙ sym g.layouts_length ∙ sym w.count) (λ k l. c.ys_are ws w k (omega (arith, c.xs_length, c.ys_length)));
             };
         peak_is = λ ws w.
             let n : length ws ≡ length xs₀ = w.count ∙ g.layouts_length in

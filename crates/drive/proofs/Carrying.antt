@@ -1,4 +1,5 @@
 -- The peak after several places, and the blocks that leave it as it is.
+use Rattle.std.specs.Prelude.{Option, None, Some}
 use Prim.Native.Nat.{ℕ, zero, suc, ◌+◌, ◌≤◌, ◌<◌}
 use native.Mathlib.Omega.{arith}
 use native.Mathlib.Numerals.{add-one}
@@ -6,19 +7,18 @@ use borrow.Author.Count.{below_more}
 use borrow.Author.Tests.{le-ltb, ltb-false}
 use mathlib.Core.Bool.{Bool, true, false, cond, ◌||◌}
 use mathlib.Core.List.{List, [], ◌∷◌, ◌++◌, map}
-use mathlib.Core.Option.{Option, none, some}
 use mathlib.Core.Path.{◌≡◌, refl, sym, ap, ◌∙◌}
 use lib.Dec.{ltb}
-use lib.Ieee.{Float, nan, lt}
-use lib.IntN.{ℤ, pos, nat_abs}
+use lib.Ieee.{Float, nan, lt, neg}
+use lib.IntN.{ℤ, pos, negsuc, nat_abs}
 use lib.ListN.{length, get_or, take, length-map}
 use lib.Seq.{take-suc, take_all, length-take-le}
 use Rattle.g9932.proofs.Identities.{or-false}
-use Rattle.g9932.proofs.Over512.{lt_over}
+use Rattle.g9932.proofs.Over512.{lt_over, size_over}
 use Rattle.g9932.specs.Drive.{over512, larger, size_at, whole_or, signal_of, x_of, y_of}
 use Rattle.g9932.specs.Sizes.{Point, entry}
 use Rattle.g9932.specs.declared.Peak.{Peak}
-use Rattle.drive.specs.Peaks.{Most, peak_by, raise, carried, Raises, SizeOf, Lists, Carries, TellsAbove}
+use Rattle.drive.specs.Peaks.{Most, peak_by, raise, carried, Raises, Lists, Carries, TellsAbove}
 
 -- ---- over whole numbers
 
@@ -46,16 +46,16 @@ carried_stays m (s ∷ l) k h =
 -- ---- of the lists' numbers
 
 size_of_place : (w : Option Point) → larger (nat_abs (whole_or w).px) (nat_abs (whole_or w).py) ≡ size_at w
-size_of_place (some w) = refl
-size_of_place none = refl
+size_of_place (Some w) = refl
+size_of_place None = refl
 
 x_of_place : (w : Option Point) → x_of (signal_of w) ≡ over512 (whole_or w).px
-x_of_place (some w) = refl
-x_of_place none = refl
+x_of_place (Some w) = refl
+x_of_place None = refl
 
 y_of_place : (w : Option Point) → y_of (signal_of w) ≡ over512 (whole_or w).py
-y_of_place (some w) = refl
-y_of_place none = refl
+y_of_place (Some w) = refl
+y_of_place None = refl
 
 pub mapped_at : {A B : Type 0} (f : A → B) (l : List A) (i : ℕ) (a : A) (b : B) → i < length l → get_or (map f l) i b ≡ f (get_or l i a)
 mapped_at f [] i a b h = absurd (omega arith)
@@ -67,14 +67,14 @@ module _ {ws : List (Option Point)} {xs ys : List Float} (l : Lists ws xs ys) wh
   lists_length = ap length l.xs_are ∙ length-map ws _
 
   module _ (i : ℕ) (h : i < length ws) where
-    pub x_at : get_or xs i nan ≡ over512 (whole_or (get_or ws i none)).px
-    x_at = ap (λ (z : List Float). get_or z i nan) l.xs_are ∙ mapped_at (λ w. x_of (signal_of w)) ws i none nan h ∙ x_of_place (get_or ws i none)
+    pub x_at : get_or xs i nan ≡ over512 (whole_or (get_or ws i None)).px
+    x_at = ap (λ (z : List Float). get_or z i nan) l.xs_are ∙ mapped_at (λ w. x_of (signal_of w)) ws i None nan h ∙ x_of_place (get_or ws i None)
 
-    pub y_at : get_or ys i nan ≡ over512 (whole_or (get_or ws i none)).py
-    y_at = ap (λ (z : List Float). get_or z i nan) l.ys_are ∙ mapped_at (λ w. y_of (signal_of w)) ws i none nan h ∙ y_of_place (get_or ws i none)
+    pub y_at : get_or ys i nan ≡ over512 (whole_or (get_or ws i None)).py
+    y_at = ap (λ (z : List Float). get_or z i nan) l.ys_are ∙ mapped_at (λ w. y_of (signal_of w)) ws i None nan h ∙ y_of_place (get_or ws i None)
 
-    pub size_at_lem : larger (nat_abs (whole_or (get_or ws i none)).px) (nat_abs (whole_or (get_or ws i none)).py) ≡ entry (map size_at ws) i
-    size_at_lem = size_of_place (get_or ws i none) ∙ sym (mapped_at size_at ws i none 0 h)
+    pub size_at_lem : larger (nat_abs (whole_or (get_or ws i None)).px) (nat_abs (whole_or (get_or ws i None)).py) ≡ entry (map size_at ws) i
+    size_at_lem = size_of_place (get_or ws i None) ∙ sym (mapped_at size_at ws i None 0 h)
 
 -- ---- the loop that carries the peak
 
@@ -109,9 +109,10 @@ pub record ToldTo (xs ys : List Float) (size : Float) (above : Bool) (i : ℕ) :
 pub told_start : (xs ys : List Float) (size : Float) → ToldTo xs ys size false 0
 told_start xs ys size = record { before = λ n ws s l e j h. absurd (omega arith) }
 
-not_above : {size v a : Float} (n : ℕ) (z : ℤ) → size ≡ over512 (pos n) → v ≡ over512 z → SizeOf v a → lt size a ≡ false → nat_abs z ≤ n
-not_above {size} {v} {a} n z s e o f =
-    ltb-false n (nat_abs z) (sym (lt_over n (nat_abs z)) ∙ ap (lt (over512 (pos n))) (sym (o.size_is z e)) ∙ ap (λ (x : Float). lt x a) (sym s) ∙ f)
+-- a number that is not above n, with either sign
+not_above : {size v : Float} (n : ℕ) (z : ℤ) → size ≡ over512 (pos n) → v ≡ over512 z → lt size v ≡ false → lt size (neg v) ≡ false → nat_abs z ≤ n
+not_above n (pos k) s e p q = ltb-false n k (sym (lt_over n k) ∙ rw (s, e) at p)
+not_above n (negsuc k) s e p q = ltb-false n (suc k) (sym (lt_over n (suc k)) ∙ rw (s, e, size_over k) at q)
 
 larger_le : (a b n : ℕ) → a ≤ n → b ≤ n → larger a b ≤ n
 larger_le a b n p q = go (ltb a b)
@@ -121,15 +122,17 @@ larger_le a b n p q = go (ltb a b)
     go false = p
 
 module _ {xs ys : List Float} {size : Float} {above : Bool} {i : ℕ} (g : ToldTo xs ys size above i) where
-  pub told_step : i < length xs → {a b : Float} → SizeOf (get_or xs i nan) a → SizeOf (get_or ys i nan) b
-      → ToldTo xs ys size ((above || lt size a) || lt size b) (i + 1)
-  told_step h {a} {b} sa sb = record {
+  pub told_step : i < length xs
+      → ToldTo xs ys size (above || (((lt size (get_or xs i nan) || lt size (neg (get_or xs i nan))) || lt size (get_or ys i nan)) || lt size (neg (get_or ys i nan)))) (i + 1)
+  told_step h = record {
     before = λ n ws s l e.
         let k : i < length ws = omega (arith, lists_length l) in
-        let p = or-false (above || lt size a) (lt size b) e in
-        let q = or-false above (lt size a) p.0 in
-        below_more (λ j. entry (map size_at ws) j ≤ n) i (g.before n ws s l q.0)
-        (rw (← (size_at_lem l i k)) (larger_le _ _ n (not_above n _ s (x_at l i k) sa q.1) (not_above n _ s (y_at l i k) sb p.1)));
+        let o = or-false above _ e in
+        let d = or-false _ _ o.1 in
+        let c = or-false _ _ d.0 in
+        let b = or-false _ _ c.0 in
+        below_more (λ j. entry (map size_at ws) j ≤ n) i (g.before n ws s l o.0)
+        (rw (← (size_at_lem l i k)) (larger_le _ _ n (not_above n _ s (x_at l i k) b.0 b.1) (not_above n _ s (y_at l i k) c.1 d.1)));
   }
 
   pub told_end : length xs ≤ i → TellsAbove xs ys size above

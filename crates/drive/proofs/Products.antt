@@ -1,7 +1,7 @@
 -- Gain times coordinate, as the code makes it: in 32 bits nothing is lost, and it has at most 24 binary digits.
+use Rattle.std.specs.Prelude.{None, Some}
 use Prim.Native.Nat.{ℕ, zero, suc, ◌*◌, ◌^◌, ◌≤◌, ◌<◌}
 use mathlib.Core.Bool.{true, false}
-use mathlib.Core.Option.{none, some}
 use mathlib.Core.Path.{◌≡◌, refl, sym, ap, ◌∙◌}
 use native.Mathlib.Nat.{mul-le-mul}
 use native.Mathlib.Omega.{arith}
@@ -84,8 +84,8 @@ module _ (g : ℕ) (x : ℤ) (hg : g ≤ 4095) (hx : nat_abs x ≤ 1023) where
   number_is = rw whole_is (no_rounding (pos g *ℤ x) product_small)
 
   -- the word of the product tells whether the place is silent
-  pub silent_told : (y : ℤ) → of_z w32 (to_z w32 (of_z w32 (to_z w16 (of_z w16 x))) *ℤ to_z w32 (of_z w32 (to_z w16 g))) ≡ 0 → whole_by g (point x y) ≡ none
+  pub silent_told : (y : ℤ) → of_z w32 (to_z w32 (of_z w32 (to_z w16 (of_z w16 x))) *ℤ to_z w32 (of_z w32 (to_z w16 g))) ≡ 0 → whole_by g (point x y) ≡ None
   silent_told y e = rw (same_zero (pos g *ℤ x) (sym whole_is ∙ ap (to_z w32) e ∙ to_z_pos w32 0 (omega arith)))
 
-  pub driven_told : (y : ℤ) → (of_z w32 (to_z w32 (of_z w32 (to_z w16 (of_z w16 x))) *ℤ to_z w32 (of_z w32 (to_z w16 g))) ≡ 0 → ⊥) → whole_by g (point x y) ≡ some (gained g (point x y))
+  pub driven_told : (y : ℤ) → (of_z w32 (to_z w32 (of_z w32 (to_z w16 (of_z w16 x))) *ℤ to_z w32 (of_z w32 (to_z w16 g))) ≡ 0 → ⊥) → whole_by g (point x y) ≡ Some (gained g (point x y))
   driven_told y not = rw (not_zero (pos g *ℤ x) (λ e. not (ap (of_z w32) (product_is ∙ e) ∙ of_z_none)))

@@ -1,6 +1,6 @@
 -- The numbers of a symbol and its peak from the labels of its places, a block of places at a time.
+use Rattle.std.specs.Prelude.{Option, None}
 use Rattle.std.specs.Prelude.{ℕ, ◌+◌, ◌≤◌, ◌<◌, List, map, ◌≡◌, ℤ, Float, length, get_or}
-use Rattle.std.proofs.Math.Option.{Option, none}
 use Rattle.constellation.specs.MapByLayout.{Mappable, MapsTo}
 use Rattle.g9932.specs.Drive.{size_at}
 use Rattle.g9932.specs.Sizes.{entry, Point, most_tones}
@@ -12,7 +12,7 @@ use Rattle.drive.specs.Peaks.{Most, peak_by, carried, Lists}
 -- the places of these layouts, labels and gains have these numbers, times 512
 pub record Stand (layouts labels gains : List ℕ) (ws : List (Option Point)) : Type 0 where
   pub count : length ws ≡ length layouts
-  pub wholes : (k : ℕ) → k < length ws → (p : Point) → MapsTo (entry layouts k) (entry labels k) p → whole_by (entry gains k) p ≡ get_or ws k none
+  pub wholes : (k : ℕ) → k < length ws → (p : Point) → MapsTo (entry layouts k) (entry labels k) p → whole_by (entry gains k) p ≡ get_or ws k None
 
 -- the lists have them, and the peak is carried over them
 pub record Drives (peak : Peak) (layouts labels gains : List ℕ) (from : ℕ) (xs ys : List Float) (r : Peak) : Type 0 where

@@ -1,11 +1,10 @@
 -- Points and gains to the numbers that are driven, by place.
+use Rattle.std.specs.Prelude.{Option, None, Some}
 use Rattle.std.specs.Prelude.{ℕ, ◌≤◌, ◌<◌, cond, List, ◌≡◌, ℤ, pos, nat_abs, ◌*ℤ◌, Float, length, get_or}
-use Rattle.std.proofs.Math.Option.{Option, none, some}
 use Rattle.std.specs.Float.{nan}
 use Rattle.g9932.specs.Drive.{gained, signal_of, x_of, y_of}
 use Rattle.g9932.specs.Points.{same_int}
-use Rattle.g9932.specs.Sizes.{entry, Point}
-use Rattle.mapper.specs.Reading.{point_at}
+use Rattle.g9932.specs.Sizes.{entry, Point, point_at}
 
 -- a gain and a point whose products have at most 24 binary digits
 pub record Drivable (g : ℕ) (p : Point) : Type 0 where
@@ -15,7 +14,7 @@ pub record Drivable (g : ℕ) (p : Point) : Type 0 where
 
 -- 512 times what is driven at a place: silent where gain times X is 0
 abbrev pub whole_by : ℕ → Point → Option Point
-whole_by g p = cond (same_int (pos g *ℤ p.px) (pos 0)) none (some (gained g p))
+whole_by g p = cond (same_int (pos g *ℤ p.px) (pos 0)) None (Some (gained g p))
 
 pub record PutNeeds (points_x points_y : List ℤ) (gains : List ℕ) (xs ys : List Float) : Type 0 where
   pub points_x_length : length points_x ≡ length xs

@@ -1,6 +1,6 @@
 -- The peak, carried from place to place, over whole numbers: 512 times it, and its first place.
+use Rattle.std.specs.Prelude.{Option}
 use Rattle.std.specs.Prelude.{ℕ, suc, ◌+◌, ◌≤◌, ◌<◌, Bool, false, cond, List, [], ◌∷◌, map, ◌≡◌, ltb, ℤ, pos, nat_abs, Float, length}
-use Rattle.std.proofs.Math.Option.{Option}
 use Rattle.g9932.specs.Drive.{over512, larger, size_at, signal_of, x_of, y_of}
 use Rattle.g9932.specs.Sizes.{Point, entry, most_tones}
 use Rattle.g9932.specs.declared.Peak.{Peak}
@@ -23,9 +23,6 @@ carried m [] k = m
 carried m (s ∷ l) k = carried (raise m s k) l (suc k)
 
 -- ---- of floats
-
-pub record SizeOf (v r : Float) : Type 0 where
-  pub size_is : (z : ℤ) → v ≡ over512 z → r ≡ over512 (pos (nat_abs z))
 
 pub record LargerOf (x y r : Float) : Type 0 where
   pub larger_is : (a b : ℤ) → x ≡ over512 a → y ≡ over512 b → r ≡ over512 (pos (larger (nat_abs a) (nat_abs b)))

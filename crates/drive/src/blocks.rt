@@ -1,7 +1,7 @@
 // Labels and gains to the numbers of a symbol and its peak, a block of places at a time.
 ghost use Rattle.drive.specs.Blocks.{BlockNeeds, Drives, SymbolNeeds, DrivesSymbol};
 
-use g9932::{Peak, Place};
+use g9932::{Peak, Place, Points};
 use mapper::points::BLOCK;
 
 // The numbers of a block that begins at place `from`, and the peak after it. The entries and the points are working memory.
@@ -22,12 +22,16 @@ fn drive_block(
     ensures { Drives peak layouts.now labels.now gains.now from xs.new ys.new result }
 {
     mapper::points::put_block(table, layouts, labels, entries, points_x, points_y);
-    crate::numbers::put_numbers(points_x, points_y, gains, xs, ys);
+    let points = Points {
+        xs: points_x,
+        ys: points_y,
+    };
+    crate::numbers::put_numbers(points, gains, xs, ys);
     crate::peaks::peak_after(peak, xs, ys, from)
 }
 
-// The numbers of the labels' points, by the layouts and the gains of the places, and their peak, carried from block to block. Called by
-// proved code only.
+// The numbers of the labels' points, by the layouts and the gains of the places, and their peak, carried from block to block. Its place is
+// N where nothing is driven (`peak_place` of the definitions). Called by proved code only.
 pub fn drive_labels(
     layouts: &[u16],
     labels: &[u16],
@@ -46,8 +50,7 @@ pub fn drive_labels(
         size: 0.0,
         place: Place(xs.len()),
     };
-    let mut i = 0;
-    while i < xs.len() {
+    for i in (0..xs.len()).step_by(BLOCK) {
         let end = mapper::points::block_end(i, xs.len());
         let n = end - i;
         peak = drive_block(
@@ -63,7 +66,6 @@ pub fn drive_labels(
             &mut xs[i..end],
             &mut ys[i..end],
         );
-        i = end;
     }
     peak
 }

@@ -4,7 +4,7 @@ ghost use Rattle.g9932.specs.Drive.{signal_of, x_of, y_of};
 ghost use Rattle.g9932.specs.Sizes.{point};
 ghost use Rattle.drive.specs.Numbers.{Drivable, whole_by, PutNeeds, PutsNumbers};
 
-use g9932::Signal;
+use g9932::{Place, Point, Points, Signal};
 
 // The numbers of a place.
 #[derive(Clone, Copy)]
@@ -14,15 +14,15 @@ pub struct Numbers {
 }
 
 // What goes out at a place. 512 times each number is gain times coordinate, a whole number below 2 to the 24, so that neither the cast nor
-// the division rounds. Where a tone is driven its gain is above 0 and its coordinates are odd, so that a product of 0 tells a silent one.
-// Called by proved code only.
-pub fn signal_of(x: i16, y: i16, gain: u16) -> Signal
-    requires { Drivable gain (point x y) }
-    ensures { result ≡ signal_of (whole_by gain (point x y)) }
+// the division rounds. The gain is below 2 to the 15, so it is taken as a signed number of sixteen bits, as the coordinates are. Where a
+// tone is driven its gain is above 0 and its coordinates are odd, so that a product of 0 tells a silent one. Called by proved code only.
+pub fn signal_of(p: Point, gain: u16) -> Signal
+    requires { Drivable gain (point p.x p.y) }
+    ensures { result ≡ signal_of (whole_by gain (point p.x p.y)) }
 {
     let g = gain as i16 as i32;
-    let across = x as i32 * g;
-    let upward = y as i32 * g;
+    let across = p.x as i32 * g;
+    let upward = p.y as i32 * g;
     if across == 0 {
         return Signal::Silent;
     }
@@ -41,23 +41,13 @@ pub fn numbers_of(signal: Signal) -> Numbers
 
 // The numbers of points, by the gains of their places. The loop does the same at every place, so that the compiler takes several at a time.
 // Called by proved code only.
-pub fn put_numbers(
-    points_x: &[i16],
-    points_y: &[i16],
-    gains: &[u16],
-    xs: &mut [f32],
-    ys: &mut [f32],
-)
-    requires { PutNeeds points_x.now points_y.now gains.now xs.old ys.old }
-    ensures { PutsNumbers points_x.now points_y.now gains.now xs.new ys.new }
+pub fn put_numbers(points: Points, gains: &[u16], xs: &mut [f32], ys: &mut [f32])
+    requires { PutNeeds points.xs.now points.ys.now gains.now xs.old ys.old }
+    ensures { PutsNumbers points.entry.xs.now points.entry.ys.now gains.now xs.new ys.new }
 {
-    let mut i = 0;
-    while i < xs.len() {
-        let n = numbers_of(signal_of(points_x[i], points_y[i], gains[i]));
-        let x = n.x;
-        let y = n.y;
-        xs[i] = x;
-        ys[i] = y;
-        i += 1;
+    for i in 0..xs.len() {
+        let n = numbers_of(signal_of(points.at(Place(i)), gains[i]));
+        xs[i] = n.x;
+        ys[i] = n.y;
     }
 }

@@ -1,22 +1,13 @@
 // The peak of the numbers of a symbol, carried from place to place.
-ghost use Rattle.drive.specs.Peaks.{SizeOf, LargerOf, Raises, CarryNeeds, Carries, TellsAbove};
+ghost use Rattle.drive.specs.Peaks.{LargerOf, Raises, CarryNeeds, Carries, TellsAbove};
 
 use g9932::{Peak, Place};
-
-// The size of a number.
-fn size_of(v: f32) -> f32
-    ensures { SizeOf v result }
-{
-    if v < 0.0 { -v } else { v }
-}
 
 // The larger size of two numbers.
 fn larger_of(x: f32, y: f32) -> f32
     ensures { LargerOf x y result }
 {
-    let a = size_of(x);
-    let b = size_of(y);
-    if a < b { b } else { a }
+    x.abs().max(y.abs())
 }
 
 // The peak after a place: the first of several that have it stays.
@@ -39,26 +30,23 @@ fn carry(peak: Peak, xs: &[f32], ys: &[f32], from: usize) -> Peak
     ensures { Carries peak xs.now ys.now from result }
 {
     let mut peak = peak;
-    let mut i = 0;
-    while i < xs.len() {
+    for i in 0..xs.len() {
         peak = raised(peak, xs[i], ys[i], from + i);
-        i += 1;
     }
     peak
 }
 
-// Whether some number is larger in size. The loop does the same at every place, so that the compiler takes several at a time.
+// Whether some number is larger in size: it, or its negative, is larger. The loop does the same at every place, so that the compiler takes
+// several at a time; `abs` would add a test.
 fn some_above(xs: &[f32], ys: &[f32], size: f32) -> bool
     requires { CarryNeeds xs.now ys.now 0 }
     ensures { TellsAbove xs.now ys.now size result }
 {
     let mut above = false;
-    let mut i = 0;
-    while i < xs.len() {
-        let a = size_of(xs[i]);
-        let b = size_of(ys[i]);
-        above = above | (size < a) | (size < b);
-        i += 1;
+    for i in 0..xs.len() {
+        let x = xs[i];
+        let y = ys[i];
+        above |= (size < x) | (size < -x) | (size < y) | (size < -y);
     }
     above
 }

@@ -1,23 +1,20 @@
-// The opposite of one coordinate, and of every one of a list.
-ghost use Rattle.figure_lines.specs.Turned.{Opposite, Opposites};
+// The opposite of every coordinate of a list, and of every point: half a turn.
+ghost use Rattle.figure_lines.specs.Turned.{Opposites};
 
-// The opposite of a coordinate. The least number of sixteen bits has none there, and stays.
-fn opposite(z: i16) -> i16
-    ensures { Opposite z result }
-{
-    if z < -32767 {
-        return z;
-    }
-    0 - z
-}
-
-// Puts the opposite for every coordinate.
+// Puts the opposite for every coordinate. The least number of sixteen bits has none there, and stays.
 pub fn put_opposites(list: &mut [i16])
     ensures { Opposites list.old list.new }
 {
-    let mut i = 0;
-    while i < list.len() {
-        list[i] = opposite(list[i]);
-        i += 1;
+    for z in list.iter_mut() {
+        *z = z.wrapping_neg();
     }
+}
+
+// (-X, -Y) for every (X, Y).
+pub fn turn_half(xs: &mut [i16], ys: &mut [i16])
+    ensures xs { Opposites xs.old xs.new }
+    ensures ys { Opposites ys.old ys.new }
+{
+    put_opposites(xs);
+    put_opposites(ys);
 }

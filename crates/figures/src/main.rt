@@ -4,18 +4,13 @@
 mod bench; // the bench tables
 
 use bench::{equal_tones, table_a, table_a_of_twos};
-use figure_lines::Figure;
+use figure_lines::{half_turn, order, quarter_turn, register, silent, size, written};
 use g9932::Mode;
-use print::{entry, number, text};
 use std::io;
 
 // The point of one label, or the refusal.
 fn mapped(rt: &impl Print, bits: u8, label: u32) -> io::Result<()> {
-    text(rt, b"\n")?;
-    number(rt, bits as u64)?;
-    text(rt, b" bits label")?;
-    entry(rt, label as u64)?;
-    text(rt, b":")?;
+    print!(rt; "\n{bits} bits label {label}:")?;
     print::mapped(rt, constellation::map_label(bits, label))
 }
 
@@ -30,85 +25,82 @@ fn labels(rt: &impl Print) -> io::Result<()> {
 }
 
 fn table_a_order(rt: &impl Print) -> io::Result<()> {
-    text(rt, b"\ntable A: tones")?;
-    table_a(rt, 512, Figure::Order)?;
-    text(rt, b"\ntable A:")?;
-    table_a(rt, 512, Figure::Size(Mode::Coded))
+    print!(rt; "\ntable A: tones")?;
+    table_a(512, |t, _, _| order(rt, t))?;
+    print!(rt; "\ntable A:")?;
+    table_a(512, |t, _, _| size(rt, Mode::Coded, t))
 }
 
 fn table_a_frames(rt: &impl Print) -> io::Result<()> {
-    text(rt, b"\ntable A frame 0:")?;
-    table_a(rt, 512, Figure::Points(0))?;
-    text(rt, b"\ntable A frame 0: register ")?;
-    table_a(rt, 512, Figure::Register(0))?;
-    text(rt, b"\ntable A frame 1:")?;
-    table_a(rt, 512, Figure::Points(1))?;
-    text(rt, b"\ntable A frame 32:")?;
-    table_a(rt, 512, Figure::Points(32))
+    print!(rt; "\ntable A frame 0:")?;
+    table_a(512, |t, xs, ys| written(rt, t, 0, xs, ys))?;
+    print!(rt; "\ntable A frame 0: register ")?;
+    table_a(512, |t, xs, ys| register(rt, t, 0, xs, ys))?;
+    print!(rt; "\ntable A frame 1:")?;
+    table_a(512, |t, xs, ys| written(rt, t, 1, xs, ys))?;
+    print!(rt; "\ntable A frame 32:")?;
+    table_a(512, |t, xs, ys| written(rt, t, 32, xs, ys))
 }
 
 fn table_a_silent(rt: &impl Print) -> io::Result<()> {
-    text(rt, b"\ntable A, gain of 4 is 0: points")?;
-    table_a(rt, 0, Figure::Silent)?;
-    text(rt, b"\ntable A, gain of 4 is 0, frame 0: register ")?;
-    table_a(rt, 0, Figure::Register(0))
+    print!(rt; "\ntable A, gain of 4 is 0: points")?;
+    table_a(0, |t, _, _| silent(rt, t))?;
+    print!(rt; "\ntable A, gain of 4 is 0, frame 0: register ")?;
+    table_a(0, |t, xs, ys| register(rt, t, 0, xs, ys))
 }
 
 fn two_bit_tones(rt: &impl Print) -> io::Result<()> {
-    text(rt, b"\nfive 2-bit tones coded:")?;
-    equal_tones(rt, 5, 2, Figure::Size(Mode::Coded))?;
-    text(rt, b"\nfive 2-bit tones coded, frame 1:")?;
-    equal_tones(rt, 5, 2, Figure::Points(1))?;
-    text(rt, b"\nthree 2-bit tones coded:")?;
-    equal_tones(rt, 3, 2, Figure::Size(Mode::Coded))?;
-    text(rt, b"\nfour 2-bit tones coded:")?;
-    equal_tones(rt, 4, 2, Figure::Size(Mode::Coded))
+    print!(rt; "\nfive 2-bit tones coded:")?;
+    equal_tones(5, 2, |t, _, _| size(rt, Mode::Coded, t))?;
+    print!(rt; "\nfive 2-bit tones coded, frame 1:")?;
+    equal_tones(5, 2, |t, xs, ys| written(rt, t, 1, xs, ys))?;
+    print!(rt; "\nthree 2-bit tones coded:")?;
+    equal_tones(3, 2, |t, _, _| size(rt, Mode::Coded, t))?;
+    print!(rt; "\nfour 2-bit tones coded:")?;
+    equal_tones(4, 2, |t, _, _| size(rt, Mode::Coded, t))
 }
 
 fn one_tone(rt: &impl Print) -> io::Result<()> {
-    text(rt, b"\none 1-bit tone coded:")?;
-    equal_tones(rt, 1, 1, Figure::Size(Mode::Coded))?;
-    text(rt, b"\none 1-bit tone uncoded:")?;
-    equal_tones(rt, 1, 1, Figure::Size(Mode::Uncoded))
+    print!(rt; "\none 1-bit tone coded:")?;
+    equal_tones(1, 1, |t, _, _| size(rt, Mode::Coded, t))?;
+    print!(rt; "\none 1-bit tone uncoded:")?;
+    equal_tones(1, 1, |t, _, _| size(rt, Mode::Uncoded, t))
 }
 
 fn large_tables(rt: &impl Print) -> io::Result<()> {
-    text(rt, b"\n4096 tones of 15 bits coded:")?;
-    equal_tones(rt, 4096, 15, Figure::Size(Mode::Coded))?;
-    text(rt, b"\n4096 tones of 15 bits uncoded:")?;
-    equal_tones(rt, 4096, 15, Figure::Size(Mode::Uncoded))
+    print!(rt; "\n4096 tones of 15 bits coded:")?;
+    equal_tones(4096, 15, |t, _, _| size(rt, Mode::Coded, t))?;
+    print!(rt; "\n4096 tones of 15 bits uncoded:")?;
+    equal_tones(4096, 15, |t, _, _| size(rt, Mode::Uncoded, t))
 }
 
 fn half_turns(rt: &impl Print) -> io::Result<()> {
-    text(rt, b"\ntable A, tone 4 monitored")?;
-    table_a(rt, 512, Figure::HalfTurn)?;
-    text(rt, b"\nfive 2-bit tones, none monitored, N odd")?;
-    equal_tones(rt, 5, 2, Figure::HalfTurn)?;
-    text(rt, b"\nfour 2-bit tones, none monitored, N even")?;
-    equal_tones(rt, 4, 2, Figure::HalfTurn)?;
-    text(rt, b"\ntable A, gain of 4 is 0, none monitored, N even")?;
-    table_a(rt, 0, Figure::HalfTurn)
+    print!(rt; "\ntable A, tone 4 monitored")?;
+    table_a(512, |t, xs, ys| half_turn(rt, t, xs, ys))?;
+    print!(rt; "\nfive 2-bit tones, none monitored, N odd")?;
+    equal_tones(5, 2, |t, xs, ys| half_turn(rt, t, xs, ys))?;
+    print!(rt; "\nfour 2-bit tones, none monitored, N even")?;
+    equal_tones(4, 2, |t, xs, ys| half_turn(rt, t, xs, ys))?;
+    print!(rt; "\ntable A, gain of 4 is 0, none monitored, N even")?;
+    table_a(0, |t, xs, ys| half_turn(rt, t, xs, ys))
 }
 
 // A table of each kind: by it goes what refuses a quarter turn, and where.
 fn quarter_turns(rt: &impl Print) -> io::Result<()> {
-    text(rt, b"\ntable A, two 1-bit tones, tone 4 monitored")?;
-    table_a(rt, 512, Figure::QuarterTurn)?;
-    text(
-        rt,
-        b"\ntable A, 2 bits on 3 and 6, no 1-bit tone, tone 4 monitored",
-    )?;
-    table_a_of_twos(rt, Figure::QuarterTurn)?;
-    text(rt, b"\nfive 2-bit tones, none monitored, N odd")?;
-    equal_tones(rt, 5, 2, Figure::QuarterTurn)?;
-    text(rt, b"\nfour 2-bit tones, none monitored, N 4")?;
-    equal_tones(rt, 4, 2, Figure::QuarterTurn)?;
-    text(rt, b"\nsix 2-bit tones, none monitored, N even and above 4")?;
-    equal_tones(rt, 6, 2, Figure::QuarterTurn)
+    print!(rt; "\ntable A, two 1-bit tones, tone 4 monitored")?;
+    table_a(512, |t, xs, ys| quarter_turn(rt, t, xs, ys))?;
+    print!(rt; "\ntable A, 2 bits on 3 and 6, no 1-bit tone, tone 4 monitored")?;
+    table_a_of_twos(|t, xs, ys| quarter_turn(rt, t, xs, ys))?;
+    print!(rt; "\nfive 2-bit tones, none monitored, N odd")?;
+    equal_tones(5, 2, |t, xs, ys| quarter_turn(rt, t, xs, ys))?;
+    print!(rt; "\nfour 2-bit tones, none monitored, N 4")?;
+    equal_tones(4, 2, |t, xs, ys| quarter_turn(rt, t, xs, ys))?;
+    print!(rt; "\nsix 2-bit tones, none monitored, N even and above 4")?;
+    equal_tones(6, 2, |t, xs, ys| quarter_turn(rt, t, xs, ys))
 }
 
 fn main(rt: HostRuntime) -> io::Result<()> {
-    text(&rt, b"bench figures")?;
+    print!(&rt; "bench figures")?;
     table_a_order(&rt)?;
     table_a_frames(&rt)?;
     table_a_silent(&rt)?;
@@ -116,15 +108,9 @@ fn main(rt: HostRuntime) -> io::Result<()> {
     one_tone(&rt)?;
     labels(&rt)?;
     large_tables(&rt)?;
-    text(
-        &rt,
-        b"\nhalf a turn: frame 0 written, every point turned, read",
-    )?;
+    print!(&rt; "\nhalf a turn: frame 0 written, every point turned, read")?;
     half_turns(&rt)?;
-    text(
-        &rt,
-        b"\na quarter turn: frame 0 written, every point turned, read",
-    )?;
+    print!(&rt; "\na quarter turn: frame 0 written, every point turned, read")?;
     quarter_turns(&rt)?;
-    text(&rt, b"\n")
+    print!(&rt; "\n")
 }

@@ -1,15 +1,16 @@
 -- Bits that are put: eight bytes of a word written, and the bits that a writer has put.
-use mathlib.Core.Path.{◌≡◌, refl, sym, ap, ◌∙◌}
+use mathlib.Core.Path.{◌≡◌, refl, sym, ap, ap₂, ◌∙◌}
 use mathlib.Core.Bool.{Bool}
 use mathlib.Core.List.{List, ◌++◌, append_assoc, append-nil}
-use Prim.Native.Nat.{ℕ, ◌+◌, ◌-◌, ◌*◌, ◌/◌, ◌%◌, ◌^◌, ◌≤◌, ◌<◌}
-use native.Mathlib.Nat.{lt_trans, div-one, zero-mod, div-eq_of_lt}
+use Prim.Native.Nat.{ℕ, zero, suc, ◌+◌, ◌-◌, ◌*◌, ◌/◌, ◌%◌, ◌^◌, ◌≤◌, ◌<◌}
+use native.Mathlib.Nat.{pow-suc, div-div-eq-div-mul, div-one, zero-mod, div-eq_of_lt}
 use native.Mathlib.Numerals.{add-one}
 use native.Mathlib.Omega.{arith}
 use lib.Arith.{digits_lt}
-use lib.Pow.{pow-add, pow-lt, pow_pos, shl_exact, shr_lt, high, low}
-use lib.ListN.{length, take, set, length-set, length-append}
+use lib.Pow.{pow-add, pow_pos, shl_exact, shr_lt, high, low}
+use lib.ListN.{length, take, set, length-append}
 use lib.Seq.{take-append-add, take-take, take-suc-set, length-take-le}
+use Rattle.std.specs.Int.{bytes_low_first, byte_at}
 use Rattle.g9932.specs.Bits.{bits, num, zeros}
 use Rattle.g9932.specs.Sizes.{unpack, bytes_for, pack}
 use Rattle.g9932.proofs.Words.{length_bits, num_append, num_inj, num_take, bits_add, take_bits, bits_mod}
@@ -17,45 +18,19 @@ use Rattle.g9932.proofs.Packed.{length_unpack, unpack_append, take_unpack, numbe
 use Rattle.frame.specs.declared.BitWriter.{BitWriter}
 use Rattle.frame.specs.Written.{empty_writer, written, Waits, bits_put, Put, Framed}
 
--- one byte of w more
-push : (l : List ℕ) (p : List Bool) (i j m w b : ℕ) → i < length l → j ≡ i + 1 → b ≡ w / 2 ^ m % 256 → unpack (take i l) ≡ p ++ bits m w
-    → unpack (take j (set l i b)) ≡ p ++ bits (m + 8) w
-unfolding unpack
-push l p i j m w b h hj hb e =
-    let k : bits 8 b ≡ bits 8 (w / 2 ^ m) = rw hb (bits_mod 8 (w / 2 ^ m)) in
-    rw (hj, add-one, take-suc-set l i b h, unpack_append, e, append-nil (bits 8 b), k, append_assoc, bits_add)
-
-pub stored64 :
-    (l : List ℕ) (i w b0 b1 b2 b3 b4 b5 b6 b7 : ℕ) → i + 8 ≤ length l
-    → b0 ≡ w % 256 → b1 ≡ w / 2 ^ 8 % 256 → b2 ≡ w / 2 ^ 16 % 256 → b3 ≡ w / 2 ^ 24 % 256
-    → b4 ≡ w / 2 ^ 32 % 256 → b5 ≡ w / 2 ^ 40 % 256 → b6 ≡ w / 2 ^ 48 % 256 → b7 ≡ w / 2 ^ 56 % 256
-    → unpack (take (i + 8) (set (set (set (set (set (set (set (set l i b0) (i + 1) b1) (i + 2) b2) (i + 3) b3) (i + 4) b4) (i + 5) b5) (i + 6) b6) (i + 7) b7))
-    ≡ unpack (take i l) ++ bits 64 w
-unfolding bits
-stored64 l i w b0 b1 b2 b3 b4 b5 b6 b7 h h0 h1 h2 h3 h4 h5 h6 h7 =
-    let p = unpack (take i l) in
-    let e0 = push l p i (i + 1) 0 w b0 (omega arith) refl (rw div-one h0) (sym (append-nil p)) in
-    let s1 = set l i b0 in
-    let n1 : length s1 ≡ length l = length-set l i b0 in
-    let e1 = push s1 p (i + 1) (i + 2) 8 w b1 (omega arith) (omega arith) h1 e0 in
-    let s2 = set s1 (i + 1) b1 in
-    let n2 : length s2 ≡ length s1 = length-set s1 (i + 1) b1 in
-    let e2 = push s2 p (i + 2) (i + 3) 16 w b2 (omega arith) (omega arith) h2 e1 in
-    let s3 = set s2 (i + 2) b2 in
-    let n3 : length s3 ≡ length s2 = length-set s2 (i + 2) b2 in
-    let e3 = push s3 p (i + 3) (i + 4) 24 w b3 (omega arith) (omega arith) h3 e2 in
-    let s4 = set s3 (i + 3) b3 in
-    let n4 : length s4 ≡ length s3 = length-set s3 (i + 3) b3 in
-    let e4 = push s4 p (i + 4) (i + 5) 32 w b4 (omega arith) (omega arith) h4 e3 in
-    let s5 = set s4 (i + 4) b4 in
-    let n5 : length s5 ≡ length s4 = length-set s4 (i + 4) b4 in
-    let e5 = push s5 p (i + 5) (i + 6) 40 w b5 (omega arith) (omega arith) h5 e4 in
-    let s6 = set s5 (i + 5) b5 in
-    let n6 : length s6 ≡ length s5 = length-set s5 (i + 5) b5 in
-    let e6 = push s6 p (i + 6) (i + 7) 48 w b6 (omega arith) (omega arith) h6 e5 in
-    let s7 = set s6 (i + 6) b6 in
-    let n7 : length s7 ≡ length s6 = length-set s6 (i + 6) b6 in
-    push s7 p (i + 7) (i + 8) 56 w b7 (omega arith) (omega arith) h7 e6
+-- the k bytes of w from byte i on, the lowest first
+pub bytes_bits : (i k w : ℕ) → unpack (bytes_low_first i k w) ≡ bits (8 * k) (w / 256 ^ i)
+unfolding unpack bits
+bytes_bits i zero w = refl
+bytes_bits i (suc k) w =
+    let e : 8 + 8 * k ≡ 8 * suc k = omega arith in
+    let d : w / 256 ^ suc i ≡ w / 256 ^ i / 2 ^ 8 = ap (λ (n : ℕ). w / n) (pow-suc 256 i) ∙ sym (div-div-eq-div-mul w (256 ^ i) 256) in
+    ap₂ (λ (a b : List Bool). a ++ b) (byte i) (rw d at (bytes_bits (suc i) k w))
+    ∙ sym (bits_add 8 (8 * k) (w / 256 ^ i)) ∙ ap (λ (n : ℕ). bits n (w / 256 ^ i)) e
+  where
+    byte : (i : ℕ) → bits 8 (byte_at i w) ≡ bits 8 (w / 256 ^ i)
+    byte zero = rw div-one (bits_mod 8 w)
+    byte (suc i) = bits_mod 8 (w / 256 ^ suc i)
 
 -- v above acc, as bits and as a number
 joined : (acc fill n v a : ℕ) → acc < 2 ^ fill → v < 2 ^ n → a ≡ v * 2 ^ fill + acc → (bits (fill + n) a ≡ bits fill acc ++ bits n v) × (a < 2 ^ (n + fill))
@@ -84,9 +59,6 @@ module _ (w : BitWriter) (n v : ℕ) (hn : n ≤ 32) (hv : v < 2 ^ n) (waits : W
       let x : v * 2 ^ w.fill % 18446744073709551616 ≡ v * 2 ^ w.fill = shl_exact n w.fill 64 hv (omega (arith, waits.few)) in
       omega arith
 
-  pub put_fits : w.acc + v * 2 ^ w.fill % 18446744073709551616 < 18446744073709551616
-  put_fits = lt_trans (joined w.acc w.fill n v _ waits.small hv sum).1 (pow-lt {j = 64} (omega (arith, waits.few)))
-
   pub put_law : (l l' : List ℕ) → w.next + 8 ≤ length l
       → unpack (take (w.next + 8) l') ≡ unpack (take w.next l) ++ bits 64 (w.acc + v * 2 ^ w.fill % 18446744073709551616)
       → Put w l (bits n v)
@@ -114,16 +86,15 @@ module _ (w : BitWriter) (n v : ℕ) (hn : n ≤ 32) (hv : v < 2 ^ n) (waits : W
         counted = rw length_bits (omega arith);
       }
 
-pub finish_law : (w : BitWriter) (l : List ℕ) (b : ℕ) → w.next < length l → Waits w → b ≡ w.acc % 256
-    → unpack (take (w.next + 1) (set l w.next b)) ≡ written w l ++ bits (8 - w.fill) 0
-unfolding written bits
-finish_law w l b h waits hb =
-    let p = unpack (take w.next l) in
-    let e = push l p w.next (w.next + 1) 0 w.acc b h refl (rw div-one hb) (sym (append-nil p)) in
+-- the last byte is the bits that wait, and zeros
+pub finish_law : (w : BitWriter) (l : List ℕ) → w.next < length l → Waits w
+    → unpack (take (w.next + 1) (set l w.next w.acc)) ≡ written w l ++ bits (8 - w.fill) 0
+unfolding written unpack
+finish_law w l h waits =
     let f : w.fill + (8 - w.fill) ≡ 8 = omega (arith, waits.few) in
     let z : w.acc / 2 ^ w.fill ≡ 0 = div-eq_of_lt waits.small in
     let g = rw (f, z) at (bits_add w.fill (8 - w.fill) w.acc) in
-    e ∙ ap (λ (t : List Bool). p ++ t) g ∙ sym (append_assoc p (bits w.fill w.acc) (bits (8 - w.fill) 0))
+    rw (add-one, take-suc-set l w.next w.acc h, unpack_append, append-nil (bits 8 w.acc), g, append_assoc) refl
 
 -- ---- what callers use
 

@@ -9,7 +9,7 @@ pub fn place_at(places: &[u16], j: usize) -> Place
     requires { j < length places.now }
     ensures { result.0 ≡ entry places.now j }
 {
-    Place(places[j] as usize)
+    Place(usize::from(places[j]))
 }
 
 // The label at a place. Called by proved code only.
@@ -17,8 +17,7 @@ pub fn label_at(labels: &[u16], p: Place) -> u16
     requires { p.0 < length labels.now }
     ensures { result ≡ entry labels.now p.0 }
 {
-    let at = p.0;
-    labels[at]
+    labels[p.0]
 }
 
 // Puts a label at a place. Called by proved code only.
@@ -26,6 +25,5 @@ pub fn put_label(labels: &mut [u16], p: Place, label: u16)
     requires { p.0 < length labels.old }
     ensures { labels.new ≡ set labels.old p.0 label }
 {
-    let at = p.0;
-    labels[at] = label;
+    labels[p.0] = label;
 }

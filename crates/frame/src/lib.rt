@@ -12,17 +12,17 @@ ghost use Rattle.frame.specs.BitsAhead.{Ahead};
 ghost use Rattle.frame.specs.Written.{empty_writer, written, Waits, Put};
 
 // Byte i, 0 past the end.
-fn byte_at(bytes: &[u8], i: usize) -> u64
-    ensures { (result ≡ get_or bytes.now i 0) × (result < 256) }
+fn byte_at(bytes: &[u8], i: usize) -> u8
+    ensures { result ≡ get_or bytes.now i 0 }
 {
-    if i < bytes.len() { bytes[i] as u64 } else { 0 }
+    bytes.get(i).copied().unwrap_or(0)
 }
 
 // The bytes of a frame of l bits: (start + l)/8 rounded up, whatever the start.
 pub fn bytes_for(start: u8, l: usize) -> usize
     ensures { result ≡ bytes_for start l }
 {
-    l / 8 + (l % 8 + start as usize + 7) / 8
+    l / 8 + (l % 8 + usize::from(start) + 7) / 8
 }
 
 // Whether FRAME (11) applies to a start: it is above 7.
@@ -42,10 +42,10 @@ pub fn frame_refused(frame: &[u8], start: u8, l: usize) -> bool
     if frame.len() != bytes_for(start, l) {
         return true;
     }
-    if get(frame, 0, start as usize) != 0 {
+    if get(frame, 0, usize::from(start)) != 0 {
         return true;
     }
-    let end = l % 8 + start as usize;
+    let end = l % 8 + usize::from(start);
     byte_at(frame, l / 8 + end / 8) >> (end % 8) != 0
 }
 
@@ -59,25 +59,7 @@ fn word40(bytes: &[u8], i: usize) -> u64
     let b2 = byte_at(bytes, i + 2);
     let b3 = byte_at(bytes, i + 3);
     let b4 = byte_at(bytes, i + 4);
-    b0 + 256 * b1 + 65536 * b2 + 16777216 * b3 + 4294967296 * b4
-}
-
-fn wide(x: u8) -> u64
-    ensures { (result ≡ x) × (result < 256) }
-{
-    x as u64
-}
-
-// Four bytes from byte i on.
-fn word32(bytes: &[u8], i: usize) -> u64
-    requires { i + 4 ≤ length bytes.now }
-    ensures { (result ≡ num (take 32 (drop (8 * i) (unpack bytes.now)))) × (result < 2 ^ 32) }
-{
-    let b0 = wide(bytes[i]);
-    let b1 = wide(bytes[i + 1]);
-    let b2 = wide(bytes[i + 2]);
-    let b3 = wide(bytes[i + 3]);
-    b0 + 256 * b1 + 65536 * b2 + 16777216 * b3
+    u64::from_le_bytes([b0, b1, b2, b3, b4, 0, 0, 0])
 }
 
 // Eight bytes from byte i on: one load.
@@ -85,24 +67,16 @@ fn word64(bytes: &[u8], i: usize) -> u64
     requires { i + 8 ≤ length bytes.now }
     ensures { result ≡ num (take 64 (drop (8 * i) (unpack bytes.now))) }
 {
-    let low = word32(bytes, i);
-    let high = word32(bytes, i + 4);
-    low + 4294967296 * high
-}
-
-// 2 to the k.
-fn power(k: usize) -> u64
-    requires { k < 64 }
-    ensures { result ≡ 2 ^ k }
-{
-    1u64 << k
-}
-
-// Where bit `at` stands in its byte: its weight there is 2 to this.
-fn bit_in_byte(at: usize) -> usize
-    ensures { result ≡ at % 8 }
-{
-    at % 8
+    u64::from_le_bytes([
+        bytes[i],
+        bytes[i + 1],
+        bytes[i + 2],
+        bytes[i + 3],
+        bytes[i + 4],
+        bytes[i + 5],
+        bytes[i + 6],
+        bytes[i + 7],
+    ])
 }
 
 // The bits from bit `at` on, as a number whose 32 lowest bits are right: where eight bytes are there.
@@ -110,14 +84,14 @@ fn ahead_inside(bytes: &[u8], at: usize) -> u64
     requires { at / 8 + 8 ≤ length bytes.now }
     ensures { Ahead result (drop at (unpack bytes.now)) }
 {
-    word64(bytes, at / 8) >> bit_in_byte(at)
+    word64(bytes, at / 8) >> (at % 8)
 }
 
 // The same near the end.
 fn ahead_near_end(bytes: &[u8], at: usize) -> u64
     ensures { Ahead result (drop at (unpack bytes.now)) }
 {
-    word40(bytes, at / 8) >> bit_in_byte(at)
+    word40(bytes, at / 8) >> (at % 8)
 }
 
 // The same anywhere; past the end the bits count as 0.
@@ -135,14 +109,7 @@ pub fn get(bytes: &[u8], at: usize, n: usize) -> u32
     requires { n ≤ 32 }
     ensures { result ≡ num (take n (drop at (unpack bytes.now))) }
 {
-    (ahead(bytes, at) & (power(n) - 1)) as u32
-}
-
-// The lowest byte.
-fn low8(w: u64) -> u8
-    ensures { result ≡ w % 256 }
-{
-    (w % 256) as u8
+    (ahead(bytes, at) % (1 << n)) as u32
 }
 
 // Writes eight bytes from byte i on: one store.
@@ -150,18 +117,12 @@ fn store64(bytes: &mut [u8], i: usize, w: u64)
     requires { i + 8 ≤ length bytes.old }
     ensures { unpack (take (i + 8) bytes.new) ≡ unpack (take i bytes.old) ++ bits 64 w }
 {
-    bytes[i] = low8(w);
-    bytes[i + 1] = low8(w >> 8);
-    bytes[i + 2] = low8(w >> 16);
-    bytes[i + 3] = low8(w >> 24);
-    bytes[i + 4] = low8(w >> 32);
-    bytes[i + 5] = low8(w >> 40);
-    bytes[i + 6] = low8(w >> 48);
-    bytes[i + 7] = low8(w >> 56);
+    bytes[i..i + 8].copy_from_slice(&w.to_le_bytes());
 }
 
 // Puts bits one after the other: whole bytes stand before `next`, and `fill` bits wait in `acc`.
 // What a buffer holds from `next` on is unspecified until `finish`; a buffer has eight bytes more than are put.
+// That less than a byte waits is a clause and no ghost field: `starting_at` promises its writer for any start, also one above 7.
 #[derive(Clone, Copy)]
 pub struct BitWriter {
     pub acc: u64,
@@ -176,7 +137,7 @@ impl BitWriter {
     {
         Self {
             acc: 0,
-            fill: start as usize,
+            fill: usize::from(start),
             next: 0,
         }
     }
@@ -188,7 +149,7 @@ impl BitWriter {
     {
         let old = self.fill;
         let next = self.next;
-        let acc = self.acc + ((value as u64) << old);
+        let acc = self.acc + (u64::from(value) << old);
         let fill = old + n;
         store64(bytes, next, acc);
         BitWriter {
@@ -203,8 +164,7 @@ impl BitWriter {
         requires { (self.next < length bytes.old) × Waits self }
         ensures { unpack (take (self.next + 1) bytes.new) ≡ written self bytes.old ++ bits (8 - self.fill) 0 }
     {
-        let next = self.next;
-        bytes[next] = low8(self.acc);
+        bytes[self.next] = self.acc as u8;
     }
 }
 
@@ -213,9 +173,6 @@ pub fn copy(bytes: &[u8], out: &mut [u8])
     requires { length out.old ≤ length bytes.now }
     ensures { out.new ≡ take (length out.old) bytes.now }
 {
-    let mut i = 0;
-    while i < out.len() {
-        out[i] = bytes[i];
-        i += 1;
-    }
+    let n = out.len();
+    out.copy_from_slice(&bytes[..n]);
 }

@@ -1,5 +1,6 @@
 -- Blocks of request R-1 among document 01's points: those of the labels with two bits more below a label's are a block of two by two, and
 -- its corner tells the point of the label.
+use Rattle.std.specs.Prelude.{Some}
 use Prim.Native.Nat.{ℕ, zero, suc, ◌+◌, ◌-◌, ◌*◌, ◌/◌, ◌^◌, ◌≤◌, ◌<◌}
 use mathlib.Core.Bool.{Bool, true, false, true≢false}
 use mathlib.Core.List.{List, [], ◌∷◌}
@@ -14,7 +15,6 @@ use Rattle.g9932.specs.Bits.{weight, num, first}
 use Rattle.g9932.specs.Plain.{smallest, block_corner, in_block, corner_at, corner_of, of_block}
 use Rattle.g9932.specs.Points.{sign_bit, twos_complement, point_of, same_int, same_point}
 use Rattle.g9932.specs.Sizes.{Point, point}
-use Rattle.g9932.specs.declared.Found.TheVariants.{At}
 use Rattle.g9932.proofs.Constellations.{same_int_self, axes_point, point_coords}
 use Rattle.g9932.proofs.Coordinates.{push, coords, axis_bits_pos, coords_length}
 use Rattle.g9932.proofs.Words.{num_lt, weight_le}
@@ -177,7 +177,7 @@ two_apart (negsuc zero) = refl
 two_apart (negsuc (suc zero)) = refl
 two_apart (negsuc (suc (suc n))) = rw (lt-ltb 2 (suc (suc (suc n))) (omega arith)) (ne_eqb (suc (suc n)) (suc (suc (suc n)) - 3) (λ e. omega arith))
 
-pub low_place_lem : (a c : Bool) (p : Point) → first (λ k. same_point (in_block k p) (in_block (low_place a c) p)) 4 ≡ At (low_place a c)
+pub low_place_lem : (a c : Bool) (p : Point) → first (λ k. same_point (in_block k p) (in_block (low_place a c) p)) 4 ≡ Some (low_place a c)
 unfolding first weight
 low_place_lem false false p = rw (same_int_self p.px, same_int_self p.py)
 low_place_lem true false p = rw (same_int_self p.px, same_int_self (p.py +ℤ pos 2), two_apart p.py)

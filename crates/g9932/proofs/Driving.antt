@@ -1,8 +1,8 @@
 -- What is driven, place by place, and the promise of driving from its equations.
+use Rattle.std.specs.Prelude.{Option, None, Some, Result}
 use Prim.Native.Nat.{ℕ, zero, suc, ◌-◌, ◌^◌, ◌≤◌, ◌<◌}
 use mathlib.Core.Bool.{Bool, true, false, cond}
 use mathlib.Core.List.{List, [], ◌∷◌, map}
-use mathlib.Core.Option.{Option, none, some}
 use mathlib.Core.Path.{◌≡◌, refl, sym, ap, ◌∙◌}
 use native.Mathlib.Omega.{arith}
 use borrow.Author.Tests.{eq-eqb}
@@ -22,6 +22,7 @@ use Rattle.g9932.specs.Symbol.{classes_of, reordered_tones_of, load, tone_point,
 use Rattle.g9932.specs.declared.Class.{Class}
 use Rattle.g9932.specs.declared.Class.TheVariants.{Data, Monitored, Silent}
 use Rattle.g9932.specs.declared.Drive.{Drive}
+use Rattle.g9932.specs.declared.Refused.{Refused}
 use Rattle.g9932.specs.declared.Peak.{Peak}
 use Rattle.g9932.proofs.Constellations.{point_coords}
 use Rattle.g9932.proofs.Coordinates.{coords}
@@ -40,7 +41,7 @@ length_wholes (c ∷ cs) (g ∷ gs) [] m n = absurd (omega arith)
 length_wholes (c ∷ cs) (g ∷ gs) (p ∷ ps) m n = ap suc (length_wholes cs gs ps (omega arith) (omega arith))
 
 pub whole_at_lem : (cs : List Class) (gs : List ℕ) (ps : List Point) → length gs ≡ length cs → length ps ≡ length cs → (k : ℕ) → k < length cs
-    → get_or (wholes_by cs gs ps) k none ≡ whole_at (get_or cs k Silent) (entry gs k) (get_or ps k origin)
+    → get_or (wholes_by cs gs ps) k None ≡ whole_at (get_or cs k Silent) (entry gs k) (get_or ps k origin)
 unfolding wholes_by
 whole_at_lem [] gs ps m n k h = absurd (omega arith)
 whole_at_lem (c ∷ cs) [] ps m n k h = absurd (omega arith)
@@ -60,18 +61,18 @@ unfolding driven_wholes
 driven_count T r start f = length_wholes (classes_of T) (gains_of T) (written_points T r start f) (length_gains T) (length_written T r start f) ∙ length_classes T
 
 pub driven_at : (T : Tables) (r start : ℕ) (f : List ℕ) (k : ℕ) → k < length (classes_of T)
-    → get_or (driven_wholes T r start f) k none ≡ whole_at (get_or (classes_of T) k Silent) (entry (gains_of T) k) (get_or (written_points T r start f) k origin)
+    → get_or (driven_wholes T r start f) k None ≡ whole_at (get_or (classes_of T) k Silent) (entry (gains_of T) k) (get_or (written_points T r start f) k origin)
 unfolding driven_wholes
 driven_at T r start f = whole_at_lem (classes_of T) (gains_of T) (written_points T r start f) (length_gains T) (length_written T r start f)
 
 -- the numbers of a place are 512ths of its whole numbers
 pub x_of_place : (w : Option Point) → x_of (signal_of w) ≡ over512 (whole_or w).px
-x_of_place (some w) = refl
-x_of_place none = refl
+x_of_place (Some w) = refl
+x_of_place None = refl
 
 pub y_of_place : (w : Option Point) → y_of (signal_of w) ≡ over512 (whole_or w).py
-y_of_place (some w) = refl
-y_of_place none = refl
+y_of_place (Some w) = refl
+y_of_place None = refl
 
 pub mapped_at : {A B : Type 0} (f : A → B) (l : List A) (i : ℕ) (a : A) (b : B) → i < length l → get_or (map f l) i b ≡ f (get_or l i a)
 mapped_at f [] i a b h = absurd (omega arith)
@@ -119,19 +120,19 @@ points_fit r (c ∷ cs) d l (suc k) h = points_fit (after_draws (draws c) r) cs 
 
 -- ---- the promise from its equations
 
-peak_if_lem : (v : Verdict) (ws : List (Option Point)) (p : Peak) → peak_if v ws ≡ some p → p ≡ peak_of ws
+peak_if_lem : (v : Verdict) (ws : List (Option Point)) (p : Peak) → peak_if v ws ≡ Some p → p ≡ peak_of ws
 unfolding peak_if
 peak_if_lem v ws p = go (eqb v.number 0)
   where
     given : Option Peak → Peak
-    given (some q) = q
-    given none = peak_of ws
+    given (Some q) = q
+    given None = peak_of ws
 
-    go : (b : Bool) → cond b (some (peak_of ws)) none ≡ some p → p ≡ peak_of ws
+    go : (b : Bool) → cond b (Some (peak_of ws)) None ≡ Some p → p ≡ peak_of ws
     go true e = sym (ap given e)
     go false e = sym (ap given e)
 
-module _ {T : Tables} {start : ℕ} {f : List ℕ} {r : ℕ} {xs ys : List Float} {a : Drive} {xs_after ys_after : List Float} where
+module _ {T : Tables} {start : ℕ} {f : List ℕ} {r : ℕ} {xs ys : List Float} {a : Result Drive Refused} {xs_after ys_after : List Float} where
   pub drives_by : drive_report_of a ≡ (drive_at T start f r xs ys).told → xs_after ≡ (drive_at T start f r xs ys).xs → ys_after ≡ (drive_at T start f r xs ys).ys
       → Drives T start f r xs ys a xs_after ys_after
   unfolding on_done
@@ -141,8 +142,8 @@ module _ {T : Tables} {start : ℕ} {f : List ℕ} {r : ℕ} {xs ys : List Float
         xs_hold = xs_hold;
         ys_hold = ys_hold;
         exact = λ ok k h. (
-          rw (at xs xs_after (λ w. x_of (signal_of w)) xs_hold ok k h ∙ x_of_place (get_or ws k none)) (times_over (whole_or (get_or ws k none)).px),
-          rw (at ys ys_after (λ w. y_of (signal_of w)) ys_hold ok k h ∙ y_of_place (get_or ws k none)) (times_over (whole_or (get_or ws k none)).py),
+          rw (at xs xs_after (λ w. x_of (signal_of w)) xs_hold ok k h ∙ x_of_place (get_or ws k None)) (times_over (whole_or (get_or ws k None)).px),
+          rw (at ys ys_after (λ w. y_of (signal_of w)) ys_hold ok k h ∙ y_of_place (get_or ws k None)) (times_over (whole_or (get_or ws k None)).py),
         );
         exact_peak = λ p e. rw (peak_if_lem v ws p (sym (ap (λ d. d.peak) answer) ∙ e)) (times_over (pos (largest ws)));
       }
@@ -153,7 +154,7 @@ module _ {T : Tables} {start : ℕ} {f : List ℕ} {r : ℕ} {xs ys : List Float
       ws : List (Option Point)
       ws = driven_wholes T r start f
 
-      at : (l after : List Float) (g : Option Point → Float) → after ≡ on_done v (map g ws) l → v.number ≡ 0 → (k : ℕ) → k < length T.tones → get_or after k nan ≡ g (get_or ws k none)
+      at : (l after : List Float) (g : Option Point → Float) → after ≡ on_done v (map g ws) l → v.number ≡ 0 → (k : ℕ) → k < length T.tones → get_or after k nan ≡ g (get_or ws k None)
       at l after g e ok k h =
           ap (λ (z : List Float). get_or z k nan) (e ∙ ap (λ (b : Bool). cond b (map g ws) l) (eq-eqb v.number 0 ok))
-          ∙ mapped_at g ws k none nan (omega (arith, driven_count T r start f))
+          ∙ mapped_at g ws k None nan (omega (arith, driven_count T r start f))

@@ -1,9 +1,9 @@
 -- The plain rule of request R-1 gives document 01's points and labels: by one induction over the bit count, for both directions.
+use Rattle.std.specs.Prelude.{Option, None, Some}
 use Prim.Native.Nat.{ℕ, zero, suc, ◌/◌, ◌%◌, ◌^◌, ◌≤◌, ◌<◌}
 use mathlib.Core.Bool.{Bool, true, false, cond, false≢true}
 use mathlib.Core.List.{List, [], ◌∷◌}
 use mathlib.Core.Logic.{◌≢◌}
-use mathlib.Core.Option.{Option, none, some}
 use mathlib.Core.Path.{◌≡◌, refl, sym, ap, ap₂, ◌∙◌}
 use native.Mathlib.Nat.{pow-suc, mod-eq_of_lt}
 use native.Mathlib.Omega.{arith}
@@ -16,8 +16,6 @@ use Rattle.g9932.specs.Plain.{smallest, small_point, block_corner, in_block, pla
 use Rattle.g9932.specs.Points.{one_points, three_points, point_of, same_point, label_of}
 use Rattle.g9932.specs.Refusals.{bit_count_test, label_test}
 use Rattle.g9932.specs.Sizes.{Point, origin}
-use Rattle.g9932.specs.declared.Found.{Found}
-use Rattle.g9932.specs.declared.Found.TheVariants.{At, Nothing}
 use Rattle.g9932.proofs.Blocks.{low_place, Block, block, of_corner, corner_of_lem, low_place_lem}
 use Rattle.g9932.proofs.Constellations.{same_point_self, same_point→eq, point_inj}
 use Rattle.g9932.proofs.Identities.{or-false}
@@ -53,24 +51,24 @@ search_label b f same p = go (first test (2 ^ b)) refl (label_of b p) refl
     test : ℕ → Bool
     test l = same_point (f l) p
 
-    found : (j : ℕ) → first test (2 ^ b) ≡ At j → (j < 2 ^ b) × (point_of b (bits b j) ≡ p)
+    found : (j : ℕ) → first test (2 ^ b) ≡ Some j → (j < 2 ^ b) × (point_of b (bits b j) ≡ p)
     found j e = let h = first_found test (2 ^ b) j e in (h.0, sym (same j h.0) ∙ same_point→eq (f j) p h.1)
 
-    go : (g : Found) → first test (2 ^ b) ≡ g → (o : Option (List Bool)) → label_of b p ≡ o → g ≡ label_number o
-    go (At j) d (some v) e =
+    go : (g : Option ℕ) → first test (2 ^ b) ≡ g → (o : Option (List Bool)) → label_of b p ≡ o → g ≡ label_number o
+    go (Some j) d (Some v) e =
         let h = found j d in
         let q = point_label b p v e in
         let i : bits b j ≡ v = point_inj b (bits b j) v (length_bits b j) q.0 (h.1 ∙ sym q.1) in
-        ap At (sym (mod-eq_of_lt h.0) ∙ sym (num_bits b j) ∙ ap num i)
-    go (At j) d none e =
+        ap Some (sym (mod-eq_of_lt h.0) ∙ sym (num_bits b j) ∙ ap num i)
+    go (Some j) d None e =
         let h = found j d in
         absurd (none_some (bits b j) (sym e ∙ ap (label_of b) (sym h.1) ∙ label_point b (bits b j) (length_bits b j)))
-    go Nothing d (some v) e =
+    go None d (Some v) e =
         let q = point_label b p v e in
         let l : num v < 2 ^ b = rw q.0 at (num_lt v) in
         let i : f (num v) ≡ p = same (num v) l ∙ ap (point_of b) (rw q.0 at (bits_num v)) ∙ q.1 in
         absurd (false≢true (sym (first_no test (2 ^ b) d (num v) l) ∙ ap (λ (z : Point). same_point z p) i ∙ same_point_self p))
-    go Nothing d none e = refl
+    go None d None e = refl
 
 -- ---- how the plain rule goes on
 
@@ -111,7 +109,7 @@ step_points b h ih l k =
     ∙ sym g.is
 
 -- the label of a point of the block, from that of its corner
-low_label_lem : (b : ℕ) (a c : Bool) (v : List Bool) → Block b a c v → low_label (point_of (suc (suc b)) (a ∷ c ∷ v)) ≡ At (low_place a c)
+low_label_lem : (b : ℕ) (a c : Bool) (v : List Bool) → Block b a c v → low_label (point_of (suc (suc b)) (a ∷ c ∷ v)) ≡ Some (low_place a c)
 low_label_lem b a c v g = rw (g.at, g.is) (low_place_lem a c (block_corner (point_of b v)))
 
 place_bits : (k : ℕ) → k < 4 → (a : Bool) × (c : Bool) × (low_place a c ≡ k)
@@ -122,16 +120,16 @@ place_bits (suc (suc zero)) h = (false, true, refl)
 place_bits (suc (suc (suc zero))) h = (true, true, refl)
 place_bits (suc (suc (suc (suc k)))) h = absurd (omega arith)
 
-number_label : (o : Option (List Bool)) (n : ℕ) → label_number o ≡ At n → (v : List Bool) × (o ≡ some v)
-number_label (some v) n e = (v, refl)
-number_label none n e = absurd (found_not (sym e))
+number_label : (o : Option (List Bool)) (n : ℕ) → label_number o ≡ Some n → (v : List Bool) × (o ≡ Some v)
+number_label (Some v) n e = (v, refl)
+number_label None n e = absurd (found_not (sym e))
 
 module _ (b : ℕ) (h : smallest (suc (suc b)) ≡ false) (ih : (p : Point) → plain_label b p ≡ label_number (label_of b p)) (p : Point) where
   block_at : (a c : Bool) (v : List Bool) → length v ≡ b → Block b a c v
   block_at a c v n = rw n at (block a c v (rw n h))
 
   -- where document 01 has a label,
-  labelled : (w : List Bool) → length w ≡ suc (suc b) → point_of (suc (suc b)) w ≡ p → fourfold (plain_label b (of_block (corner_of p))) (low_label p) ≡ At (num w)
+  labelled : (w : List Bool) → length w ≡ suc (suc b) → point_of (suc (suc b)) w ≡ p → fourfold (plain_label b (of_block (corner_of p))) (low_label p) ≡ Some (num w)
   unfolding num
   labelled [] n e = absurd (omega arith)
   labelled (a ∷ []) n e = absurd (omega arith)
@@ -139,15 +137,15 @@ module _ (b : ℕ) (h : smallest (suc (suc b)) ≡ false) (ih : (p : Point) → 
       let m : length v ≡ b = omega arith in
       let g = block_at a c v m in
       let q : of_block (corner_of p) ≡ point_of b v = ap (λ (z : Point). of_block (corner_of z)) (sym e) ∙ ap of_block g.at ∙ of_corner (point_of b v) in
-      let i : plain_label b (of_block (corner_of p)) ≡ At (num v) = ap (plain_label b) q ∙ ih (point_of b v) ∙ ap label_number (label_point b v m) in
-      let j : low_label p ≡ At (low_place a c) = ap low_label (sym e) ∙ low_label_lem b a c v g in
-      ap₂ fourfold i j ∙ ap At (omega arith)
+      let i : plain_label b (of_block (corner_of p)) ≡ Some (num v) = ap (plain_label b) q ∙ ih (point_of b v) ∙ ap label_number (label_point b v m) in
+      let j : low_label p ≡ Some (low_place a c) = ap low_label (sym e) ∙ low_label_lem b a c v g in
+      ap₂ fourfold i j ∙ ap Some (omega arith)
 
   -- and where it has none
-  unlabelled : (f low : Found) → plain_label b (of_block (corner_of p)) ≡ f → low_label p ≡ low → label_of (suc (suc b)) p ≡ none → fourfold f low ≡ Nothing
-  unlabelled Nothing low d e o = refl
-  unlabelled (At n) Nothing d e o = refl
-  unlabelled (At n) (At k) d e o =
+  unlabelled : (f low : Option ℕ) → plain_label b (of_block (corner_of p)) ≡ f → low_label p ≡ low → label_of (suc (suc b)) p ≡ None → fourfold f low ≡ None
+  unlabelled None low d e o = refl
+  unlabelled (Some n) None d e o = refl
+  unlabelled (Some n) (Some k) d e o =
       let v = number_label (label_of b (of_block (corner_of p))) n (sym (ih (of_block (corner_of p))) ∙ d) in
       let q = point_label b (of_block (corner_of p)) v.0 v.1 in
       let low = first_found (λ j. same_point (in_block j (corner_of p)) p) 4 k e in
@@ -162,8 +160,8 @@ step_labels : (b : ℕ) → smallest (suc (suc b)) ≡ false → Agrees b → (p
 step_labels b h ih p = larger_labels b h p ∙ go (label_of (suc (suc b)) p) refl
   where
     go : (o : Option (List Bool)) → label_of (suc (suc b)) p ≡ o → fourfold (plain_label b (of_block (corner_of p))) (low_label p) ≡ label_number o
-    go (some w) e = let q = point_label (suc (suc b)) p w e in labelled b h ih.labels p w q.0 q.1
-    go none e = unlabelled b h ih.labels p (plain_label b (of_block (corner_of p))) (low_label p) refl refl e
+    go (Some w) e = let q = point_label (suc (suc b)) p w e in labelled b h ih.labels p w q.0 q.1
+    go None e = unlabelled b h ih.labels p (plain_label b (of_block (corner_of p))) (low_label p) refl refl e
 
 -- ---- the induction over the bit count
 
@@ -208,8 +206,8 @@ plain_map_lem b l = go (label_test b l) refl
         ap tone_done (plain_point_lem b l (counted b h.0) (leb-false (2 ^ b) l h.1))
 
 found_label : (o : Option (List Bool)) → plain_found (label_number o) ≡ label_found o
-found_label (some v) = refl
-found_label none = refl
+found_label (Some v) = refl
+found_label None = refl
 
 pub plain_read_lem : (b : ℕ) (p : Point) → plain_read b p ≡ read_point b p
 unfolding plain_read read_point

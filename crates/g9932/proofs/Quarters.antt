@@ -1,10 +1,10 @@
 -- Points turned by quarters to the left. Of the coordinates' bits, those of Y come to X complemented, and those of X to Y. Of a label's, from
 -- 2 bits on, in every two, lowest first, the upper one comes to the lower one's place, and the lower one's complement to the upper one's; the
 -- top bit of an odd number stays. Half a turn is two quarters, a quarter to the right is three.
+use Rattle.std.specs.Prelude.{None}
 use Prim.Native.Nat.{ℕ, zero, suc, ◌≤◌}
 use mathlib.Core.Bool.{Bool, true, false, not, ◌&&◌, cond}
 use mathlib.Core.List.{List, [], ◌∷◌, map}
-use mathlib.Core.Option.{none}
 use mathlib.Core.Path.{◌≡◌, refl, sym, ap, ◌∙◌}
 use native.Mathlib.Omega.{arith}
 use lib.ListN.{length}
@@ -106,14 +106,14 @@ point_opposite (suc zero) v h l = one_turned v l
 point_opposite (suc (suc b)) v h l = point_turned 2 (suc (suc b)) v (omega arith) l
 
 -- and none after a quarter, either way
-pub one_left : (v : List Bool) → length v ≡ 1 → label_of 1 (quarters 1 (point_of 1 v)) ≡ none
+pub one_left : (v : List Bool) → length v ≡ 1 → label_of 1 (quarters 1 (point_of 1 v)) ≡ None
 unfolding seek point_of num weight
 one_left [] h = absurd (omega arith)
 one_left (true ∷ []) h = refl
 one_left (false ∷ []) h = refl
 one_left (a ∷ b ∷ v) h = absurd (omega arith)
 
-pub one_right : (v : List Bool) → length v ≡ 1 → label_of 1 (quarters 3 (point_of 1 v)) ≡ none
+pub one_right : (v : List Bool) → length v ≡ 1 → label_of 1 (quarters 3 (point_of 1 v)) ≡ None
 one_right v h = ap (λ p. label_of 1 (quarters 1 p)) (one_turned v h) ∙ one_left (turned_label 2 v) (length_turned 2 v ∙ h)
 
 -- ---- what the code sees of it

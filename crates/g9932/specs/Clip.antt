@@ -1,17 +1,15 @@
 -- Request R-10: "Is my clip the wrong way round?" The answer for all inputs. Of the points it looks at the first monitored tone's only.
+use Rattle.std.specs.Prelude.{Option, None, Some, Result, Ok, Err}
 use Rattle.std.specs.Prelude.{ℕ, Bool, true, false, ◌||◌, cond, List, eqb, ℤ, length, take, get_or}
-use Rattle.std.proofs.Math.Option.{Option, none, some}
 use Rattle.g9932.specs.Filler.{drawn, register_after}
 use Rattle.g9932.specs.Points.{point_of, negated, same_point}
 use Rattle.g9932.specs.Refusals.{number_of, place_of, Verdict, accepted, refuse_if, and_then, room_test, seed_test, table_verdict}
 use Rattle.g9932.specs.Sizes.{Tables, Point, origin, points}
 use Rattle.g9932.specs.Symbol.{classes_of, first_monitored}
 use Rattle.g9932.specs.declared.Clip.{Clip}
+use Rattle.g9932.specs.declared.ClipTold.{ClipTold}
+use Rattle.g9932.specs.declared.Refused.{Refused}
 use Rattle.g9932.specs.declared.Clip.TheVariants.{Straight, Turned, Neither, CannotTell}
-use Rattle.g9932.specs.declared.ClipChecked.{ClipChecked}
-use Rattle.g9932.specs.declared.ClipChecked.TheVariants.{Told, Refused}
-use Rattle.g9932.specs.declared.Found.{Found}
-use Rattle.g9932.specs.declared.Found.TheVariants.{At, Nothing}
 
 -- ---- which way round
 
@@ -29,9 +27,9 @@ abbrev pub filler_point : Tables → ℕ → ℕ → Point
 filler_point T r k = point_of 2 (drawn 2 (register_after r (take k (classes_of T))))
 
 -- of the first monitored tone in t'; "can't tell" if no tone is monitored
-abbrev pub clip_at : Tables → List Point → ℕ → Found → Clip
-clip_at T q r (At k) = clip_against (filler_point T r k) (get_or q k origin)
-clip_at T q r Nothing = CannotTell
+abbrev pub clip_at : Tables → List Point → ℕ → Option ℕ → Clip
+clip_at T q r (Some k) = clip_against (filler_point T r k) (get_or q k origin)
+clip_at T q r None = CannotTell
 
 unfoldable pub clip_of : Tables → List Point → ℕ → Clip
 clip_of T q r = clip_at T q r (first_monitored T)
@@ -56,19 +54,19 @@ pub record ClipReport : Type 0 where
   pub register : ℕ
 
 unfoldable pub clip_report_by : Verdict → Clip → ℕ → ClipReport
-clip_report_by v c r = record { number = v.number; place = v.place; clip = cond (eqb v.number 0) (some c) none; register = r }
+clip_report_by v c r = record { number = v.number; place = v.place; clip = cond (eqb v.number 0) (Some c) None; register = r }
 
 abbrev pub clip_check : Tables → List ℤ → List ℤ → ℕ → ClipReport
 clip_check T xs ys r = clip_report_by (clip_verdict T (length xs) (length ys) r) (clip_of T (points xs ys) r) r
 
-abbrev pub clip_report_of : ClipChecked → ClipReport
-clip_report_of (Told c r) = record { number = 0; place = 0; clip = some c; register = r }
-clip_report_of (Refused x r) = record { number = number_of x; place = place_of x; clip = none; register = r }
+abbrev pub clip_report_of : Result ClipTold Refused → ClipReport
+clip_report_of (Ok a) = record { number = 0; place = 0; clip = Some a.clip; register = a.register }
+clip_report_of (Err x) = record { number = number_of x.refusal; place = place_of x.refusal; clip = None; register = x.register }
 
 -- the number of what is told, for C; 0, that of a refusal, is no clip's
 abbrev pub clip_number : Option Clip → ℕ
-clip_number none = 0
-clip_number (some Straight) = 1
-clip_number (some Turned) = 2
-clip_number (some Neither) = 3
-clip_number (some CannotTell) = 4
+clip_number None = 0
+clip_number (Some Straight) = 1
+clip_number (Some Turned) = 2
+clip_number (Some Neither) = 3
+clip_number (Some CannotTell) = 4

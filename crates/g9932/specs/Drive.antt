@@ -1,22 +1,20 @@
 -- Request R-4: points with their gain on, as 32-bit floats, and the peak of a symbol. Everything is said over whole numbers: 512 times a
 -- number that is driven is gain times coordinate.
+use Rattle.std.specs.Prelude.{Option, None, Some, Result, Ok, Err}
 use Rattle.std.specs.Prelude.{ℕ, ◌<◌, Bool, true, false, cond, List, [], ◌∷◌, map, ◌≡◌, ltb, eqb, Float, ℤ, pos, negsuc, nat_abs, ◌*ℤ◌, length, get_or}
-use Rattle.std.proofs.Math.Option.{Option, none, some}
 use Rattle.std.specs.Float.{nan}
 use Rattle.std.specs.Float.Ieee.{odd}
 use Rattle.std.specs.Float.Ieee.Exact.{HasValue}
-use Rattle.g9932.specs.Answers.{on_done, Report, report_by, encode_verdict}
+use Rattle.g9932.specs.Answers.{on_done, Report, report_by, refused_report, encode_verdict}
 use Rattle.g9932.specs.Bits.{first}
 use Rattle.g9932.specs.Filler.{register_after}
-use Rattle.g9932.specs.Refusals.{number_of, place_of, Verdict, refused, accepted}
+use Rattle.g9932.specs.Refusals.{Verdict, accepted}
 use Rattle.g9932.specs.Sizes.{Tables, entry, Point, point, origin}
 use Rattle.g9932.specs.Symbol.{reordered_tones_of, classes_of, written_points}
 use Rattle.g9932.specs.declared.Class.{Class}
 use Rattle.g9932.specs.declared.Class.TheVariants.{Data, Monitored, Silent}
 use Rattle.g9932.specs.declared.Drive.{Drive}
-use Rattle.g9932.specs.declared.Drive.TheVariants.{Done, Refused}
-use Rattle.g9932.specs.declared.Found.{Found}
-use Rattle.g9932.specs.declared.Found.TheVariants.{At, Nothing}
+use Rattle.g9932.specs.declared.Refused.{Refused}
 use Rattle.g9932.specs.declared.Peak.{Peak}
 use Rattle.g9932.specs.declared.Signal.{Signal}
 use Rattle.g9932.specs.declared.Signal.TheVariants.{Driven, Silent as NotDriven}
@@ -43,9 +41,9 @@ abbrev pub gained : ℕ → Point → Point
 gained g p = point (pos g *ℤ p.px) (pos g *ℤ p.py)
 
 abbrev pub whole_at : Class → ℕ → Point → Option Point
-whole_at (Data n) g p = some (gained g p)
-whole_at Monitored g p = some (gained g p)
-whole_at Silent g p = none
+whole_at (Data n) g p = Some (gained g p)
+whole_at Monitored g p = Some (gained g p)
+whole_at Silent g p = None
 
 unfoldable pub wholes_by : List Class → List ℕ → List Point → List (Option Point)
 wholes_by [] gs ps = []
@@ -63,8 +61,8 @@ driven_wholes T r start f = wholes_by (classes_of T) (gains_of T) (written_point
 
 -- either driven, carrying two numbers, or silent, carrying none
 abbrev pub signal_of : Option Point → Signal
-signal_of (some w) = Driven (over512 w.px) (over512 w.py)
-signal_of none = NotDriven
+signal_of (Some w) = Driven (over512 w.px) (over512 w.py)
+signal_of None = NotDriven
 
 -- what the two lists have; 0 at a silent place
 abbrev pub x_of : Signal → Float
@@ -82,8 +80,8 @@ larger a b = cond (ltb a b) b a
 
 -- 512 times the larger size of a place's numbers
 abbrev pub size_at : Option Point → ℕ
-size_at (some w) = larger (nat_abs w.px) (nat_abs w.py)
-size_at none = 0
+size_at (Some w) = larger (nat_abs w.px) (nat_abs w.py)
+size_at None = 0
 
 -- 512 times the largest size of any number; 0 if all are silent
 unfoldable pub largest : List (Option Point) → ℕ
@@ -92,16 +90,16 @@ largest (w ∷ ws) = larger (size_at w) (largest ws)
 
 -- whether a place is driven with a number of that size
 abbrev pub has_size : ℕ → Option Point → Bool
-has_size n (some w) = eqb (size_at (some w)) n
-has_size n none = false
+has_size n (Some w) = eqb (size_at (Some w)) n
+has_size n None = false
 
 -- the first place that has the largest size; NSC if all are silent
-abbrev pub place_or : ℕ → Found → ℕ
-place_or n (At k) = k
-place_or n Nothing = n
+abbrev pub place_or : ℕ → Option ℕ → ℕ
+place_or n (Some k) = k
+place_or n None = n
 
 abbrev pub peak_place : List (Option Point) → ℕ
-peak_place ws = place_or (length ws) (first (λ k. has_size (largest ws) (get_or ws k none)) (length ws))
+peak_place ws = place_or (length ws) (first (λ k. has_size (largest ws) (get_or ws k None)) (length ws))
 
 abbrev pub peak_of : List (Option Point) → Peak
 peak_of ws = record { size = over512 (pos (largest ws)); place = record { 0 = peak_place ws } }
@@ -112,12 +110,12 @@ pub record DriveReport : Type 0 where
   pub report : Report
   pub peak : Option Peak
 
-abbrev pub drive_report_of : Drive → DriveReport
-drive_report_of (Done l r p) = record { report = record { verdict = accepted l; register = r }; peak = some p }
-drive_report_of (Refused x r) = record { report = record { verdict = refused (number_of x) (place_of x); register = r }; peak = none }
+abbrev pub drive_report_of : Result Drive Refused → DriveReport
+drive_report_of (Ok a) = record { report = record { verdict = accepted a.size; register = a.register }; peak = Some a.peak }
+drive_report_of (Err x) = record { report = refused_report x; peak = None }
 
 unfoldable pub peak_if : Verdict → List (Option Point) → Option Peak
-peak_if v ws = cond (eqb v.number 0) (some (peak_of ws)) none
+peak_if v ws = cond (eqb v.number 0) (Some (peak_of ws)) None
 
 pub record Driving : Type 0 where
   pub told : DriveReport
@@ -139,15 +137,15 @@ drive_at T start f r xs ys =
 
 -- 512 times what is driven at a place, as a point; (0, 0) where it is silent
 abbrev pub whole_or : Option Point → Point
-whole_or (some w) = w
-whole_or none = origin
+whole_or (Some w) = w
+whole_or None = origin
 
 -- The promise of an operation that drives: its answer, and both lists afterwards. Where nothing is refused, 512 times each number is gain
 -- times coordinate, and 512 times the peak the largest of them in size: nothing is rounded.
-pub record Drives (T : Tables) (start : ℕ) (f : List ℕ) (r : ℕ) (xs ys : List Float) (a : Drive) (xs_after ys_after : List Float) : Type 0 where
+pub record Drives (T : Tables) (start : ℕ) (f : List ℕ) (r : ℕ) (xs ys : List Float) (a : Result Drive Refused) (xs_after ys_after : List Float) : Type 0 where
   pub answer : drive_report_of a ≡ (drive_at T start f r xs ys).told
   pub xs_hold : xs_after ≡ (drive_at T start f r xs ys).xs
   pub ys_hold : ys_after ≡ (drive_at T start f r xs ys).ys
   pub exact : (encode_verdict T start f r (length xs) (length ys)).number ≡ 0 → (k : ℕ) → k < length T.tones
-      → Times512 (get_or xs_after k nan) (whole_or (get_or (driven_wholes T r start f) k none)).px × Times512 (get_or ys_after k nan) (whole_or (get_or (driven_wholes T r start f) k none)).py
-  pub exact_peak : (p : Peak) → (drive_report_of a).peak ≡ some p → Times512 p.size (pos (largest (driven_wholes T r start f)))
+      → Times512 (get_or xs_after k nan) (whole_or (get_or (driven_wholes T r start f) k None)).px × Times512 (get_or ys_after k nan) (whole_or (get_or (driven_wholes T r start f) k None)).py
+  pub exact_peak : (p : Peak) → (drive_report_of a).peak ≡ Some p → Times512 p.size (pos (largest (driven_wholes T r start f)))

@@ -1,15 +1,15 @@
 -- Request R-13: points that were received off the grid, and the frame whose written points are nearest to them.
-use Rattle.std.specs.Prelude.{ℕ, ◌+◌, ◌*◌, ◌≤◌, Bool, false, ◌||◌, List, [], ◌∷◌, ◌≡◌, ltb, ℤ, nat_abs, ◌-ℤ◌, length, get_or}
-use Rattle.g9932.specs.Answers.{Report, report_by}
+use Rattle.std.specs.Prelude.{Result, Ok, Err, ℕ, ◌+◌, ◌*◌, ◌≤◌, Bool, false, ◌||◌, List, [], ◌∷◌, ◌≡◌, ltb, ℤ, nat_abs, ◌-ℤ◌, length, get_or}
+use Rattle.g9932.specs.Answers.{Report, report_by, refused_report}
 use Rattle.g9932.specs.Bits.{first}
 use Rattle.g9932.specs.Filler.{register_after}
-use Rattle.g9932.specs.Refusals.{number_of, place_of, Verdict, refused, accepted, refuse_if, refuse_at, and_then, room_test, start_test, frame_test, seed_test, table_verdict}
+use Rattle.g9932.specs.Refusals.{Verdict, accepted, refuse_if, refuse_at, and_then, room_test, start_test, frame_test, seed_test, table_verdict}
 use Rattle.g9932.specs.Sizes.{Tables, bytes_for, Point, points, origin}
 use Rattle.g9932.specs.Symbol.{classes_of, pairs_in, size_of, written_points}
 use Rattle.g9932.specs.declared.Class.{Class}
 use Rattle.g9932.specs.declared.Class.TheVariants.{Data, Monitored, Silent}
 use Rattle.g9932.specs.declared.Nearest.{Nearest}
-use Rattle.g9932.specs.declared.Nearest.TheVariants.{Done, Refused}
+use Rattle.g9932.specs.declared.Refused.{Refused}
 
 -- ---- distances
 
@@ -79,18 +79,18 @@ abbrev pub nearest_report : Tables → List ℤ → List ℤ → ℕ → ℕ →
 nearest_report T xs ys r start frame_length work_length =
     report_by (nearest_verdict T xs ys r start frame_length work_length) r (register_after r (classes_of T))
 
-abbrev pub nearest_of : Nearest → Report
-nearest_of (Done l r n) = record { verdict = accepted l; register = r }
-nearest_of (Refused x r) = record { verdict = refused (number_of x) (place_of x); register = r }
+abbrev pub nearest_of : Result Nearest Refused → Report
+nearest_of (Ok a) = record { verdict = accepted a.size; register = a.register }
+nearest_of (Err x) = refused_report x
 
 -- the total of an answer; a refused one carries none
-abbrev pub total_in : Nearest → ℕ
-total_in (Done l r n) = n
-total_in (Refused x r) = 0
+abbrev pub total_in : Result Nearest Refused → ℕ
+total_in (Ok a) = a.total
+total_in (Err x) = 0
 
 -- The promise of nearest reading. Which frame it is, where several have the smallest total, is free, and so is what the working buffer
 -- holds afterwards: the promise has its length alone. On a refusal neither buffer is changed.
-pub record ReadsNearest (T : Tables) (xs ys : List ℤ) (r start : ℕ) (f work : List ℕ) (a : Nearest) (f_after work_after : List ℕ) : Type 0 where
+pub record ReadsNearest (T : Tables) (xs ys : List ℤ) (r start : ℕ) (f work : List ℕ) (a : Result Nearest Refused) (f_after work_after : List ℕ) : Type 0 where
   pub answer : nearest_of a ≡ nearest_report T xs ys r start (length f) (length work)
   pub nearest : (nearest_verdict T xs ys r start (length f) (length work)).number ≡ 0 → NearestFrame T (points xs ys) r start f_after (total_in a)
   pub frame_kept : ((nearest_verdict T xs ys r start (length f) (length work)).number ≡ 0 → ⊥) → f_after ≡ f

@@ -1,15 +1,13 @@
 -- Request R-1: the plain rule, by which a second mapper maps and reads. Labels are numbers here. `Points` has document 01's rule, and that
 -- the two agree is shown once over the bit count.
+use Rattle.std.specs.Prelude.{Option, None, Some}
 use Rattle.std.specs.Prelude.{ℕ, zero, suc, ◌+◌, ◌*◌, ◌/◌, ◌%◌, ◌^◌, Bool, ◌||◌, cond, List, eqb, ℤ, pos, ◌+ℤ◌, ◌-ℤ◌, ◌*ℤ◌, get_or}
-use Rattle.std.proofs.Math.Option.{Option, none, some}
 use Rattle.std.specs.Int.Signed.{shr_z}
 use Rattle.g9932.specs.Answers.{OneTone, tone_refused, tone_done}
 use Rattle.g9932.specs.Bits.{bits, num, first}
 use Rattle.g9932.specs.Points.{one_points, even_point, three_points, odd_point, same_point}
 use Rattle.g9932.specs.Refusals.{bit_count_test, label_test}
 use Rattle.g9932.specs.Sizes.{Point, point, origin}
-use Rattle.g9932.specs.declared.Found.{Found}
-use Rattle.g9932.specs.declared.Found.TheVariants.{At, Nothing}
 
 -- ---- "down to 2, 3 or 5 (and 1 on its own)": the smallest constellations, as document 01 has them
 
@@ -49,7 +47,7 @@ plain_point (suc (suc b)) l =
 -- ---- "its reading direction too"
 
 -- the label that has a point in one of the smallest constellations, looked for among all
-abbrev pub small_label : ℕ → Point → Found
+abbrev pub small_label : ℕ → Point → Option ℕ
 small_label b p = first (λ l. same_point (small_point b l) p) (2 ^ b)
 
 -- The corner of the block that a coordinate is in: X is odd, so 2X − 1 is one more than a multiple of 4. `shr_z z m` is z/m, rounded down. An
@@ -61,7 +59,7 @@ abbrev pub corner_of : Point → Point
 corner_of p = point (corner_at p.px) (corner_at p.py)
 
 -- The corner tells the two lowest bits, as the place of the point in the block, if it has one,
-abbrev pub low_label : Point → Found
+abbrev pub low_label : Point → Option ℕ
 low_label p = first (λ k. same_point (in_block k (corner_of p)) p) 4
 
 -- and the point (X, Y) of n: the corner is (2X − 1, 2Y − 1).
@@ -69,14 +67,14 @@ abbrev pub of_block : Point → Point
 of_block c = point (shr_z (c.px +ℤ pos 1) 2) (shr_z (c.py +ℤ pos 1) 2)
 
 -- the label 4n + k, or none where n or k is missing
-abbrev pub fourfold : Found → Found → Found
-fourfold (At n) (At k) = At (4 * n + k)
-fourfold (At n) Nothing = Nothing
-fourfold Nothing low = Nothing
+abbrev pub fourfold : Option ℕ → Option ℕ → Option ℕ
+fourfold (Some n) (Some k) = Some (4 * n + k)
+fourfold (Some n) None = None
+fourfold None low = None
 
 -- reading b bits calls itself for b − 2 bits, with the point of n
-unfoldable pub plain_label : ℕ → Point → Found
-plain_label zero p = Nothing
+unfoldable pub plain_label : ℕ → Point → Option ℕ
+plain_label zero p = None
 plain_label (suc zero) p = small_label 1 p
 plain_label (suc (suc b)) p =
     cond (smallest (suc (suc b)))
@@ -88,15 +86,15 @@ plain_label (suc (suc b)) p =
 unfoldable pub plain_map : ℕ → ℕ → OneTone Point
 plain_map b l = cond (label_test b l) (tone_refused 16) (tone_done (plain_point b l))
 
-abbrev pub plain_found : Found → OneTone ℕ
-plain_found (At l) = tone_done l
-plain_found Nothing = tone_refused 13
+abbrev pub plain_found : Option ℕ → OneTone ℕ
+plain_found (Some l) = tone_done l
+plain_found None = tone_refused 13
 
 unfoldable pub plain_read : ℕ → Point → OneTone ℕ
 plain_read b p = cond (bit_count_test b) (tone_refused 16) (plain_found (plain_label b p))
 
--- ---- for the theorem: the label that document 01 has, as a number, or Nothing
+-- ---- for the theorem: the label that document 01 has, as a number, or none
 
-abbrev pub label_number : Option (List Bool) → Found
-label_number (some v) = At (num v)
-label_number none = Nothing
+abbrev pub label_number : Option (List Bool) → Option ℕ
+label_number (Some v) = Some (num v)
+label_number None = None

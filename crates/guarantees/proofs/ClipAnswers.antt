@@ -1,9 +1,9 @@
 -- What the clip check answers by what it is given, and what it tells by the first monitored tone.
+use Rattle.std.specs.Prelude.{Option, None, Some}
 use Prim.Native.Nat.{ℕ}
 use mathlib.Core.Bool.{Bool, true, false, ◌||◌, not-eq-not}
 use mathlib.Core.List.{List}
 use mathlib.Core.Logic.{◌↔◌, ◌≢◌}
-use mathlib.Core.Option.{none, some}
 use mathlib.Core.Path.{◌≡◌, refl, sym, ap, ◌∙◌}
 use native.Mathlib.Omega.{arith}
 use borrow.Author.Tests.{eq-eqb, ne_eqb}
@@ -17,8 +17,6 @@ use Rattle.g9932.specs.Sizes.{Tables, Point, origin, points}
 use Rattle.g9932.specs.Symbol.{classes_of, first_monitored}
 use Rattle.g9932.specs.declared.Clip.{Clip}
 use Rattle.g9932.specs.declared.Clip.TheVariants.{Straight, Turned, Neither, CannotTell}
-use Rattle.g9932.specs.declared.Found.{Found}
-use Rattle.g9932.specs.declared.Found.TheVariants.{At, Nothing}
 use Rattle.g9932.proofs.Constellations.{same_point_self, same_point→eq}
 use Rattle.g9932.proofs.Verdicts.{test_here, test_past, and_past, clip_told}
 use Rattle.guarantees.specs.Words.{AcceptedTables, ValidRegister, RightLength}
@@ -30,7 +28,7 @@ use Rattle.guarantees.proofs.TurnedSymbol.{two_moves}
 
 -- no clip has number 0
 abbrev number_in : Clip → ℕ
-number_in c = clip_number (some c)
+number_in c = clip_number (Some c)
 
 number_not : (c : Clip) → number_in c ≢ 0
 number_not Straight e = omega arith
@@ -46,11 +44,11 @@ module _ (T : Tables) (xs ys : List ℤ) (r : ℕ) where
   unfolding clip_report_by
   register_back = refl
 
-  pub told : answer.number ≡ 0 → answer.clip ≡ some (clip_of T (points xs ys) r)
+  pub told : answer.number ≡ 0 → answer.clip ≡ Some (clip_of T (points xs ys) r)
   unfolding clip_report_by
   told e = rw (eq-eqb answer.number 0 e)
 
-  pub not_told : answer.number ≢ 0 → answer.clip ≡ none
+  pub not_told : answer.number ≢ 0 → answer.clip ≡ None
   unfolding clip_report_by
   not_told h = rw (ne_eqb answer.number 0 h)
 
@@ -62,7 +60,7 @@ module _ (T : Tables) (xs ys : List ℤ) (r : ℕ) where
   nine = (clip_told T (length xs) (length ys) r).not_nine
 
   pub tables_refused : (table_verdict T).number ≢ 0
-      → answer ≡ record { number = (table_verdict T).number; place = (table_verdict T).place; clip = none; register = r }
+      → answer ≡ record { number = (table_verdict T).number; place = (table_verdict T).place; clip = None; register = r }
   unfolding clip_report_by clip_verdict and_then
   tables_refused h = rw (ne_eqb (table_verdict T).number 0 h, ne_eqb (table_verdict T).number 0 h)
 
@@ -76,7 +74,7 @@ module _ (T : Tables) (ok : AcceptedTables T) (xs ys : List ℤ) (r : ℕ) where
   by_verdict : {v : Verdict} → v ≡ verdict → clip_check T xs ys r ≡ clip_report_by v (clip_of T (points xs ys) r) r
   by_verdict e = ap (λ (v : Verdict). clip_report_by v (clip_of T (points xs ys) r) r) (sym e)
 
-  pub room : (RightLength T xs ys → ⊥) → clip_check T xs ys r ≡ record { number = 10; place = 0; clip = none; register = r }
+  pub room : (RightLength T xs ys → ⊥) → clip_check T xs ys r ≡ record { number = 10; place = 0; clip = None; register = r }
   unfolding clip_report_by clip_verdict clip_inputs
   room wrong = by_verdict (and_past (table_verdict T) ok (test_here 10 _ ((not-eq-not {b = true}).0 (λ e. wrong (exact_lists T ok xs ys 0 r e)))))
 
@@ -84,11 +82,11 @@ module _ (T : Tables) (ok : AcceptedTables T) (xs ys : List ℤ) (r : ℕ) where
     fits : room_test (length xs) (length T.tones) || room_test (length ys) (length T.tones) ≡ false
     fits = lists_fit T ok xs ys 0 r right
 
-    pub seed : (ValidRegister r → ⊥) → clip_check T xs ys r ≡ record { number = 12; place = 0; clip = none; register = r }
+    pub seed : (ValidRegister r → ⊥) → clip_check T xs ys r ≡ record { number = 12; place = 0; clip = None; register = r }
     unfolding clip_report_by clip_verdict clip_inputs
     seed bad = by_verdict (and_past (table_verdict T) ok (test_past 10 fits (test_here 12 _ ((not-eq-not {b = true}).0 bad))))
 
-    pub done : ValidRegister r → clip_check T xs ys r ≡ record { number = 0; place = 0; clip = some (clip_of T (points xs ys) r); register = r }
+    pub done : ValidRegister r → clip_check T xs ys r ≡ record { number = 0; place = 0; clip = Some (clip_of T (points xs ys) r); register = r }
     unfolding clip_report_by clip_verdict clip_inputs
     done valid = by_verdict (and_past (table_verdict T) ok (test_past 10 fits (test_past 12 valid refl)))
 
@@ -121,15 +119,15 @@ turned_not : ◌≡◌ {A = Clip} Turned Neither → ⊥
 turned_not e = let z : ◌≡◌ {A = ℕ} 2 3 = ap number_in e in omega arith
 
 module _ (T : Tables) (q : List Point) (r : ℕ) where
-  pub cannot_tell : (clip_of T q r ≡ CannotTell) ↔ (first_monitored T ≡ Nothing)
+  pub cannot_tell : (clip_of T q r ≡ CannotTell) ↔ (first_monitored T ≡ None)
   unfolding clip_of
   cannot_tell = (λ e. go (first_monitored T) refl e, λ e. ap (clip_at T q r) e)
     where
-      go : (f : Found) → first_monitored T ≡ f → clip_at T q r f ≡ CannotTell → first_monitored T ≡ Nothing
-      go Nothing m e = m
-      go (At k) m e = absurd (by_tells (same_point (get_or q k origin) (filler_point T r k)) (same_point (get_or q k origin) (negated (filler_point T r k))) e)
+      go : (f : Option ℕ) → first_monitored T ≡ f → clip_at T q r f ≡ CannotTell → first_monitored T ≡ None
+      go None m e = m
+      go (Some k) m e = absurd (by_tells (same_point (get_or q k origin) (filler_point T r k)) (same_point (get_or q k origin) (negated (filler_point T r k))) e)
 
-  module _ (k : ℕ) (m : first_monitored T ≡ At k) where
+  module _ (k : ℕ) (m : first_monitored T ≡ Some k) where
     abbrev filler : Point
     filler = filler_point T r k
 
@@ -162,10 +160,10 @@ module _ (T : Tables) (q : List Point) (r : ℕ) where
 
 -- no other point matters
 pub one_tone : (T : Tables) (r : ℕ) (X Y X' Y' : List ℤ) → length X ≡ length X' → length Y ≡ length Y'
-    → ((k : ℕ) → first_monitored T ≡ At k → get_or (points X Y) k origin ≡ get_or (points X' Y') k origin) → clip_check T X Y r ≡ clip_check T X' Y' r
+    → ((k : ℕ) → first_monitored T ≡ Some k → get_or (points X Y) k origin ≡ get_or (points X' Y') k origin) → clip_check T X Y r ≡ clip_check T X' Y' r
 unfolding clip_of
 one_tone T r X Y X' Y' lx ly same = rw (lx, ly) (ap (λ (c : Clip). clip_report_by (clip_verdict T (length X') (length Y') r) c r) (go (first_monitored T) same))
   where
-    go : (f : Found) → ((k : ℕ) → f ≡ At k → get_or (points X Y) k origin ≡ get_or (points X' Y') k origin) → clip_at T (points X Y) r f ≡ clip_at T (points X' Y') r f
-    go Nothing h = refl
-    go (At k) h = ap (clip_against (filler_point T r k)) (h k refl)
+    go : (f : Option ℕ) → ((k : ℕ) → f ≡ Some k → get_or (points X Y) k origin ≡ get_or (points X' Y') k origin) → clip_at T (points X Y) r f ≡ clip_at T (points X' Y') r f
+    go None h = refl
+    go (Some k) h = ap (clip_against (filler_point T r k)) (h k refl)

@@ -1,9 +1,9 @@
 -- The clip check answers what two readings would, of a written symbol and of one turned by half a turn.
+use Rattle.std.specs.Prelude.{None, Some}
 use Prim.Native.Nat.{ℕ, ◌%◌, ◌≤◌}
 use mathlib.Core.Bool.{Bool, true, false}
 use mathlib.Core.List.{List, [], ◌∷◌, map}
 use mathlib.Core.Logic.{◌↔◌, ◌≢◌, ◌⊎◌, inl, inr, ⊎_elim}
-use mathlib.Core.Option.{some}
 use mathlib.Core.Path.{◌≡◌, refl, sym, ap, ap₂, ◌∙◌}
 use native.Mathlib.Omega.{arith}
 use borrow.Author.Tests.{eqb-true}
@@ -20,7 +20,6 @@ use Rattle.g9932.specs.declared.Class.{Class}
 use Rattle.g9932.specs.declared.Class.TheVariants.{Data, Monitored, Silent}
 use Rattle.g9932.specs.declared.Clip.{Clip}
 use Rattle.g9932.specs.declared.Clip.TheVariants.{Straight, Turned, Neither, CannotTell}
-use Rattle.g9932.specs.declared.Found.TheVariants.{At, Nothing}
 use Rattle.g9932.specs.declared.Mode.TheVariants.{Coded}
 use Rattle.g9932.proofs.Accepted.{Accepted, accepted_tables}
 use Rattle.g9932.proofs.Packed.{length_frame}
@@ -48,7 +47,7 @@ turned_lists : (xs ys : List ℤ) → length xs ≡ length ys → points (turned
 turned_lists xs ys l = rw (points_xs xs ys l, points_ys xs ys l) at (points_turned (points xs ys))
 
 straight_not_turned : ◌≡◌ {A = Clip} Straight Turned → ⊥
-straight_not_turned e = let z : ◌≡◌ {A = ℕ} 1 2 = ap (λ (c : Clip). clip_number (some c)) e in omega arith
+straight_not_turned e = let z : ◌≡◌ {A = ℕ} 1 2 = ap (λ (c : Clip). clip_number (Some c)) e in omega arith
 
 -- ---- a written symbol
 
@@ -78,7 +77,7 @@ module _ (T : Tables) (ok : AcceptedTables T) (r : ℕ) (X Y : List ℤ) (w : Wr
       (pack start g, packed_frame T start g l small, packed_points T start g l r)
 
   -- and has the point that the filler bits give at the first monitored tone
-  pub written_filler : (k : ℕ) → first_monitored T ≡ At k → get_or (points X Y) k origin ≡ filler_point T r k
+  pub written_filler : (k : ℕ) → first_monitored T ≡ Some k → get_or (points X Y) k origin ≡ filler_point T r k
   unfolding written_points
   written_filler k e =
       let found = first_found (λ j. is_monitored (get_or (classes_of T) j Silent)) (length T.tones) k e in
@@ -101,7 +100,7 @@ module _ (T : Tables) (ok : AcceptedTables T) (r : ℕ) (X Y : List ℤ) where
       let l = written_right T ok r s.xs s.ys s.written in
       ap₂ points s.xs_are s.ys_are ∙ turned_lists s.xs s.ys (l.xs_length ∙ sym l.ys_length)
 
-  module _ (k : ℕ) (e : first_monitored T ≡ At k) where
+  module _ (k : ℕ) (e : first_monitored T ≡ Some k) where
     is_straight : WrittenSymbol T r X Y → clip_of T (points X Y) r ≡ Straight
     is_straight w = (ClipAnswers.straight T (points X Y) r k e).1 (written_filler T ok r X Y w k e)
 
@@ -113,10 +112,10 @@ module _ (T : Tables) (ok : AcceptedTables T) (r : ℕ) (X Y : List ℤ) where
         ∙ ap negated (written_filler T ok r s.xs s.ys s.written k e))
 
     module _ (valid : ValidRegister r) where
-      pub check_written : WrittenSymbol T r X Y → clip_check T X Y r ≡ record { number = 0; place = 0; clip = some Straight; register = r }
+      pub check_written : WrittenSymbol T r X Y → clip_check T X Y r ≡ record { number = 0; place = 0; clip = Some Straight; register = r }
       check_written w = rw (← is_straight w) (ClipAnswers.done T ok X Y r (written_right T ok r X Y w) valid)
 
-      pub check_turned : TurnedSymbol T r X Y → clip_check T X Y r ≡ record { number = 0; place = 0; clip = some Turned; register = r }
+      pub check_turned : TurnedSymbol T r X Y → clip_check T X Y r ≡ record { number = 0; place = 0; clip = Some Turned; register = r }
       check_turned s = rw (← is_turned s) (ClipAnswers.done T ok X Y r (turned_right s) valid)
 
 -- ---- both readings
@@ -161,13 +160,13 @@ module _ (T : Tables) (ok : AcceptedTables T) (m : T.mode ≡ Coded) (r : ℕ) (
     turned_is : number (turned X) (turned Y) ≡ (turned_read T r start X Y f₀ (ready X Y right) here.0).report.verdict.number
     turned_is = ap₂ (λ (A B : List ℤ). number (turned A) (turned B)) (sym xs_are_lem) (sym ys_are_lem)
 
-    turned_monitored : (k : ℕ) → first_monitored T ≡ At k → number (turned X) (turned Y) ≡ 14
+    turned_monitored : (k : ℕ) → first_monitored T ≡ Some k → number (turned X) (turned Y) ≡ 14
     turned_monitored k e = turned_is ∙ ap (λ (v : Verdict). v.number) (half-turn-monitored T r start X Y f₀ (ready X Y right) m here.0 here.1 k e)
 
-    turned_odd : first_monitored T ≡ Nothing → non_zero T % 2 ≡ 1 → number (turned X) (turned Y) ≡ 15
+    turned_odd : first_monitored T ≡ None → non_zero T % 2 ≡ 1 → number (turned X) (turned Y) ≡ 15
     turned_odd e n = turned_is ∙ ap (λ (v : Verdict). v.number) (half_turn_odd T r start X Y f₀ (ready X Y right) m here.0 here.1 e n)
 
-    turned_even : first_monitored T ≡ Nothing → non_zero T % 2 ≡ 0 → number (turned X) (turned Y) ≡ 0
+    turned_even : first_monitored T ≡ None → non_zero T % 2 ≡ 0 → number (turned X) (turned Y) ≡ 0
     turned_even e n = turned_is ∙ (half_turn_even T r start X Y f₀ (ready X Y right) m here.0 here.1 e n).0
 
   -- the full way of a written symbol and of a turned one, by the reading of the first with all signs changed
@@ -184,7 +183,7 @@ module _ (T : Tables) (ok : AcceptedTables T) (m : T.mode ≡ Coded) (r : ℕ) (
 
   -- ---- no tone is monitored
 
-  module _ (none : first_monitored T ≡ Nothing) (X Y : List ℤ) where
+  module _ (none : first_monitored T ≡ None) (X Y : List ℤ) where
     pub even_way : non_zero T % 2 ≡ 0 → WrittenSymbol T r X Y ⊎ TurnedSymbol T r X Y → full_way T X Y r start f₀ ≡ CannotTell
     even_way n =
         ⊎_elim
@@ -199,7 +198,7 @@ module _ (T : Tables) (ok : AcceptedTables T) (m : T.mode ≡ Coded) (r : ℕ) (
 
   -- ---- some tone is monitored
 
-  module _ (k : ℕ) (e : first_monitored T ≡ At k) (X Y : List ℤ) where
+  module _ (k : ℕ) (e : first_monitored T ≡ Some k) (X Y : List ℤ) where
     module _ (symbol : WrittenSymbol T r X Y ⊎ TurnedSymbol T r X Y) where
       pub full_way_lem : clip_of T (points X Y) r ≡ full_way T X Y r start f₀
       full_way_lem =
@@ -208,7 +207,7 @@ module _ (T : Tables) (ok : AcceptedTables T) (m : T.mode ≡ Coded) (r : ℕ) (
           (λ s. is_turned T ok r X Y k e s ∙ sym (way_turned X Y 14 s (turned_monitored s.xs s.ys s.written k e)))
           symbol
 
-      pub check_full_way : clip_check T X Y r ≡ record { number = 0; place = 0; clip = some (full_way T X Y r start f₀); register = r }
+      pub check_full_way : clip_check T X Y r ≡ record { number = 0; place = 0; clip = Some (full_way T X Y r start f₀); register = r }
       check_full_way =
           let l = ⊎_elim (λ w. written_right T ok r X Y w) (λ s. turned_right T ok r X Y s) symbol in
           rw (← full_way_lem) (ClipAnswers.done T ok X Y r l valid)

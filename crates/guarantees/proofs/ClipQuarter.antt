@@ -1,10 +1,10 @@
 -- The clip check says neither of a written symbol that is turned by a quarter, either way: the tone's own point, the opposite one and the two
 -- quarter turns are four different points.
+use Rattle.std.specs.Prelude.{Some}
 use Prim.Native.Nat.{ℕ}
 use mathlib.Core.Bool.{Bool, true≢false}
 use mathlib.Core.List.{List, map}
 use mathlib.Core.Logic.{◌≢◌}
-use mathlib.Core.Option.{some}
 use mathlib.Core.Path.{◌≡◌, refl, sym, ap, ◌∙◌}
 use native.Mathlib.Omega.{arith}
 use lib.IntN.{ℤ, neg_ℤ}
@@ -15,7 +15,6 @@ use Rattle.g9932.specs.Points.{point_of, negated, turned_left, quarters, same_po
 use Rattle.g9932.specs.Sizes.{Tables, Point, origin, points}
 use Rattle.g9932.specs.Symbol.{classes_of, written_points, first_monitored}
 use Rattle.g9932.specs.declared.Clip.TheVariants.{Neither}
-use Rattle.g9932.specs.declared.Found.TheVariants.{At}
 use Rattle.g9932.proofs.Constellations.{same_point_self}
 use Rattle.g9932.proofs.Quarters.{turned_label, length_turned, point_turned}
 use Rattle.guarantees.specs.Words.{AcceptedTables, ValidRegister, RightLength, turned, WrittenSymbol}
@@ -40,13 +39,13 @@ module _ (T : Tables) (r k : ℕ) where
   one_more : (n : ℕ) → turned_left (quarters n filler) ≢ quarters n filler
   one_more n = rw (point_turned n 2 bits (omega arith) refl) (moves left_point (turned_label n bits) (length_turned n bits))
 
-  module _ (ok : AcceptedTables T) (valid : ValidRegister r) (e : first_monitored T ≡ At k) (X Y : List ℤ) (w : WrittenSymbol T r X Y) where
+  module _ (ok : AcceptedTables T) (valid : ValidRegister r) (e : first_monitored T ≡ Some k) (X Y : List ℤ) (w : WrittenSymbol T r X Y) where
     right : RightLength T X Y
     right = written_right T ok r X Y w
 
     -- lists of the right length whose point there is the tone's, turned by n quarters
     neither : (n : ℕ) (X' Y' : List ℤ) → RightLength T X' Y' → get_or (points X' Y') k origin ≡ quarters n filler → quarters n filler ≢ filler → quarters n filler ≢ negated filler
-        → clip_check T X' Y' r ≡ record { number = 0; place = 0; clip = some Neither; register = r }
+        → clip_check T X' Y' r ≡ record { number = 0; place = 0; clip = Some Neither; register = r }
     neither n X' Y' lengths there other opposite =
         rw (← ((ClipAnswers.neither T (points X' Y') r k e).1 (λ z. other (sym there ∙ z), λ z. opposite (sym there ∙ z)))) (ClipAnswers.done T ok X' Y' r lengths valid)
 
@@ -66,8 +65,8 @@ module _ (T : Tables) (r k : ℕ) where
         let are : points Y (turned X) ≡ map (quarters 3) q = rw (w.xs_are, w.ys_are) (points_right q) in
         ap (λ (l : List Point). get_or l k origin) are ∙ get_or-map (quarters 3) q k origin ∙ ap (quarters 3) there
 
-    pub check_quarter : (clip_check T (turned Y) X r ≡ record { number = 0; place = 0; clip = some Neither; register = r })
-        × (clip_check T Y (turned X) r ≡ record { number = 0; place = 0; clip = some Neither; register = r })
+    pub check_quarter : (clip_check T (turned Y) X r ≡ record { number = 0; place = 0; clip = Some Neither; register = r })
+        × (clip_check T Y (turned X) r ≡ record { number = 0; place = 0; clip = Some Neither; register = r })
     check_quarter = (
       neither 1 (turned Y) X (record { xs_length = length-map Y neg_ℤ ∙ right.ys_length; ys_length = right.xs_length }) left_there (one_more 0) (λ z. one_more 1 (sym z)),
       neither 3 Y (turned X) (record { xs_length = right.ys_length; ys_length = length-map X neg_ℤ ∙ right.xs_length }) right_there

@@ -3,11 +3,11 @@
 -- nearest reading, by itself and against exact reading; and of request R-10, the clip check, by itself and against two readings. That the
 -- code gives what they say is the `ensures` of each operation. Each proof cites the part that shows it. The words are those of
 -- specs/Words.antt and of crate g9932. Request R-12, the pair report, has a page of its own: crates/tally/proofs/Theorems.antt.
+use Rattle.std.specs.Prelude.{None, Some}
 use Prim.Native.Nat.{ℕ, suc, ◌+◌, ◌-◌, ◌*◌, ◌/◌, ◌%◌, ◌^◌, ◌≤◌, ◌<◌}
 use mathlib.Core.Bool.{Bool, true, false, cond, not}
 use mathlib.Core.List.{List, [], ◌∷◌, map}
 use mathlib.Core.Logic.{◌↔◌, ◌≢◌, ◌⊎◌}
-use mathlib.Core.Option.{none, some}
 use mathlib.Core.Path.{◌≡◌, sym, ◌∙◌}
 use lib.Dec.{eqb}
 use lib.IntN.{ℤ}
@@ -28,9 +28,10 @@ use Rattle.g9932.specs.Plain.{block_corner, in_block, plain_point, plain_label, 
 use Rattle.g9932.specs.Figures.{MarkedFigures}
 use Rattle.g9932.specs.declared.Class.TheVariants.{Monitored, Silent}
 use Rattle.g9932.specs.declared.Clip.TheVariants.{Straight, Turned, Neither, CannotTell}
-use Rattle.g9932.specs.declared.Found.TheVariants.{At, Nothing}
-use Rattle.g9932.specs.declared.Labelled.{Labelled}
-use Rattle.g9932.specs.declared.Mapped.{Mapped}
+use Rattle.g9932.specs.declared.Point.{Point as Coordinates}
+use Rattle.g9932.specs.declared.Refusal.{Refusal}
+use Rattle.g9932.specs.declared.Refused.{Refused}
+use Rattle.std.specs.Prelude.{Result}
 use Rattle.g9932.specs.declared.Mode.TheVariants.{Uncoded, Coded}
 use Rattle.g9932.specs.declared.Nearest.{Nearest}
 use Rattle.g9932.specs.declared.Refusal.{Refusal}
@@ -96,21 +97,21 @@ module _ (T : Tables) (r start : ℕ) (xs ys : List ℤ) (f₀ : List ℕ) (read
   -- it is read as another frame exactly when no tone is monitored and N is even;
   pub half-turn : T.mode ≡ Coded → (f : List ℕ) → AcceptedFrame T start f
       → (((turned_read f).report.verdict.number ≡ 0) × AcceptedFrame T start (turned_read f).frame × ((turned_read f).frame ≢ f))
-      ↔ ((first_monitored T ≡ Nothing) × (non_zero T % 2 ≡ 0))
+      ↔ ((first_monitored T ≡ None) × (non_zero T % 2 ≡ 0))
   half-turn = HalfTurn.half-turn T r start xs ys f₀ ready
 
   -- otherwise it is refused.
   pub half_turn_refused : T.mode ≡ Coded → (f : List ℕ) → AcceptedFrame T start f
-      → ((first_monitored T ≡ Nothing) × (non_zero T % 2 ≡ 0) → ⊥) → (turned_read f).report.verdict.number ≢ 0
+      → ((first_monitored T ≡ None) × (non_zero T % 2 ≡ 0) → ⊥) → (turned_read f).report.verdict.number ≢ 0
   half_turn_refused m f ok other e = other (HalfTurn.half_turn_only T r start xs ys f₀ ready m f ok e)
 
   -- With a monitored tone, the refusal is MONITOR at the first one;
-  pub half-turn-monitored : T.mode ≡ Coded → (f : List ℕ) → AcceptedFrame T start f → (k : ℕ) → first_monitored T ≡ At k
+  pub half-turn-monitored : T.mode ≡ Coded → (f : List ℕ) → AcceptedFrame T start f → (k : ℕ) → first_monitored T ≡ Some k
       → (turned_read f).report.verdict ≡ refused 14 k
   half-turn-monitored = HalfTurn.half-turn-monitored T r start xs ys f₀ ready
 
   -- with none, and N odd, it is TRELLIS at pair 1 where P is 3, else at pair 2.
-  pub half_turn_odd : T.mode ≡ Coded → (f : List ℕ) → AcceptedFrame T start f → first_monitored T ≡ Nothing → non_zero T % 2 ≡ 1
+  pub half_turn_odd : T.mode ≡ Coded → (f : List ℕ) → AcceptedFrame T start f → first_monitored T ≡ None → non_zero T % 2 ≡ 1
       → (turned_read f).report.verdict ≡ refused 15 (cond (eqb (length (pairs_in T)) 3) 1 2)
   half_turn_odd = HalfTurn.half_turn_odd T r start xs ys f₀ ready
 
@@ -142,7 +143,7 @@ module _ (T : Tables) (r start : ℕ) (xs ys : List ℤ) (f₀ : List ℕ) (read
 
   -- Where no tone has 1 bit, the code is broken, whatever is monitored, and by what: where N is odd, by u0 of pair 0; where N is 4, by u1 of
   -- pair 0 alone; where N is even and 6 or more, by u0 of pair 1, and pair 0 obeys it.
-  pub quarter_by_what : T.mode ≡ Coded → (f : List ℕ) → AcceptedFrame T start f → first_one_bit T ≡ Nothing
+  pub quarter_by_what : T.mode ≡ Coded → (f : List ℕ) → AcceptedFrame T start f → first_one_bit T ≡ None
       → BreaksBy T (points (turned (encode_at T start f r xs ys).ys) (encode_at T start f r xs ys).xs)
       × BreaksBy T (points (encode_at T start f r xs ys).ys (turned (encode_at T start f r xs ys).xs))
   quarter_by_what = QuarterTurn.quarter_by_what T r start xs ys f₀ ready
@@ -156,16 +157,16 @@ module _ (T : Tables) (r start : ℕ) (xs ys : List ℤ) (f₀ : List ℕ) (read
 -- That verdict is OFFGRID at the first 1-bit tone in t'; if there is none, MONITOR at the first monitored one; if there is neither, TRELLIS,
 -- at pair 0 where N is odd or 4, else at pair 1.
 pub quarter_refusals : (T : Tables)
-    → ((k : ℕ) → first_one_bit T ≡ At k → quarter_verdict T ≡ refused 13 k)
-    × (first_one_bit T ≡ Nothing → (k : ℕ) → first_monitored T ≡ At k → quarter_verdict T ≡ refused 14 k)
-    × (first_one_bit T ≡ Nothing → first_monitored T ≡ Nothing → (non_zero T % 2 ≡ 1) ⊎ (non_zero T ≡ 4) → quarter_verdict T ≡ refused 15 0)
-    × (first_one_bit T ≡ Nothing → first_monitored T ≡ Nothing → non_zero T % 2 ≡ 0 → non_zero T ≢ 4 → quarter_verdict T ≡ refused 15 1)
+    → ((k : ℕ) → first_one_bit T ≡ Some k → quarter_verdict T ≡ refused 13 k)
+    × (first_one_bit T ≡ None → (k : ℕ) → first_monitored T ≡ Some k → quarter_verdict T ≡ refused 14 k)
+    × (first_one_bit T ≡ None → first_monitored T ≡ None → (non_zero T % 2 ≡ 1) ⊎ (non_zero T ≡ 4) → quarter_verdict T ≡ refused 15 0)
+    × (first_one_bit T ≡ None → first_monitored T ≡ None → non_zero T % 2 ≡ 0 → non_zero T ≢ 4 → quarter_verdict T ≡ refused 15 1)
 quarter_refusals = QuarterTurn.quarter_refusals
 
 -- Coded, where 1-bit tones are present the first of them is at place NSC − (their number), for they stand last in t'; where none is, none is
 -- found.
 pub first_one_bit_lem : (T : Tables) → T.mode ≡ Coded
-    → (0 < one_bit_tones T → first_one_bit T ≡ At (length T.tones - one_bit_tones T)) × (one_bit_tones T ≡ 0 → first_one_bit T ≡ Nothing)
+    → (0 < one_bit_tones T → first_one_bit T ≡ Some (length T.tones - one_bit_tones T)) × (one_bit_tones T ≡ 0 → first_one_bit T ≡ None)
 first_one_bit_lem = QuarterTurn.first_one_bit_lem
 
 -- ---- where a frame starts
@@ -418,10 +419,10 @@ block_of_four = Mapping.block_of_four
 
 -- Any two operations that have the contract of mapping one label, whatever they do inside, give the same answer to the same inputs, be it a
 -- point or a refusal; and any two that have that of reading one point, be it a label or a refusal. `one` and `other` are what the two answer.
-pub same_mapped : (b l : ℕ) (one other : Mapped) → mapped_of one ≡ map_label b l → mapped_of other ≡ map_label b l → one ≡ other
+pub same_mapped : (b l : ℕ) (one other : Result Coordinates Refusal) → mapped_of one ≡ map_label b l → mapped_of other ≡ map_label b l → one ≡ other
 same_mapped = TwoMappers.same_mapped
 
-pub same_labelled : (b : ℕ) (p : Point) (one other : Labelled) → labelled_of one ≡ read_point b p → labelled_of other ≡ read_point b p → one ≡ other
+pub same_labelled : (b : ℕ) (p : Point) (one other : Result ℕ Refusal) → labelled_of one ≡ read_point b p → labelled_of other ≡ read_point b p → one ≡ other
 same_labelled = TwoMappers.same_labelled
 
 -- ---- filler bits
@@ -531,11 +532,11 @@ module _ (T : Tables) (r start : ℕ) (xs ys : List ℤ) (f₀ : List ℕ) (read
   -- (with a monitored tone: `half-turn-monitored`).
   pub nearest_half_turn_exactly :
       ((read_at T (turned (encode_at T start g r xs ys).xs) (turned (encode_at T start g r xs ys).ys) r start f₀).report.verdict.number ≡ 0)
-      ↔ ((first_monitored T ≡ Nothing) × (n ≡ 0))
+      ↔ ((first_monitored T ≡ None) × (n ≡ 0))
   nearest_half_turn_exactly = NearestFrames.nearest_half_turn_exactly T r start xs ys f₀ ready m g ok f n near
 
 -- An operation that reads so (`ReadsNearest`), with its answer a, and with f and work' left in the lent buffers. Whatever the inputs:
-module _ (T : Tables) (X Y : List ℤ) (r start : ℕ) (f₀ work : List ℕ) (a : Nearest) (f work' : List ℕ)
+module _ (T : Tables) (X Y : List ℤ) (r start : ℕ) (f₀ work : List ℕ) (a : Result Nearest Refused) (f work' : List ℕ)
     (reads : ReadsNearest T X Y r start f₀ work a f work') where
   -- where it is DONE, f is a nearest frame, with the total told; so all of the above holds of it, f being bytes (`Bytes`) by its type.
   pub nearest_answer_lem : (nearest_of a).verdict.number ≡ 0 → NearestFrame T (points X Y) r start f (total_in a)
@@ -553,7 +554,7 @@ module _ (T : Tables) (X Y : List ℤ) (r start : ℕ) (f₀ work : List ℕ) (a
   refused_nearest = NearestAnswers.refused_nearest T X Y r start f₀ work a f work' reads
 
 -- No answer has number 9.
-pub nine_nearest : (a : Nearest) → (nearest_of a).verdict.number ≢ 9
+pub nine_nearest : (a : Result Nearest Refused) → (nearest_of a).verdict.number ≢ 9
 nine_nearest = NearestAnswers.nine_nearest
 
 -- `nearest_verdict` is the number, place and L that it answers. Whatever the inputs, the number is not 13, 14 or 15.
@@ -579,12 +580,12 @@ module _ (T : Tables) (ok : AcceptedTables T) (xs ys : List ℤ) (start r : ℕ)
     seed_nearest = NearestVerdicts.seed_nearest T ok xs ys start r f₀ work right fits room
 
     -- then RANGE, at the first place with a coordinate that is not −1,023 to 1,023, whatever the tone's class;
-    pub range_nearest : start ≤ 7 → ValidRegister r → (k : ℕ) → first (range_test (points xs ys)) (length T.tones) ≡ At k
+    pub range_nearest : start ≤ 7 → ValidRegister r → (k : ℕ) → first (range_test (points xs ys)) (length T.tones) ≡ Some k
         → nearest_verdict T xs ys r start (length f₀) (length work) ≡ refused 23 k
     range_nearest = NearestVerdicts.range_nearest T ok xs ys start r f₀ work right fits room
 
     -- and where there is no such place it is DONE, with L.
-    pub done_nearest : start ≤ 7 → ValidRegister r → first (range_test (points xs ys)) (length T.tones) ≡ Nothing
+    pub done_nearest : start ≤ 7 → ValidRegister r → first (range_test (points xs ys)) (length T.tones) ≡ None
         → nearest_verdict T xs ys r start (length f₀) (length work) ≡ accepted (size_of T)
     done_nearest = NearestVerdicts.done_nearest T ok xs ys start r f₀ work right fits room
 
@@ -602,7 +603,7 @@ work_most = Totals.work_most
 
 -- As in demand 3, with a working buffer of its exact length:
 module _ (T : Tables) (r start : ℕ) (xs ys : List ℤ) (f₀ : List ℕ) (ready : Ready T r start xs ys f₀) (work : List ℕ)
-    (room : length work ≡ work_bytes T) (g : List ℕ) (ok : AcceptedFrame T start g) (a : Nearest) (f work' : List ℕ) where
+    (room : length work ≡ work_bytes T) (g : List ℕ) (ok : AcceptedFrame T start g) (a : Result Nearest Refused) (f work' : List ℕ) where
   -- The symbol written for g is read back: with the number, place, L and register of encoding it, total 0, and g itself.
   pub nearest_round_trip : Bytes f → ReadsNearest T (encode_at T start g r xs ys).xs (encode_at T start g r xs ys).ys r start f₀ work a f work'
       → (nearest_of a ≡ (encode_at T start g r xs ys).report) × (total_in a ≡ 0) × (f ≡ g)
@@ -620,11 +621,11 @@ module _ (T : Tables) (r start : ℕ) (xs ys : List ℤ) (f₀ : List ℕ) (read
 -- If some tone of accepted coded tables is monitored, then with a valid register, for readings at a start up to 7, the same in both, and
 -- with the right lengths:
 module _ (T : Tables) (ok : AcceptedTables T) (m : T.mode ≡ Coded) (r : ℕ) (valid : ValidRegister r) (start : ℕ) (small : start ≤ 7) (f₀ : List ℕ)
-    (fits : length f₀ ≡ bytes_for start (size_of T)) (k : ℕ) (monitored : first_monitored T ≡ At k) (X Y : List ℤ) where
+    (fits : length f₀ ≡ bytes_for start (size_of T)) (k : ℕ) (monitored : first_monitored T ≡ Some k) (X Y : List ℤ) where
   -- Of points that are a written symbol of these tables and this register, or one turned by half a turn,
   module _ (symbol : WrittenSymbol T r X Y ⊎ TurnedSymbol T r X Y) where
     -- the answer equals the full way's: read the points as they are, then with all signs changed, and see which is accepted.
-    pub clip_full_way : clip_check T X Y r ≡ record { number = 0; place = 0; clip = some (full_way T X Y r start f₀); register = r }
+    pub clip_full_way : clip_check T X Y r ≡ record { number = 0; place = 0; clip = Some (full_way T X Y r start f₀); register = r }
     clip_full_way = ClipFullWay.check_full_way T ok m r valid start small f₀ fits k monitored X Y symbol
 
     -- It is straight exactly when the first reading is accepted,
@@ -646,7 +647,7 @@ module _ (T : Tables) (ok : AcceptedTables T) (m : T.mode ≡ Coded) (r : ℕ) (
 
 -- Where no tone is monitored, the full way tells a written symbol from a turned one exactly if N is odd.
 module _ (T : Tables) (ok : AcceptedTables T) (m : T.mode ≡ Coded) (r : ℕ) (valid : ValidRegister r) (start : ℕ) (small : start ≤ 7) (f₀ : List ℕ)
-    (fits : length f₀ ≡ bytes_for start (size_of T)) (none_monitored : first_monitored T ≡ Nothing) (X Y : List ℤ) where
+    (fits : length f₀ ≡ bytes_for start (size_of T)) (none_monitored : first_monitored T ≡ None) (X Y : List ℤ) where
   pub full_way_even : non_zero T % 2 ≡ 0 → WrittenSymbol T r X Y ⊎ TurnedSymbol T r X Y → full_way T X Y r start f₀ ≡ CannotTell
   full_way_even = ClipFullWay.even_way T ok m r valid start small f₀ fits none_monitored X Y
 
@@ -657,24 +658,24 @@ module _ (T : Tables) (ok : AcceptedTables T) (m : T.mode ≡ Coded) (r : ℕ) (
   full_way_odd_turned = ClipFullWay.odd_turned T ok m r valid start small f₀ fits none_monitored X Y
 
 -- With accepted tables, a valid register and the first monitored tone at place k in t':
-module _ (T : Tables) (ok : AcceptedTables T) (r : ℕ) (valid : ValidRegister r) (k : ℕ) (monitored : first_monitored T ≡ At k) (X Y : List ℤ) where
+module _ (T : Tables) (ok : AcceptedTables T) (r : ℕ) (valid : ValidRegister r) (k : ℕ) (monitored : first_monitored T ≡ Some k) (X Y : List ℤ) where
   -- A written symbol is straight, and one turned by half a turn is turned.
-  pub clip-of-written : WrittenSymbol T r X Y → clip_check T X Y r ≡ record { number = 0; place = 0; clip = some Straight; register = r }
+  pub clip-of-written : WrittenSymbol T r X Y → clip_check T X Y r ≡ record { number = 0; place = 0; clip = Some Straight; register = r }
   clip-of-written = ClipFullWay.check_written T ok r X Y k monitored valid
 
-  pub clip-of-turned : TurnedSymbol T r X Y → clip_check T X Y r ≡ record { number = 0; place = 0; clip = some Turned; register = r }
+  pub clip-of-turned : TurnedSymbol T r X Y → clip_check T X Y r ≡ record { number = 0; place = 0; clip = Some Turned; register = r }
   clip-of-turned = ClipFullWay.check_turned T ok r X Y k monitored valid
 
   -- A written symbol turned by a quarter, to the left or to the right, is neither.
   pub clip-of-quarter : WrittenSymbol T r X Y
-      → (clip_check T (turned Y) X r ≡ record { number = 0; place = 0; clip = some Neither; register = r })
-      × (clip_check T Y (turned X) r ≡ record { number = 0; place = 0; clip = some Neither; register = r })
+      → (clip_check T (turned Y) X r ≡ record { number = 0; place = 0; clip = Some Neither; register = r })
+      × (clip_check T Y (turned X) r ≡ record { number = 0; place = 0; clip = Some Neither; register = r })
   clip-of-quarter = ClipQuarter.check_quarter T r k ok valid monitored X Y
 
 -- Whatever the tables, the points and the register, `clip_of` is straight exactly when the point of the first monitored tone, at place k in
 -- t', is the one its filler bits give, turned exactly when it is the opposite one, and neither exactly when it is any other (a list that is too
 -- short has the origin there);
-module _ (T : Tables) (q : List Point) (r k : ℕ) (monitored : first_monitored T ≡ At k) where
+module _ (T : Tables) (q : List Point) (r k : ℕ) (monitored : first_monitored T ≡ Some k) where
   pub clip_straight : (clip_of T q r ≡ Straight) ↔ (get_or q k origin ≡ filler_point T r k)
   clip_straight = ClipAnswers.straight T q r k monitored
 
@@ -685,12 +686,12 @@ module _ (T : Tables) (q : List Point) (r k : ℕ) (monitored : first_monitored 
   clip_neither = ClipAnswers.neither T q r k monitored
 
 -- it can't tell exactly when no tone is monitored;
-pub clip_cannot_tell : (T : Tables) (q : List Point) (r : ℕ) → (clip_of T q r ≡ CannotTell) ↔ (first_monitored T ≡ Nothing)
+pub clip_cannot_tell : (T : Tables) (q : List Point) (r : ℕ) → (clip_of T q r ≡ CannotTell) ↔ (first_monitored T ≡ None)
 clip_cannot_tell = ClipAnswers.cannot_tell
 
 -- and no other point matters: lists of the same lengths with the same point there have the same answer, accepted or refused.
 pub clip_one_tone : (T : Tables) (r : ℕ) (X Y X' Y' : List ℤ) → length X ≡ length X' → length Y ≡ length Y'
-    → ((k : ℕ) → first_monitored T ≡ At k → get_or (points X Y) k origin ≡ get_or (points X' Y') k origin) → clip_check T X Y r ≡ clip_check T X' Y' r
+    → ((k : ℕ) → first_monitored T ≡ Some k → get_or (points X Y) k origin ≡ get_or (points X' Y') k origin) → clip_check T X Y r ≡ clip_check T X' Y' r
 clip_one_tone = ClipAnswers.one_tone
 
 -- Whatever the inputs:
@@ -700,7 +701,7 @@ module _ (T : Tables) (xs ys : List ℤ) (r : ℕ) where
   clip_register = ClipAnswers.register_back T xs ys r
 
   -- A refused check tells no clip,
-  pub clip_refused : (clip_check T xs ys r).number ≢ 0 → (clip_check T xs ys r).clip ≡ none
+  pub clip_refused : (clip_check T xs ys r).number ≢ 0 → (clip_check T xs ys r).clip ≡ None
   clip_refused = ClipAnswers.not_told T xs ys r
 
   -- and has 0 for it in C; a check that is done never has.
@@ -709,7 +710,7 @@ module _ (T : Tables) (xs ys : List ℤ) (r : ℕ) where
 
   -- Tables that are refused have the number and place of checking them.
   pub tables_clip : (table_verdict T).number ≢ 0
-      → clip_check T xs ys r ≡ record { number = (table_verdict T).number; place = (table_verdict T).place; clip = none; register = r }
+      → clip_check T xs ys r ≡ record { number = (table_verdict T).number; place = (table_verdict T).place; clip = None; register = r }
   tables_clip = ClipAnswers.tables_refused T xs ys r
 
   -- No answer has number 9.
@@ -719,14 +720,14 @@ module _ (T : Tables) (xs ys : List ℤ) (r : ℕ) where
 -- In accepted tables, with any register:
 module _ (T : Tables) (ok : AcceptedTables T) (xs ys : List ℤ) (r : ℕ) where
   -- A wrong length is ROOM;
-  pub room_clip : (RightLength T xs ys → ⊥) → clip_check T xs ys r ≡ record { number = 10; place = 0; clip = none; register = r }
+  pub room_clip : (RightLength T xs ys → ⊥) → clip_check T xs ys r ≡ record { number = 10; place = 0; clip = None; register = r }
   room_clip = ClipAnswers.room T ok xs ys r
 
   -- where it does not apply, a register that is not valid is SEED;
-  pub seed_clip : RightLength T xs ys → (ValidRegister r → ⊥) → clip_check T xs ys r ≡ record { number = 12; place = 0; clip = none; register = r }
+  pub seed_clip : RightLength T xs ys → (ValidRegister r → ⊥) → clip_check T xs ys r ≡ record { number = 12; place = 0; clip = None; register = r }
   seed_clip = ClipAnswers.seed T ok xs ys r
 
   -- and there is no other refusal.
   pub clip_done : RightLength T xs ys → ValidRegister r
-      → clip_check T xs ys r ≡ record { number = 0; place = 0; clip = some (clip_of T (points xs ys) r); register = r }
+      → clip_check T xs ys r ≡ record { number = 0; place = 0; clip = Some (clip_of T (points xs ys) r); register = r }
   clip_done = ClipAnswers.done T ok xs ys r

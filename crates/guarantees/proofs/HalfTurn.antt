@@ -1,5 +1,6 @@
 -- Half a turn of a written symbol in coded mode: with a monitored tone it fails 14 at the first one; else it is read as another
 -- frame where N is even, and breaks the code where N is odd.
+use Rattle.std.specs.Prelude.{Option, None, Some}
 use Prim.Native.Nat.{ℕ, zero, suc, ◌/◌, ◌%◌, ◌≤◌, ◌<◌}
 use mathlib.Core.Bool.{Bool, true, false, cond}
 use mathlib.Core.List.{List, [], ◌∷◌, map}
@@ -19,8 +20,6 @@ use Rattle.g9932.specs.Symbol.{classes_of, reordered_tones_of, pairs_in, size_of
 use Rattle.g9932.specs.Answers.{break_in, points_verdict, Read, read_at}
 use Rattle.g9932.specs.declared.Class.{Class}
 use Rattle.g9932.specs.declared.Class.TheVariants.{Data, Monitored, Silent}
-use Rattle.g9932.specs.declared.Found.{Found}
-use Rattle.g9932.specs.declared.Found.TheVariants.{At, Nothing}
 use Rattle.g9932.specs.declared.Mode.TheVariants.{Coded}
 use Rattle.g9932.proofs.Accepted.{Accepted, accepted_tables}
 use Rattle.g9932.proofs.HalfPairs.{half_turned, turned_even, turned_odd}
@@ -98,16 +97,16 @@ module _ (T : Tables) (a : Accepted T) (m : T.mode ≡ Coded) (r start : ℕ) (f
 
   -- ---- the verdict on them
 
-  stays : first_leaving half_point T ≡ Nothing
+  stays : first_leaving half_point T ≡ None
   stays = first_all _ (length T.tones) (λ k h. none k (rw (length_classes T) h))
 
-  pub points_monitored : (k : ℕ) → first_monitored T ≡ At k → refused 14 k ≡ points_verdict T q r
+  pub points_monitored : (k : ℕ) → first_monitored T ≡ Some k → refused 14 k ≡ points_verdict T q r
   points_monitored k e = found_past 13 stays (found_here 14 _ e) ∙ sym (verdict_turned half_point T a m r start f ok)
 
-  pub points_odd : first_monitored T ≡ Nothing → non_zero T % 2 ≡ 1 → refused 15 (cond (eqb (length (pairs_in T)) 3) 1 2) ≡ points_verdict T q r
+  pub points_odd : first_monitored T ≡ None → non_zero T % 2 ≡ 1 → refused 15 (cond (eqb (length (pairs_in T)) 3) 1 2) ≡ points_verdict T q r
   points_odd e n = found_past 13 stays (found_past 14 e (found_here 15 _ (ap break_in (reading_odd n)))) ∙ sym (verdict_turned half_point T a m r start f ok)
 
-  pub points_even : first_monitored T ≡ Nothing → non_zero T % 2 ≡ 0
+  pub points_even : first_monitored T ≡ None → non_zero T % 2 ≡ 0
       → Passes T q r × (h : List Bool) × (reading_in T q ≡ frame h) × (length h ≡ size_of T) × (h ≢ g)
   points_even e n =
       let t = reading_even n in (
@@ -159,22 +158,22 @@ module _ (T : Tables) (r start : ℕ) (xs ys : List ℤ) (f₀ : List ℕ) (read
     half-turn-any-register n s start' f' h =
         not_broken (sym (read_points T X' Y' s start' f' h).2 ∙ ap (reading_in T) are_points ∙ reading_odd T facts m r start f ok n)
 
-    pub half-turn-monitored : (k : ℕ) → first_monitored T ≡ At k → (turned_read f).report.verdict ≡ refused 14 k
+    pub half-turn-monitored : (k : ℕ) → first_monitored T ≡ Some k → (turned_read f).report.verdict ≡ refused 14 k
     half-turn-monitored k e = verdict_is ∙ sym (points_monitored T facts m r start f ok k e)
 
-    pub half_turn_odd : first_monitored T ≡ Nothing → non_zero T % 2 ≡ 1
+    pub half_turn_odd : first_monitored T ≡ None → non_zero T % 2 ≡ 1
         → (turned_read f).report.verdict ≡ refused 15 (cond (eqb (length (pairs_in T)) 3) 1 2)
     half_turn_odd e n = verdict_is ∙ sym (points_odd T facts m r start f ok e n)
 
-    pub half_turn_only : (turned_read f).report.verdict.number ≡ 0 → (first_monitored T ≡ Nothing) × (non_zero T % 2 ≡ 0)
+    pub half_turn_only : (turned_read f).report.verdict.number ≡ 0 → (first_monitored T ≡ None) × (non_zero T % 2 ≡ 0)
     half_turn_only h = go (first_monitored T) refl (non_zero T % 2) refl
       where
-        go : (a : Found) → first_monitored T ≡ a → (n : ℕ) → non_zero T % 2 ≡ n → (first_monitored T ≡ Nothing) × (non_zero T % 2 ≡ 0)
-        go (At k) e n d = absurd (omega (arith, ap (λ (v : Verdict). v.number) (half-turn-monitored k e)))
-        go Nothing e zero d = (e, d)
-        go Nothing e (suc n) d = absurd (omega (arith, ap (λ (v : Verdict). v.number) (half_turn_odd e (omega arith))))
+        go : (a : Option ℕ) → first_monitored T ≡ a → (n : ℕ) → non_zero T % 2 ≡ n → (first_monitored T ≡ None) × (non_zero T % 2 ≡ 0)
+        go (Some k) e n d = absurd (omega (arith, ap (λ (v : Verdict). v.number) (half-turn-monitored k e)))
+        go None e zero d = (e, d)
+        go None e (suc n) d = absurd (omega (arith, ap (λ (v : Verdict). v.number) (half_turn_odd e (omega arith))))
 
-    pub half_turn_even : first_monitored T ≡ Nothing → non_zero T % 2 ≡ 0
+    pub half_turn_even : first_monitored T ≡ None → non_zero T % 2 ≡ 0
         → ((turned_read f).report.verdict.number ≡ 0) × AcceptedFrame T start (turned_read f).frame × ((turned_read f).frame ≢ f)
     half_turn_even e n =
         let p = points_even T facts m r start f ok e n in
@@ -187,5 +186,5 @@ module _ (T : Tables) (r start : ℕ) (xs ys : List ℤ) (f₀ : List ℕ) (read
         )
 
     pub half-turn : (((turned_read f).report.verdict.number ≡ 0) × AcceptedFrame T start (turned_read f).frame × ((turned_read f).frame ≢ f))
-        ↔ ((first_monitored T ≡ Nothing) × (non_zero T % 2 ≡ 0))
+        ↔ ((first_monitored T ≡ None) × (non_zero T % 2 ≡ 0))
     half-turn = (λ h. half_turn_only h.0, λ h. half_turn_even h.0 h.1)

@@ -1,10 +1,10 @@
 -- The one-tone calls: mapping and reading undo one another, labels on blocks of four, the second bits of the coordinates, and points turned by
 -- quarters.
+use Rattle.std.specs.Prelude.{Option, None, Some}
 use Prim.Native.Nat.{ℕ, zero, suc, ◌+◌, ◌-◌, ◌*◌, ◌/◌, ◌%◌, ◌^◌, ◌≤◌, ◌<◌}
 use mathlib.Core.Bool.{Bool, true, false, not, cond}
 use mathlib.Core.List.{List, [], ◌∷◌, map}
 use mathlib.Core.Logic.{◌≢◌}
-use mathlib.Core.Option.{Option, none, some}
 use mathlib.Core.Path.{◌≡◌, refl, sym, ap, ◌∙◌}
 use native.Mathlib.Nat.{pow-suc, mod-eq_of_lt}
 use native.Mathlib.Omega.{arith}
@@ -44,13 +44,13 @@ maps b l p = go (label_test b l) refl
     go true t e = absurd (omega (arith, ap (λ (a : OneTone Point). a.number) e))
     go false t e =
         let h = or-false (bit_count_test b) (leb (2 ^ b) l) t in
-        let v : some (point_of b (bits b l)) ≡ some p = ap (λ (a : OneTone Point). a.value) e in
+        let v : Some (point_of b (bits b l)) ≡ Some p = ap (λ (a : OneTone Point). a.value) e in
         record { counted = h.0; below = leb-false (2 ^ b) l h.1; is = cc }
 
 record Reads (b l : ℕ) (p : Point) : Type 0 where
   counted : bit_count_test b ≡ false
   label : List Bool
-  labelled : label_of b p ≡ some label
+  labelled : label_of b p ≡ Some label
   is : num label ≡ l
 
 reads : (b l : ℕ) (p : Point) → read_point b p ≡ tone_done l → Reads b l p
@@ -60,9 +60,9 @@ reads b l p = go (bit_count_test b) refl (label_of b p) refl
     go : (c : Bool) → bit_count_test b ≡ c → (o : Option (List Bool)) → label_of b p ≡ o
         → cond c (tone_refused 16) (label_found o) ≡ tone_done l → Reads b l p
     go true t o f e = absurd (omega (arith, ap (λ (a : OneTone ℕ). a.number) e))
-    go false t none f e = absurd (omega (arith, ap (λ (a : OneTone ℕ). a.number) e))
-    go false t (some v) f e =
-        let w : some (num v) ≡ some l = ap (λ (a : OneTone ℕ). a.value) e in
+    go false t None f e = absurd (omega (arith, ap (λ (a : OneTone ℕ). a.number) e))
+    go false t (Some v) f e =
+        let w : Some (num v) ≡ Some l = ap (λ (a : OneTone ℕ). a.value) e in
         record { counted = t; label = v; labelled = f; is = cc }
 
 -- ---- both ways
@@ -180,7 +180,7 @@ opposite_one l p e =
     ∙ ap tone_done (one_opposite l m.below)
 
 -- and as none after a quarter, either way
-off_one : (n l : ℕ) (p : Point) → ((v : List Bool) → length v ≡ 1 → label_of 1 (quarters n (point_of 1 v)) ≡ none) → map_label 1 l ≡ tone_done p
+off_one : (n l : ℕ) (p : Point) → ((v : List Bool) → length v ≡ 1 → label_of 1 (quarters n (point_of 1 v)) ≡ None) → map_label 1 l ≡ tone_done p
     → read_point 1 (quarters n p) ≡ tone_refused 13
 unfolding read_point
 off_one n l p law e = let m = maps 1 l p e in rw (← m.is, law (bits 1 l) (length_bits 1 l))

@@ -16,7 +16,8 @@ use Rattle.g9932.specs.Answers.{Report, report_by, Encoded, encode_at, Read, rea
 use Rattle.g9932.specs.Nearest.{NearestFrame, range_test, work_bytes, nearest_verdict, nearest_of, total_in, ReadsNearest}
 use Rattle.g9932.specs.declared.Mode.TheVariants.{Coded}
 use Rattle.g9932.specs.declared.Nearest.{Nearest}
-use Rattle.g9932.specs.declared.Nearest.TheVariants.{Done, Refused}
+use Rattle.g9932.specs.declared.Refused.{Refused}
+use Rattle.std.specs.Prelude.{Result, Ok, Err}
 use Rattle.g9932.proofs.Accepted.{Accepted, accepted_tables}
 use Rattle.g9932.proofs.Distances.{written_range, opposite_range}
 use Rattle.g9932.proofs.Packed.{start_most_lem}
@@ -30,13 +31,13 @@ use Rattle.guarantees.proofs.RoundTrip.{length_sent_in, X-of, Y-of, answered}
 use Rattle.guarantees.proofs.NearestFrames.{written_read, read_written, nearest_exact, nearest_half_turn}
 use Rattle.guarantees.proofs.NearestVerdicts.{done_nearest}
 
-no_size_lem : (a : Nearest) → (nearest_of a).verdict.number ≢ 0 → (nearest_of a).verdict.size ≡ 0
-no_size_lem (Done l r n) h = absurd (h refl)
-no_size_lem (Refused x r) h = refl
+no_size_lem : (a : Result Nearest Refused) → (nearest_of a).verdict.number ≢ 0 → (nearest_of a).verdict.size ≡ 0
+no_size_lem (Ok a) h = absurd (h refl)
+no_size_lem (Err x) h = refl
 
-pub nine_nearest : (a : Nearest) → (nearest_of a).verdict.number ≢ 9
-nine_nearest (Done l r n) e = omega arith
-nine_nearest (Refused x r) e = nine_unused x e
+pub nine_nearest : (a : Result Nearest Refused) → (nearest_of a).verdict.number ≢ 9
+nine_nearest (Ok a) e = omega arith
+nine_nearest (Err x) e = nine_unused x.refusal e
 
 sent_range : (T : Tables) (a : Accepted T) (r start : ℕ) (g : List ℕ) → AcceptedFrame T start g → (k : ℕ) → k < length T.tones
     → range_test (written_points T r start g) k ≡ false
@@ -54,7 +55,7 @@ module _ (T : Tables) (X Y : List ℤ) (r start : ℕ) (f₀ work : List ℕ) wh
       sym (done_nearest T ready.tables X Y start r f₀ work ready.lists ready.frame room small ready.register
       (first_all (range_test (points X Y)) (length T.tones) range))
 
-  module _ (a : Nearest) (f work' : List ℕ) (reads : ReadsNearest T X Y r start f₀ work a f work') where
+  module _ (a : Result Nearest Refused) (f work' : List ℕ) (reads : ReadsNearest T X Y r start f₀ work a f work') where
     number_is : (nearest_of a).verdict.number ≡ verdict.number
     unfolding report_by
     number_is = ap (λ (e : Report). e.verdict.number) reads.answer
@@ -91,7 +92,7 @@ module _ (T : Tables) (X Y : List ℤ) (r start : ℕ) (f₀ work : List ℕ) wh
         (o.0 ∙ sym report, x.0, x.1)
 
 module _ (T : Tables) (r start : ℕ) (xs ys : List ℤ) (f₀ : List ℕ) (ready : Ready T r start xs ys f₀) (work : List ℕ)
-    (room : length work ≡ work_bytes T) (g : List ℕ) (ok : AcceptedFrame T start g) (a : Nearest) (f work' : List ℕ) where
+    (room : length work ≡ work_bytes T) (g : List ℕ) (ok : AcceptedFrame T start g) (a : Result Nearest Refused) (f work' : List ℕ) where
   pub nearest_round_trip : Bytes f → ReadsNearest T (X-of T r start xs ys f₀ ready g) (Y-of T r start xs ys f₀ ready g) r start f₀ work a f work'
       → (nearest_of a ≡ (encode_at T start g r xs ys).report) × (total_in a ≡ 0) × (f ≡ g)
   nearest_round_trip bytes reads =

@@ -1,5 +1,6 @@
 -- Nearest reading against exact reading: at total 0 the loaded tones have the points of one frame alone, which is the frame that exact
 -- reading answers where it reads the points, and it reads them exactly when the tones that carry no data agree too.
+use Rattle.std.specs.Prelude.{None}
 use Prim.Native.Nat.{ℕ, zero, suc, ◌%◌, ◌≤◌}
 use mathlib.Core.Bool.{Bool, false}
 use mathlib.Core.List.{List, map}
@@ -15,7 +16,6 @@ use Rattle.g9932.specs.Points.{negated}
 use Rattle.g9932.specs.Symbol.{classes_of, pairs_in, size_of, first_monitored, write_points, sent_in, written_points, gather_bits, reading_in}
 use Rattle.g9932.specs.Answers.{encode_at, Read, read_at}
 use Rattle.g9932.specs.Nearest.{total_of, frame_total, NearestFrame}
-use Rattle.g9932.specs.declared.Found.TheVariants.{Nothing}
 use Rattle.g9932.specs.declared.Mode.TheVariants.{Coded}
 use Rattle.g9932.proofs.Accepted.{Accepted, accepted_tables}
 use Rattle.g9932.proofs.Distances.{total_self, total_bits, total_equal, total_gathered}
@@ -206,7 +206,7 @@ module _ (T : Tables) (r start : ℕ) (xs ys : List ℤ) (f₀ : List ℕ) (read
     pub nearest_half_turn_other : n ≡ 0 → f ≢ g
     nearest_half_turn_other = half_other T known m r start g ok f n near'
 
-    pub nearest_half_turn_exactly : ((turned_read T r start xs ys f₀ ready g).report.verdict.number ≡ 0) ↔ ((first_monitored T ≡ Nothing) × (n ≡ 0))
+    pub nearest_half_turn_exactly : ((turned_read T r start xs ys f₀ ready g).report.verdict.number ≡ 0) ↔ ((first_monitored T ≡ None) × (n ≡ 0))
     nearest_half_turn_exactly = (
       λ h. let e = half_turn_only T r start xs ys f₀ ready m g ok h in (e.0, nearest_half_turn.1 e.1),
       λ h. (half_turn_even T r start xs ys f₀ ready m g ok h.0 (nearest_half_turn.0 h.1)).0,

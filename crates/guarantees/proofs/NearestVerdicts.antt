@@ -1,4 +1,5 @@
 -- What nearest reading answers by what it is given: ROOM, FRAME, SEED and RANGE, in this order, or DONE; and never 13 to 15.
+use Rattle.std.specs.Prelude.{Option, None, Some}
 use Prim.Native.Nat.{ℕ, ◌≤◌, ◌<◌}
 use mathlib.Core.Bool.{Bool, true, false, ◌&&◌, ◌||◌, true≢false, not-eq-not}
 use mathlib.Core.List.{List}
@@ -13,8 +14,6 @@ use Rattle.g9932.specs.Sizes.{Tables, bytes_for, points}
 use Rattle.g9932.specs.Refusals.{Verdict, refused, accepted, refuse_if, refuse_at, verdict_by, and_then, room_test, seed_test, table_verdict, list_verdict, mode_verdict}
 use Rattle.g9932.specs.Symbol.{size_of}
 use Rattle.g9932.specs.Nearest.{range_test, work_bytes, nearest_inputs, range_verdict, nearest_verdict}
-use Rattle.g9932.specs.declared.Found.{Found}
-use Rattle.g9932.specs.declared.Found.TheVariants.{At, Nothing}
 use Rattle.g9932.specs.declared.Refusal.TheVariants.{Room, Frame, Seed}
 use Rattle.g9932.proofs.Identities.{or-false}
 use Rattle.g9932.proofs.Verdicts.{test_here, test_past, found_here, found_past, and_past, and_refused, and_accepted}
@@ -72,11 +71,11 @@ module _ (T : Tables) (ok : AcceptedTables T) (xs ys : List ℤ) (start r : ℕ)
         unfolding nearest_inputs
         inputs_pass_lem = test_past 10 all_fit (test_past 11 (le-ltb 7 start small) (test_past 12 valid refl))
 
-        pub range_nearest : (k : ℕ) → first (range_test (points xs ys)) (length T.tones) ≡ At k → verdict ≡ refused 23 k
+        pub range_nearest : (k : ℕ) → first (range_test (points xs ys)) (length T.tones) ≡ Some k → verdict ≡ refused 23 k
         unfolding nearest_verdict range_verdict
         range_nearest k e = sym (and_past (table_verdict T) ok (and_accepted (size_of T) inputs_pass_lem (found_here 23 _ e)))
 
-        pub done_nearest : first (range_test (points xs ys)) (length T.tones) ≡ Nothing → verdict ≡ accepted (size_of T)
+        pub done_nearest : first (range_test (points xs ys)) (length T.tones) ≡ None → verdict ≡ accepted (size_of T)
         unfolding nearest_verdict range_verdict
         done_nearest e = sym (and_past (table_verdict T) ok (and_accepted (size_of T) inputs_pass_lem (found_past 23 e refl)))
 
@@ -97,10 +96,10 @@ unfolding refuse_if
 apart_if n h true k = record { apart = h }
 apart_if n h false k = k
 
-apart_at : (n : ℕ) → is_exact n ≡ false → (f : Found) {v : Verdict} → NotExact v → NotExact (refuse_at n f v)
+apart_at : (n : ℕ) → is_exact n ≡ false → (f : Option ℕ) {v : Verdict} → NotExact v → NotExact (refuse_at n f v)
 unfolding refuse_at
-apart_at n h (At i) k = record { apart = h }
-apart_at n h Nothing k = k
+apart_at n h (Some i) k = record { apart = h }
+apart_at n h None k = k
 
 apart_then : {v w : Verdict} → NotExact v → NotExact w → NotExact (and_then v w)
 unfolding and_then

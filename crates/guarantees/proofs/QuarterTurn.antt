@@ -1,10 +1,10 @@
 -- A quarter turn, either way, of a written symbol in coded mode is always refused: with 13 at the first 1-bit tone; where there is none, with
 -- 14 at the first monitored tone; where there is neither, with 15 at pair 0 or 1. No register reads it.
+use Rattle.std.specs.Prelude.{Option, None, Some}
 use Prim.Native.Nat.{ℕ, zero, suc, ◌+◌, ◌-◌, ◌/◌, ◌%◌, ◌≤◌, ◌<◌}
 use mathlib.Core.Bool.{Bool, true, false, not, true≢false}
 use mathlib.Core.List.{List, [], ◌∷◌, map}
 use mathlib.Core.Logic.{◌≢◌, ◌⊎◌, inl, inr}
-use mathlib.Core.Option.{none}
 use mathlib.Core.Path.{◌≡◌, refl, sym, ap, ap₂, ◌∙◌, subst}
 use native.Mathlib.Omega.{arith}
 use borrow.Author.Tests.{eqb-true, eqb-false, eq-eqb, ne_eqb, le-ltb}
@@ -20,8 +20,6 @@ use Rattle.g9932.specs.Symbol.{classes_by, reordered_tones_of, classes_of, first
 use Rattle.g9932.specs.Trellis.{breaks}
 use Rattle.g9932.specs.Answers.{on_done, report_by, break_in, points_verdict, Read, read_at}
 use Rattle.g9932.specs.declared.Class.TheVariants.{Monitored, Silent}
-use Rattle.g9932.specs.declared.Found.{Found}
-use Rattle.g9932.specs.declared.Found.TheVariants.{At, Nothing}
 use Rattle.g9932.specs.declared.Mode.TheVariants.{Coded}
 use Rattle.g9932.proofs.Accepted.{Accepted, accepted_tables}
 use Rattle.g9932.proofs.Counts.{two_loaded, two_not_one}
@@ -38,8 +36,8 @@ use Rattle.guarantees.proofs.TurnedSymbol.{PointTurn, leaves, first_leaving, is_
 
 -- ---- the turns of points: those of 1 bit leave their constellation, and no others
 
-pub only_one : (n : ℕ) → ((v : List Bool) → length v ≡ 1 → label_of 1 (quarters n (point_of 1 v)) ≡ none)
-    → (b : ℕ) (v : List Bool) → 1 ≤ b → b < 2 → length v ≡ b → label_of b (quarters n (point_of b v)) ≡ none
+pub only_one : (n : ℕ) → ((v : List Bool) → length v ≡ 1 → label_of 1 (quarters n (point_of 1 v)) ≡ None)
+    → (b : ℕ) (v : List Bool) → 1 ≤ b → b < 2 → length v ≡ b → label_of b (quarters n (point_of b v)) ≡ None
 only_one n law zero v h k l = absurd (omega arith)
 only_one n law (suc zero) v h k l = law v l
 only_one n law (suc (suc b)) v h k l = absurd (omega arith)
@@ -63,7 +61,7 @@ other_bit : {a b : Bool} → a ≡ not b → b ≢ a
 other_bit e h = not_self _ (h ∙ e)
 
 -- where no 1-bit tone is found in t', none is counted
-none_counted : (b t : List ℕ) → first (λ k. one_bit b (entry (reordered_tones Coded b t) k)) (length t) ≡ Nothing → ones b t ≡ 0
+none_counted : (b t : List ℕ) → first (λ k. one_bit b (entry (reordered_tones Coded b t) k)) (length t) ≡ None → ones b t ≡ 0
 none_counted b t e = go (ones b t) refl
   where
     go : (n : ℕ) → ones b t ≡ n → n ≡ 0
@@ -111,7 +109,7 @@ module _ (turn : PointTurn) (two : turn.least ≡ 2) (flips : turn.labels.flips 
       g = frame_bits start (size_of T) f
 
       -- where there is no 1-bit tone
-      module _ (e : first_one_bit T ≡ Nothing) where
+      module _ (e : first_one_bit T ≡ None) where
         none_leaves : (k : ℕ) → k < length (classes_of T) → leaves turn (get_or (classes_of T) k Silent) ≡ false
         none_leaves k h =
             let i : k < length T.tones = omega (arith, length_classes T) in
@@ -147,19 +145,19 @@ module _ (turn : PointTurn) (two : turn.least ≡ 2) (flips : turn.labels.flips 
       unfolding refuse_at
       points_refused = verdict_turned turn T a m r start f ok ∙ rw is_13 (go (first_one_bit T) refl)
         where
-          go : (s : Found) → first_one_bit T ≡ s
+          go : (s : Option ℕ) → first_one_bit T ≡ s
               → refuse_at 13 s (refuse_at 14 (first_monitored T) (refuse_at 15 (break_in (reading_in T q)) (accepted (size_of T))))
               ≡ refuse_at 13 s (refuse_at 14 (first_monitored T) (refused 15 (quarter_pair T)))
-          go (At k) e = refl
-          go Nothing e = rw (broken e)
+          go (Some k) e = refl
+          go None e = rw (broken e)
 
       -- no register reads the points
       never_read : (X Y : List ℤ) → points X Y ≡ q → (s start' : ℕ) (f' : List ℕ) → (read_at T X Y s start' f').report.verdict.number ≢ 0
       never_read X Y are s start' f' h = go (first_one_bit T) refl
         where
-          go : (o : Found) → first_one_bit T ≡ o → ⊥
-          go Nothing e = not_broken (sym (read_points T X Y s start' f' h).2 ∙ ap (reading_in T) are ∙ broken e)
-          go (At k) e =
+          go : (o : Option ℕ) → first_one_bit T ≡ o → ⊥
+          go None e = not_broken (sym (read_points T X Y s start' f' h).2 ∙ ap (reading_in T) are ∙ broken e)
+          go (Some k) e =
               let w = first_found _ (length T.tones) k e in
               let i : k < length (classes_of T) = omega (arith, length_classes T, w.0) in
               absurd (true≢false (sym (off_13 turn T a m r start f ok k i ∙ leaves_at k w.0 ∙ w.1) ∙ sym (ap (λ z. offgrid_test (classes_of T) z k) are) ∙ (read_points T X Y s start' f' h).0.on k i))
@@ -189,10 +187,10 @@ module _ (T : Tables) where
   even_above e f = rw (ne_eqb (non_zero T % 2) 1 (λ h. omega arith), ne_eqb (non_zero T) 4 f)
 
   pub quarter_refusals :
-      ((k : ℕ) → first_one_bit T ≡ At k → quarter_verdict T ≡ refused 13 k)
-      × (first_one_bit T ≡ Nothing → (k : ℕ) → first_monitored T ≡ At k → quarter_verdict T ≡ refused 14 k)
-      × (first_one_bit T ≡ Nothing → first_monitored T ≡ Nothing → (non_zero T % 2 ≡ 1) ⊎ (non_zero T ≡ 4) → quarter_verdict T ≡ refused 15 0)
-      × (first_one_bit T ≡ Nothing → first_monitored T ≡ Nothing → non_zero T % 2 ≡ 0 → non_zero T ≢ 4 → quarter_verdict T ≡ refused 15 1)
+      ((k : ℕ) → first_one_bit T ≡ Some k → quarter_verdict T ≡ refused 13 k)
+      × (first_one_bit T ≡ None → (k : ℕ) → first_monitored T ≡ Some k → quarter_verdict T ≡ refused 14 k)
+      × (first_one_bit T ≡ None → first_monitored T ≡ None → (non_zero T % 2 ≡ 1) ⊎ (non_zero T ≡ 4) → quarter_verdict T ≡ refused 15 0)
+      × (first_one_bit T ≡ None → first_monitored T ≡ None → non_zero T % 2 ≡ 0 → non_zero T ≢ 4 → quarter_verdict T ≡ refused 15 1)
   unfolding refuse_at
   quarter_refusals = (
     λ k e. rw e,
@@ -201,7 +199,7 @@ module _ (T : Tables) where
     λ e d n f. rw (e, d) (ap (refused 15) (even_above n f)),
   )
 
-  pub first_one_bit_lem : T.mode ≡ Coded → (0 < one_bit_tones T → first_one_bit T ≡ At (length T.tones - one_bit_tones T)) × (one_bit_tones T ≡ 0 → first_one_bit T ≡ Nothing)
+  pub first_one_bit_lem : T.mode ≡ Coded → (0 < one_bit_tones T → first_one_bit T ≡ Some (length T.tones - one_bit_tones T)) × (one_bit_tones T ≡ 0 → first_one_bit T ≡ None)
   first_one_bit_lem m = (
     λ h. rw m (first_single T.bits T.tones h),
     λ z. rw m (no_single T.bits T.tones z),
@@ -211,10 +209,10 @@ quarter_number : (T : Tables) → (quarter_verdict T).number ≢ 0
 unfolding refuse_at
 quarter_number T = go (first_one_bit T) (first_monitored T)
   where
-    go : (s n : Found) → (refuse_at 13 s (refuse_at 14 n (refused 15 (quarter_pair T)))).number ≢ 0
-    go (At k) n e = omega arith
-    go Nothing (At k) e = omega arith
-    go Nothing Nothing e = omega arith
+    go : (s n : Option ℕ) → (refuse_at 13 s (refuse_at 14 n (refused 15 (quarter_pair T)))).number ≢ 0
+    go (Some k) n e = omega arith
+    go None (Some k) e = omega arith
+    go None None e = omega arith
 
 -- the whole answer of a reading that is refused
 abbrev pub refused_read : Verdict → ℕ → List ℕ → Read
@@ -263,7 +261,7 @@ module _ (T : Tables) (r start : ℕ) (xs ys : List ℤ) (f₀ : List ℕ) (read
     answer right_point refl refl Y (turned X) right_lengths right_points,
   )
 
-  pub quarter_by_what : first_one_bit T ≡ Nothing → BreaksBy T (points (turned Y) X) × BreaksBy T (points Y (turned X))
+  pub quarter_by_what : first_one_bit T ≡ None → BreaksBy T (points (turned Y) X) × BreaksBy T (points Y (turned X))
   quarter_by_what e = (
     subst (BreaksBy T) (sym left_points) (breaks_by left_point refl refl T facts m r start f ok e),
     subst (BreaksBy T) (sym right_points) (breaks_by right_point refl refl T facts m r start f ok e),

@@ -1,9 +1,9 @@
 -- A written symbol with every point turned, whatever the turn: which points leave their constellation, that the monitored ones and
 -- no others fail 14, and that the bits decoded are the sent ones with every label turned, tone by tone or pair by pair.
+use Rattle.std.specs.Prelude.{Option, None, Some}
 use Prim.Native.Nat.{ℕ, zero, suc, ◌/◌, ◌%◌, ◌≤◌, ◌<◌}
 use mathlib.Core.Bool.{Bool, true, false, not}
 use mathlib.Core.List.{List, [], ◌∷◌, ◌++◌, map}
-use mathlib.Core.Option.{none, some}
 use mathlib.Core.Path.{◌≡◌, refl, sym, ap, ap₂, ◌∙◌}
 use native.Mathlib.Omega.{arith}
 use borrow.Author.Tests.{ltb-true, ltb-false}
@@ -22,7 +22,6 @@ use Rattle.g9932.specs.Symbol.{classes_by, reordered_tones_of, classes_of, is_mo
 use Rattle.g9932.specs.Answers.{report_by, break_in, points_verdict, Read, read_at}
 use Rattle.g9932.specs.declared.Class.{Class}
 use Rattle.g9932.specs.declared.Class.TheVariants.{Data, Monitored, Silent}
-use Rattle.g9932.specs.declared.Found.{Found}
 use Rattle.g9932.specs.declared.Mode.{Mode}
 use Rattle.g9932.specs.declared.Mode.TheVariants.{Coded}
 use Rattle.g9932.proofs.Accepted.{Accepted, AcceptedCoded}
@@ -49,7 +48,7 @@ pub record PointTurn : Type 0 where
   pub small : least ≤ 2
   pub still : point origin ≡ origin
   pub label : (b : ℕ) (v : List Bool) → least ≤ b → length v ≡ b → point (point_of b v) ≡ point_of b (labels.word v)
-  pub off : (b : ℕ) (v : List Bool) → 1 ≤ b → b < least → length v ≡ b → label_of b (point (point_of b v)) ≡ none
+  pub off : (b : ℕ) (v : List Bool) → 1 ≤ b → b < least → length v ≡ b → label_of b (point (point_of b v)) ≡ None
 
 -- data tones carry at least one bit
 abbrev Loaded : Class → Type 0
@@ -103,7 +102,7 @@ module _ (turn : PointTurn) where
 
   -- ---- one tone
 
-  turned_label_lem : (n : ℕ) (v : List Bool) → turn.least ≤ n → length v ≡ n → label_of n (point (point_of n v)) ≡ some (word v)
+  turned_label_lem : (n : ℕ) (v : List Bool) → turn.least ≤ n → length v ≡ n → label_of n (point (point_of n v)) ≡ Some (word v)
   turned_label_lem n v h l = ap (label_of n) (turn.label n v h l) ∙ label_point n (word v) (turn.labels.same_length v ∙ l)
 
   -- a point of 2 bits never stays
@@ -163,7 +162,7 @@ module _ (turn : PointTurn) where
       (symbol_bits (after_draws (draws c) r) cs (drop (load c) d) (λ k i. o (suc k) (omega arith)) (simp length-drop (omega arith)))
 
   -- the first place whose points leave
-  abbrev pub first_leaving : Tables → Found
+  abbrev pub first_leaving : Tables → Option ℕ
   first_leaving T = first (λ k. leaves (get_or (classes_of T) k Silent)) (length T.tones)
 
   -- ---- of accepted tables, coded, for an accepted frame

@@ -1,16 +1,13 @@
 -- Two operations that map one label, or read one point, by the same contract: number, place and value tell the answer, so they answer the same.
+use Rattle.std.specs.Prelude.{Option, None, Some, Result, Ok, Err}
 use Prim.Native.Nat.{ℕ}
 use mathlib.Core.List.{List, [], ◌∷◌}
-use mathlib.Core.Option.{Option, none, some}
 use mathlib.Core.Path.{◌≡◌, refl, sym, ap, ◌∙◌}
 use lib.ListN.{get_or}
 use Rattle.g9932.specs.Answers.{OneTone, map_label, mapped_of, read_point, labelled_of}
 use Rattle.g9932.specs.Refusals.{number_of, place_of}
 use Rattle.g9932.specs.Sizes.{Point}
-use Rattle.g9932.specs.declared.Labelled.{Labelled}
-use Rattle.g9932.specs.declared.Labelled.TheVariants as L
-use Rattle.g9932.specs.declared.Mapped.{Mapped}
-use Rattle.g9932.specs.declared.Mapped.TheVariants as M
+use Rattle.g9932.specs.declared.Point.{Point as Coordinates}
 use Rattle.g9932.specs.declared.Refusal.{Refusal}
 use Rattle.g9932.specs.declared.Refusal.TheVariants as R
 
@@ -46,28 +43,28 @@ refusal_told (R.Range p) = refl
 
 -- ---- the answer by what it tells
 
-abbrev mapped_by : Option Point → ℕ → ℕ → Mapped
-mapped_by (some p) n k = M.Point p.px p.py
-mapped_by none n k = M.Refused (refusal_by n k)
+abbrev mapped_by : Option Point → ℕ → ℕ → Result Coordinates Refusal
+mapped_by (Some p) n k = Ok (record { x = p.px; y = p.py })
+mapped_by None n k = Err (refusal_by n k)
 
-mapped_told : (a : Mapped) → mapped_by (mapped_of a).value (mapped_of a).number (mapped_of a).place ≡ a
-mapped_told (M.Point x y) = refl
-mapped_told (M.Refused x) = ap M.Refused (refusal_told x)
+mapped_told : (a : Result Coordinates Refusal) → mapped_by (mapped_of a).value (mapped_of a).number (mapped_of a).place ≡ a
+mapped_told (Ok p) = refl
+mapped_told (Err x) = ap Err (refusal_told x)
 
-abbrev labelled_by : Option ℕ → ℕ → ℕ → Labelled
-labelled_by (some l) n k = L.Label l
-labelled_by none n k = L.Refused (refusal_by n k)
+abbrev labelled_by : Option ℕ → ℕ → ℕ → Result ℕ Refusal
+labelled_by (Some l) n k = Ok l
+labelled_by None n k = Err (refusal_by n k)
 
-labelled_told : (a : Labelled) → labelled_by (labelled_of a).value (labelled_of a).number (labelled_of a).place ≡ a
-labelled_told (L.Label l) = refl
-labelled_told (L.Refused x) = ap L.Refused (refusal_told x)
+labelled_told : (a : Result ℕ Refusal) → labelled_by (labelled_of a).value (labelled_of a).number (labelled_of a).place ≡ a
+labelled_told (Ok l) = refl
+labelled_told (Err x) = ap Err (refusal_told x)
 
 -- ---- so two that tell the same are the same
 
-pub same_mapped : (b l : ℕ) (one other : Mapped) → mapped_of one ≡ map_label b l → mapped_of other ≡ map_label b l → one ≡ other
+pub same_mapped : (b l : ℕ) (one other : Result Coordinates Refusal) → mapped_of one ≡ map_label b l → mapped_of other ≡ map_label b l → one ≡ other
 same_mapped b l one other e f =
     sym (mapped_told one) ∙ ap (λ (o : OneTone Point). mapped_by o.value o.number o.place) (e ∙ sym f) ∙ mapped_told other
 
-pub same_labelled : (b : ℕ) (p : Point) (one other : Labelled) → labelled_of one ≡ read_point b p → labelled_of other ≡ read_point b p → one ≡ other
+pub same_labelled : (b : ℕ) (p : Point) (one other : Result ℕ Refusal) → labelled_of one ≡ read_point b p → labelled_of other ≡ read_point b p → one ≡ other
 same_labelled b p one other e f =
     sym (labelled_told one) ∙ ap (λ (o : OneTone ℕ). labelled_by o.value o.number o.place) (e ∙ sym f) ∙ labelled_told other

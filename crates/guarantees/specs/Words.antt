@@ -1,5 +1,6 @@
 -- The words that the guarantees are stated with: document 01, "The words of demand 3", those of a quarter turn, those of the sent bits, those
 -- of received points, and those of the clip check.
+use Rattle.std.specs.Prelude.{Option}
 use Rattle.std.specs.Prelude.{ℕ, zero, suc, ◌+◌, ◌*◌, ◌-◌, ◌/◌, ◌%◌, ◌<◌, Bool, true, false, not, ◌||◌, cond, List, [], ◌∷◌, ◌++◌, map, ◌≢◌, ◌≡◌, ltb, eqb, ℤ, pos, negsuc, neg_ℤ, length, take, drop, get_or}
 use Rattle.g9932.specs.Bits.{◌⊕◌, bit, odd, first}
 use Rattle.g9932.specs.Sizes.{Tables, entry, bytes_for, frame_bits, Point, origin}
@@ -12,7 +13,6 @@ use Rattle.g9932.specs.Answers.{read_at}
 use Rattle.g9932.specs.declared.Class.TheVariants.{Silent}
 use Rattle.g9932.specs.declared.Clip.{Clip}
 use Rattle.g9932.specs.declared.Clip.TheVariants.{Straight, Turned, Neither, CannotTell}
-use Rattle.g9932.specs.declared.Found.{Found}
 use Rattle.g9932.specs.declared.TrellisState.{TrellisState}
 
 -- Tables are accepted in a mode when none of 1 to 8 applies, a frame of bytes, from its start, when 11 doesn't. A register is valid
@@ -57,7 +57,7 @@ turned xs = map neg_ℤ xs
 -- makes `turned Y` and X, the second Y and `turned X`: `turned` changes the signs of one list.
 
 -- the first 1-bit tone, in t' order
-abbrev pub first_one_bit : Tables → Found
+abbrev pub first_one_bit : Tables → Option ℕ
 first_one_bit T = first (λ k. one_bit T.bits (entry (reordered_tones_of T) k)) (length T.tones)
 
 -- the first pair that breaks the code where no 1-bit tone is: pair 0 if N is odd, or if N is 4, so that it is one of the last two; else pair 1

@@ -6,18 +6,17 @@ use native.Mathlib.Omega.{arith}
 use borrow.Author.Count.{below_more}
 use borrow.Author.Tests.{ltb-true, ltb-false}
 use mathlib.Core.Bool.{Bool, true, false, true≢false}
-use mathlib.Core.List.{List}
+use mathlib.Core.List.{List, ◌++◌}
 use mathlib.Core.Path.{◌≡◌, refl, sym, ◌∙◌}
 use lib.Dec.{ltb}
 use lib.IntN.{ℤ, pos}
-use lib.ListN.{length, set, take, length-set}
+use lib.ListN.{length, set, take, drop, length-set}
 use borrow.Rule.Slice.PartMut.{put_mid, same_len_mid}
-use lib.Seq.{get_or-set_same, get_or-set_other, length-take-le}
+use lib.Seq.{get_or-set_same, get_or-set_other, length-take-le, length_front}
 use Rattle.constellation.specs.MapByLayout.{MapsTo, MapsByRule}
 use Rattle.constellation.specs.Stored.{Stored, is_stored}
 use Rattle.constellation.proofs.StoredPoints.{maps_to, ruled_maps}
-use Rattle.g9932.specs.Sizes.{entry}
-use Rattle.mapper.specs.Reading.{point_at}
+use Rattle.g9932.specs.Sizes.{entry, point_at}
 use Rattle.mapper.specs.Writing.{PutNeeds, PutsPoints}
 use Rattle.mapper.proofs.Parts.{part, length_part, part_at, put_before, put_inside}
 use Rattle.mapper.specs.Blocks.{PutsByRule, CountsStored, FindNeeds, FindsEntries, LooksUp, PutsStored, TableNeeds, PutsFromTable, BlockEnd, most_places}
@@ -165,6 +164,13 @@ pub cover_start : (layouts labels : List ℕ) (xs ys : List ℤ) (entries : List
 cover_start layouts labels xs ys entries n =
     record { inside = omega arith; xs_length = refl; ys_length = refl; points = λ j h. absurd (omega arith); entries_length = n }
 
+module _ {layouts labels : List ℕ} {xs₀ ys₀ xs ys : List ℤ} {entries : List ℕ} {i : ℕ} (g : Covered layouts labels xs₀ ys₀ xs ys entries i) where
+  pub cover_to : {j : ℕ} → i ≡ j → Covered layouts labels xs₀ ys₀ xs ys entries j
+  cover_to e = rw e at g
+
+  pub cover_end : length xs₀ ≤ i → PutsPoints layouts labels xs ys
+  cover_end h = record { points = λ j k. g.points j (omega (arith, g.xs_length)) }
+
 module _ {table layouts labels : List ℕ} {xs₀ ys₀ xs ys : List ℤ} {entries : List ℕ} {i e : ℕ} (s : Stored table) (g : PutNeeds layouts labels xs₀ ys₀)
     (c : Covered layouts labels xs₀ ys₀ xs ys entries i) (b : BlockEnd i (length xs) e) where
   layouts_part : length (part layouts i e) ≡ e - i
@@ -201,16 +207,16 @@ module _ {table layouts labels : List ℕ} {xs₀ ys₀ xs ys : List ℤ} {entri
             entries_length = entries_part ∙ sym xs_part;
           }
 
-  module _ {new_xs_lem new_ys_lem : List ℤ} {new_entries : List ℕ} (m : length new_xs_lem ≡ length (part xs i e)) (n : length new_ys_lem ≡ length (part ys i e)) (k : length new_entries ≡ most_places)
-      (p : PutsPoints (part layouts i e) (part labels i e) new_xs_lem new_ys_lem) where
-    pub block_step : Covered layouts labels xs₀ ys₀ (put_mid i (e - i) xs new_xs_lem) (put_mid i (e - i) ys new_ys_lem) new_entries e
+  module _ {new_xs new_ys : List ℤ} (new : List ℕ) (m : length new_xs ≡ length (part xs i e)) (n : length new_ys ≡ length (part ys i e)) (k : length new ≡ length (take (e - i) entries))
+      (p : PutsPoints (part layouts i e) (part labels i e) new_xs new_ys) where
+    pub block_step : Covered layouts labels xs₀ ys₀ (put_mid i (e - i) xs new_xs) (put_mid i (e - i) ys new_ys) (new ++ drop (e - i) entries) e
     block_step =
         record {
           inside = omega (arith, b.inside, c.xs_length);
-          xs_length = same_len_mid i (e - i) xs new_xs_lem m ∙ c.xs_length;
-          ys_length = same_len_mid i (e - i) ys new_ys_lem n ∙ c.ys_length;
+          xs_length = same_len_mid i (e - i) xs new_xs m ∙ c.xs_length;
+          ys_length = same_len_mid i (e - i) ys new_ys n ∙ c.ys_length;
           points = λ j h. by j h (ltb j i) refl;
-          entries_length = k;
+          entries_length = length_front entries new (e - i) k ∙ c.entries_length;
         }
       where
         to_xs : i ≤ length xs
@@ -220,13 +226,13 @@ module _ {table layouts labels : List ℕ} {xs₀ ys₀ xs ys : List ℤ} {entri
         to_ys = omega (arith, c.inside, c.ys_length, g.ys_length)
 
         put : ℕ → Type 0
-        put j = MapsTo (entry layouts j) (entry labels j) (point_at (put_mid i (e - i) xs new_xs_lem) (put_mid i (e - i) ys new_ys_lem) j)
+        put j = MapsTo (entry layouts j) (entry labels j) (point_at (put_mid i (e - i) xs new_xs) (put_mid i (e - i) ys new_ys) j)
 
         inside : (j : ℕ) → j < e - i → put (i + j)
         inside j l =
             rw (
-              put_inside xs i (e - i) new_xs_lem to_xs j (pos 0) (omega (arith, m, xs_part)),
-              put_inside ys i (e - i) new_ys_lem to_ys j (pos 0) (omega (arith, n, ys_part)),
+              put_inside xs i (e - i) new_xs to_xs j (pos 0) (omega (arith, m, xs_part)),
+              put_inside ys i (e - i) new_ys to_ys j (pos 0) (omega (arith, n, ys_part)),
               ← (part_at layouts i e j 0 l),
               ← (part_at labels i e j 0 l),
             )
@@ -235,7 +241,7 @@ module _ {table layouts labels : List ℕ} {xs₀ ys₀ xs ys : List ℤ} {entri
         by : (j : ℕ) → j < e → (t : Bool) → ltb j i ≡ t → put j
         by j h true t =
             let l = ltb-true j i t in
-            rw (put_before xs i (e - i) new_xs_lem to_xs j (pos 0) l, put_before ys i (e - i) new_ys_lem to_ys j (pos 0) l) (c.points j l)
+            rw (put_before xs i (e - i) new_xs to_xs j (pos 0) l, put_before ys i (e - i) new_ys to_ys j (pos 0) l) (c.points j l)
         by j h false t =
             let l = ltb-false j i t in
             let z : i + (j - i) ≡ j = omega arith in

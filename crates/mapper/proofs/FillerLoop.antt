@@ -1,4 +1,5 @@
 -- Filler bits at the places that draw: the places left, from the register now, end where all do.
+use Rattle.std.specs.Prelude.{Option, None}
 use Prim.Native.Nat.{ℕ, suc, ◌+◌, ◌*◌, ◌≤◌, ◌<◌}
 use native.Mathlib.Numerals.{add-one}
 use native.Mathlib.Omega.{arith}
@@ -11,8 +12,6 @@ use Rattle.g9932.proofs.Words.{num_lt}
 use Rattle.g9932.specs.Bits.{num, or_at}
 use Rattle.g9932.specs.Filler.{drawn, after_draws}
 use Rattle.g9932.specs.Sizes.{entry}
-use Rattle.g9932.specs.declared.Found.{Found}
-use Rattle.g9932.specs.declared.Found.TheVariants.{Nothing}
 use Rattle.mapper.specs.Writing.{with_filler, SetsFiller}
 use Rattle.mapper.specs.Reading.{passes_filler, wrong_filler, ChecksFiller}
 
@@ -61,14 +60,14 @@ module _ {ds : List ℕ} {r : ℕ} {ls₀ ls : List ℕ} {next k : ℕ} (g : Fil
 
 -- ---- labels compared
 
-pub record Checking (ds layouts : List ℕ) (r : ℕ) (ls : List ℕ) (monitor : Found) (next k : ℕ) : Type 0 where
+pub record Checking (ds layouts : List ℕ) (r : ℕ) (ls : List ℕ) (monitor : Option ℕ) (next k : ℕ) : Type 0 where
   pub drawing : Drawing ds r next k
-  pub left : wrong_filler next (drop k ds) layouts ls monitor ≡ wrong_filler r ds layouts ls Nothing
+  pub left : wrong_filler next (drop k ds) layouts ls monitor ≡ wrong_filler r ds layouts ls None
 
-pub check_start : (ds layouts : List ℕ) (r : ℕ) (ls : List ℕ) → Checking ds layouts r ls Nothing r 0
+pub check_start : (ds layouts : List ℕ) (r : ℕ) (ls : List ℕ) → Checking ds layouts r ls None r 0
 check_start ds layouts r ls = record { drawing = draw_start ds r; left = refl }
 
-module _ {ds layouts : List ℕ} {r : ℕ} {ls : List ℕ} {monitor : Found} {next k : ℕ} (g : Checking ds layouts r ls monitor next k) where
+module _ {ds layouts : List ℕ} {r : ℕ} {ls : List ℕ} {monitor : Option ℕ} {next k : ℕ} (g : Checking ds layouts r ls monitor next k) where
   pub check_step : k < length ds → (l after : ℕ) → l ≡ num (drawn 2 next) → after ≡ after_draws 2 next
       → Checking ds layouts r ls (or_at monitor (not (passes_filler (entry layouts (entry ds k)) (entry ls (entry ds k)) l)) (entry ds k)) after (k + 1)
   unfolding wrong_filler

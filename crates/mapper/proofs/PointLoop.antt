@@ -1,21 +1,21 @@
 -- Points by place: each place before i has its point, or its label, or none.
+use Rattle.std.specs.Prelude.{Option, None, Some}
+use Rattle.std.specs.Option.{is_some, unwrap_or}
 use Prim.Native.Nat.{ℕ, ◌+◌, ◌≤◌, ◌<◌}
 use native.Mathlib.Omega.{arith}
 use borrow.Author.Count.{below_more}
-use mathlib.Core.Bool.{Bool, true, false, ◌&&◌, and-eq-true_iff, true≢false}
+use mathlib.Core.Bool.{Bool, true, false, ◌&&◌, and-eq-true_iff, true≢false, false≢true}
+use mathlib.Core.Logic.{inl, inr}
 use mathlib.Core.List.{List}
-use mathlib.Core.Path.{◌≡◌, refl, ◌∙◌, sym}
+use mathlib.Core.Path.{◌≡◌, refl, ◌∙◌, sym, ap, subst}
 use lib.IntN.{ℤ, pos}
 use lib.ListN.{length, set, length-set, get_or}
 use lib.Seq.{get_or-set_same, get_or-set_other}
 use Rattle.constellation.proofs.DemapByLayout.{on_or_off}
 use Rattle.constellation.specs.DemapByLayout.{Demaps}
-use Rattle.constellation.specs.declared.demap.PointLabel.{PointLabel}
-use Rattle.g9932.specs.Sizes.{entry, Point, point}
-use Rattle.g9932.specs.declared.Found.{Found}
-use Rattle.g9932.specs.declared.Found.TheVariants.{Nothing}
+use Rattle.g9932.specs.Sizes.{entry, Point, point, point_at}
 use Rattle.mapper.proofs.Parts.{part, length_part, part_at}
-use Rattle.mapper.specs.Reading.{point_at, DemapNeeds, LabelIs, Off, Told, DemapsAll, OffAt, DemapsPoints, OnOrOff, DemapAllNeeds}
+use Rattle.mapper.specs.Reading.{DemapNeeds, LabelIs, Off, Told, DemapsAll, OffAt, DemapsPoints, OnOrOff, DemapAllNeeds}
 
 -- ---- points put: each place before i has one as it should, and the others are as they came
 
@@ -48,14 +48,6 @@ module _ {P : ℕ → Point → Type 0} {xs₀ ys₀ xs ys : List ℤ} {i : ℕ}
 
 -- ---- points demapped
 
--- what the code tells of a point, by its answer
-pub told : {s : ℕ} {p : Point} {r : PointLabel} {o : Bool} → Demaps s p r → r.on ≡ o → Demaps s p (record { on = o; label = r.label })
-told seen e =
-    record {
-      sought = λ b low high f. rw e at (seen.sought b low high f);
-      silent = λ f. rw e at (seen.silent f);
-    }
-
 pub record Demapping (layouts : List ℕ) (xs ys : List ℤ) (labels : List ℕ) (all : Bool) (i : ℕ) : Type 0 where
   pub inside : i ≤ length xs
   pub labels_length : length labels ≡ length xs
@@ -77,50 +69,61 @@ module _ {layouts : List ℕ} {xs ys : List ℤ} {labels : List ℕ} {all : Bool
         labels_length = g.labels_length;
       }
 
-  pub demap_step : i < length xs → (r : PointLabel) → Demaps (entry layouts i) (point_at xs ys i) r
-      → Demapping layouts xs ys (set labels i r.label) (all && r.on) (i + 1)
-  demap_step h r seen =
+  pub demap_step : i < length xs → (r : Option ℕ) → Demaps (entry layouts i) (point_at xs ys i) r
+      → (l : ℕ) → l ≡ unwrap_or r 0 → (on : Bool) → on ≡ is_some r → Demapping layouts xs ys (set labels i l) (all && on) (i + 1)
+  demap_step h r seen l is on some_is =
       record {
         inside = omega arith;
-        labels_length = length-set labels i r.label ∙ g.labels_length;
+        labels_length = length-set labels i l ∙ g.labels_length;
         each = below_more tells i
-            (λ j k. rw (get_or-set_other labels i j r.label 0 (λ e. absurd (omega arith))) (g.each j k))
-            (rw (get_or-set_same labels i r.label 0 (omega (arith, g.labels_length))) (r.on, seen));
-        every = λ e. let both = (and-eq-true_iff all r.on).0 e in below_more has i (before both.0) (here both.1);
-        some = some all r.on refl refl;
+            (λ j k. rw (get_or-set_other labels i j l 0 (λ e. absurd (omega arith))) (g.each j k))
+            (told r refl on some_is);
+        every = λ e. let both = (and-eq-true_iff all on).0 e in below_more has i (before both.0) (here r refl (sym some_is ∙ both.1));
+        some = some all on refl refl;
       }
     where
       tells : ℕ → Type 0
-      tells j = Told layouts xs ys (set labels i r.label) j
+      tells j = Told layouts xs ys (set labels i l) j
 
       has : ℕ → Type 0
-      has j = LabelIs (entry layouts j) (point_at xs ys j) (entry (set labels i r.label) j)
+      has j = LabelIs (entry layouts j) (point_at xs ys j) (entry (set labels i l) j)
 
-      here : r.on ≡ true → has i
-      here e = rw (get_or-set_same labels i r.label 0 (omega (arith, g.labels_length))) (told seen e)
+      here : (o : Option ℕ) → r ≡ o → is_some r ≡ true → has i
+      here (Some k) e s =
+          let n : l ≡ k = is ∙ ap (λ (o : Option ℕ). unwrap_or o 0) e in
+          rw (get_or-set_same labels i l 0 (omega (arith, g.labels_length)), n) (subst (Demaps (entry layouts i) (point_at xs ys i)) e seen)
+      here None e s = absurd (false≢true (sym (ap is_some e) ∙ s))
+
+      told : (o : Option ℕ) → r ≡ o → (b : Bool) → b ≡ is_some r → tells i
+      told (Some k) e b s = inl (here (Some k) e (ap is_some e))
+      told None e b s = inr (subst (Demaps (entry layouts i) (point_at xs ys i)) e seen)
 
       before : all ≡ true → (j : ℕ) → j < i → has j
-      before e j k = rw (get_or-set_other labels i j r.label 0 (λ e. absurd (omega arith))) (g.every e j k)
+      before e j k = rw (get_or-set_other labels i j l 0 (λ e. absurd (omega arith))) (g.every e j k)
 
-      some : (a o : Bool) → all ≡ a → r.on ≡ o → a && o ≡ false → (j : ℕ) × (j < i + 1) × Off (entry layouts j) (point_at xs ys j)
+      off : (o : Option ℕ) → r ≡ o → is_some r ≡ false → Off (entry layouts i) (point_at xs ys i)
+      off (Some k) e s = absurd (true≢false (sym (ap is_some e) ∙ s))
+      off None e s = subst (Demaps (entry layouts i) (point_at xs ys i)) e seen
+
+      some : (a o : Bool) → all ≡ a → on ≡ o → a && o ≡ false → (j : ℕ) × (j < i + 1) × Off (entry layouts j) (point_at xs ys j)
       some false o p q e = let w = g.some p in (w.0, omega (arith, w.1), w.2)
-      some true false p q e = (i, omega arith, (r.label, told seen q))
+      some true false p q e = (i, omega arith, off r refl (sym some_is ∙ q))
       some true true p q e = absurd (true≢false e)
 
 module _ {layouts : List ℕ} {xs ys : List ℤ} {labels : List ℕ} {all : Bool} (g : DemapsAll layouts xs ys labels all) where
-  pub all_on : all ≡ true → DemapsPoints layouts xs ys labels Nothing
+  pub all_on : all ≡ true → DemapsPoints layouts xs ys labels None
   all_on e = record { off = λ i h. (entry labels i, g.every e i h); labelled = λ _. g.every e; labels_length = g.labels_length }
 
   -- where a point is off, the search finds one
-  pub some_off : DemapNeeds layouts xs ys → all ≡ false → (r : Found) → OffAt layouts xs ys r → DemapsPoints layouts xs ys labels r
+  pub some_off : DemapNeeds layouts xs ys → all ≡ false → (r : Option ℕ) → OffAt layouts xs ys r → DemapsPoints layouts xs ys labels r
   some_off needs e r off = record { off = off; labelled = λ z. absurd (none (rw z at off)); labels_length = g.labels_length }
     where
-      none : OffAt layouts xs ys Nothing → ⊥
+      none : OffAt layouts xs ys None → ⊥
       none on =
           let w = g.some e in
           let i = w.0 in
           let o = on i w.1 in
-          on_or_off (entry layouts i) (point_at xs ys i) o.0 w.2.0 (needs.of_tones i w.1) o.1 w.2.1
+          on_or_off (entry layouts i) (point_at xs ys i) o.0 (needs.of_tones i w.1) o.1 w.2
 
 -- ---- one place
 
@@ -159,4 +162,4 @@ module _ (layouts : List ℕ) (xs ys : List ℤ) (i : ℕ) (needs : DemapNeeds l
   one_found labels false d =
       let s = d.some refl in
       let z : s.0 ≡ 0 = omega (arith, s.1, length_one xs i h) in
-      (s.2.0, rw (z, one_at layouts i 0, one_point) at s.2.1)
+      rw (z, one_at layouts i 0, one_point) at s.2

@@ -2,9 +2,8 @@
 use Rattle.std.specs.Prelude.{ℕ, ◌+◌, ◌≤◌, ◌<◌, true, false, List, ◌≡◌, ℤ, length}
 use Rattle.constellation.specs.MapByLayout.{Mappable, MapsTo, MapsByRule}
 use Rattle.constellation.specs.Stored.{Stored, is_stored, EntryOf, stored_or}
-use Rattle.g9932.specs.Sizes.{entry}
+use Rattle.g9932.specs.Sizes.{entry, point_at}
 use Rattle.mapper.specs.Writing.{PutNeeds}
-use Rattle.mapper.specs.Reading.{point_at}
 
 -- the places of a block
 abbrev pub most_places : ℕ
@@ -60,3 +59,4 @@ pub record BlockEnd (from places end : ℕ) : Type 0 where
   pub after : from < end
   pub inside : end ≤ places
   pub short : end ≤ from + most_places
+  pub whole : end < places → end ≡ from + most_places

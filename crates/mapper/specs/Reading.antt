@@ -1,5 +1,6 @@
 -- Points to labels by place, and these to frame bits.
-use Rattle.std.specs.Prelude.{ℕ, ◌+◌, ◌*◌, ◌≤◌, ◌<◌, Bool, true, false, ◌||◌, not, List, [], ◌∷◌, ◌++◌, ◌≡◌, eqb, ℤ, pos, length, get_or}
+use Rattle.std.specs.Prelude.{Option, None, Some}
+use Rattle.std.specs.Prelude.{ℕ, ◌+◌, ◌*◌, ◌≤◌, ◌<◌, Bool, true, false, ◌||◌, not, ◌⊎◌, List, [], ◌∷◌, ◌++◌, ◌≡◌, eqb, ℤ, length}
 use Rattle.constellation.specs.DemapByLayout.{Demaps}
 use Rattle.constellation.specs.Layouts.{silent_layout, ToneLayout}
 use Rattle.frame.specs.Labels.{bits_of_labels, Within, labels_at, Rising}
@@ -8,16 +9,11 @@ use Rattle.frame.specs.declared.BitWriter.{BitWriter}
 use Rattle.g9932.specs.Bits.{num, or_at}
 use Rattle.g9932.specs.Filler.{drawn, after_draws}
 use Rattle.g9932.specs.Order.{sum}
-use Rattle.g9932.specs.Sizes.{entry, Point, point}
-use Rattle.g9932.specs.declared.Found.{Found}
-use Rattle.g9932.specs.declared.Found.TheVariants.{At, Nothing}
+use Rattle.g9932.specs.Sizes.{entry, Point, point, point_at}
 use Rattle.mapper.specs.Writing.{FillerNeeds}
 use Rattle.mapper.specs.declared.read.FillerRead.{FillerRead}
 
 -- ---- points
-
-abbrev pub point_at : List ℤ → List ℤ → ℕ → Point
-point_at xs ys i = point (get_or xs i (pos 0)) (get_or ys i (pos 0))
 
 pub record DemapNeeds (layouts : List ℕ) (xs ys : List ℤ) : Type 0 where
   pub layouts_length : length layouts ≡ length xs
@@ -30,14 +26,14 @@ pub record DemapAllNeeds (layouts : List ℕ) (xs ys : List ℤ) (labels : List 
 
 -- l is the label of a point that a tone of this layout can have; or it can't have it
 abbrev pub LabelIs : ℕ → Point → ℕ → Type 0
-LabelIs layout p l = Demaps layout p (record { on = true; label = l })
+LabelIs layout p l = Demaps layout p (Some l)
 
 abbrev pub Off : ℕ → Point → Type 0
-Off layout p = (l : ℕ) × Demaps layout p (record { on = false; label = l })
+Off layout p = Demaps layout p None
 
--- what is told of each point, and with which label
+-- what is told of each point: its label, or that it has none
 abbrev pub Told : List ℕ → List ℤ → List ℤ → List ℕ → ℕ → Type 0
-Told layouts xs ys labels i = (on : Bool) × Demaps (entry layouts i) (point_at xs ys i) (record { on = on; label = entry labels i })
+Told layouts xs ys labels i = LabelIs (entry layouts i) (point_at xs ys i) (entry labels i) ⊎ Off (entry layouts i) (point_at xs ys i)
 
 -- every point has its label, or one has none
 pub record DemapsAll (layouts : List ℕ) (xs ys : List ℤ) (labels : List ℕ) (all : Bool) : Type 0 where
@@ -51,14 +47,14 @@ OnOrOff layout p true = (l : ℕ) × LabelIs layout p l
 OnOrOff layout p false = Off layout p
 
 -- the first place whose point is off, those before it being on
-abbrev pub OffAt : List ℕ → List ℤ → List ℤ → Found → Type 0
-OffAt layouts xs ys (At k) =
+abbrev pub OffAt : List ℕ → List ℤ → List ℤ → Option ℕ → Type 0
+OffAt layouts xs ys (Some k) =
     (k < length xs) × Off (entry layouts k) (point_at xs ys k) × ((i : ℕ) → i < k → (l : ℕ) × LabelIs (entry layouts i) (point_at xs ys i) l)
-OffAt layouts xs ys Nothing = (i : ℕ) → i < length xs → (l : ℕ) × LabelIs (entry layouts i) (point_at xs ys i) l
+OffAt layouts xs ys None = (i : ℕ) → i < length xs → (l : ℕ) × LabelIs (entry layouts i) (point_at xs ys i) l
 
-pub record DemapsPoints (layouts : List ℕ) (xs ys : List ℤ) (labels : List ℕ) (r : Found) : Type 0 where
+pub record DemapsPoints (layouts : List ℕ) (xs ys : List ℤ) (labels : List ℕ) (r : Option ℕ) : Type 0 where
   pub off : OffAt layouts xs ys r
-  pub labelled : r ≡ Nothing → (i : ℕ) → i < length xs → LabelIs (entry layouts i) (point_at xs ys i) (entry labels i)
+  pub labelled : r ≡ None → (i : ℕ) → i < length xs → LabelIs (entry layouts i) (point_at xs ys i) (entry labels i)
   pub labels_length : length labels ≡ length xs
 
 -- ---- filler bits
@@ -72,13 +68,13 @@ abbrev pub passes_filler : ℕ → ℕ → ℕ → Bool
 passes_filler layout l two = eqb layout silent_layout || eqb l two
 
 -- the first of the places that draw that does not pass, each with the next two filler bits
-unfoldable pub wrong_filler : ℕ → List ℕ → List ℕ → List ℕ → Found → Found
+unfoldable pub wrong_filler : ℕ → List ℕ → List ℕ → List ℕ → Option ℕ → Option ℕ
 wrong_filler r [] layouts ls found = found
 wrong_filler r (p ∷ ds) layouts ls found =
     wrong_filler (after_draws 2 r) ds layouts ls (or_at found (not (passes_filler (entry layouts p) (entry ls p) (num (drawn 2 r)))) p)
 
 pub record ChecksFiller (ds layouts : List ℕ) (r : ℕ) (labels : List ℕ) (f : FillerRead) : Type 0 where
-  pub monitor_is : f.monitor ≡ wrong_filler r ds layouts labels Nothing
+  pub monitor_is : f.monitor ≡ wrong_filler r ds layouts labels None
   pub register_is : f.register ≡ after_draws (2 * length ds) r
 
 -- ---- labels that two tones of 1 bit share

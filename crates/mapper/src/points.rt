@@ -5,6 +5,8 @@ ghost use Rattle.std.specs.Prelude.{◌≤◌, ◌<◌, length};
 ghost use Rattle.mapper.specs.Writing.{PutNeeds, PutsPoints};
 ghost use Rattle.mapper.specs.Blocks.{PutsByRule, most_places, CountsStored, FindNeeds, FindsEntries, LookNeeds, LooksUp, PutStoredNeeds, PutsStored, TableNeeds, PutsFromTable, BlockEnd};
 
+use g9932::Point;
+
 // The places of a block.
 pub const BLOCK: usize = 128;
 
@@ -13,14 +15,10 @@ fn put_by_rule(layouts: &[u16], labels: &[u16], xs: &mut [i16], ys: &mut [i16])
     requires { PutNeeds layouts.now labels.now xs.old ys.old }
     ensures { PutsByRule layouts.now labels.now xs.new ys.new }
 {
-    let mut i = 0;
-    while i < xs.len() {
+    for i in 0..xs.len() {
         let p = constellation::map::point_by(layouts[i], labels[i]);
-        let x = p.x;
-        let y = p.y;
-        xs[i] = x;
-        ys[i] = y;
-        i += 1;
+        xs[i] = p.x;
+        ys[i] = p.y;
     }
 }
 
@@ -29,16 +27,9 @@ fn count_stored(layouts: &[u16]) -> u16
     requires { length layouts.now ≤ most_places }
     ensures { CountsStored layouts.now result }
 {
-    let mut count = 0u16;
-    let mut i = 0;
-    while i < layouts.len() {
-        let one = if constellation::stored::is_stored(layouts[i]) {
-            1u16
-        } else {
-            0u16
-        };
-        count += one;
-        i += 1;
+    let mut count = 0;
+    for &layout in layouts {
+        count += u16::from(constellation::stored::is_stored(layout));
     }
     count
 }
@@ -48,11 +39,8 @@ fn find_entries(layouts: &[u16], labels: &[u16], entries: &mut [u16])
     requires { FindNeeds layouts.now labels.now entries.old }
     ensures { FindsEntries layouts.now labels.now entries.new }
 {
-    let mut i = 0;
-    while i < entries.len() {
-        let e = constellation::stored::entry_of(layouts[i], labels[i]);
-        entries[i] = e;
-        i += 1;
+    for i in 0..entries.len() {
+        entries[i] = constellation::stored::entry_of(layouts[i], labels[i]);
     }
 }
 
@@ -61,11 +49,8 @@ fn look_up(table: &[u16; 510], entries: &mut [u16])
     requires { LookNeeds entries.old }
     ensures { LooksUp table.now entries.old entries.new }
 {
-    let mut i = 0;
-    while i < entries.len() {
-        let e = table[entries[i] as usize];
-        entries[i] = e;
-        i += 1;
+    for e in entries.iter_mut() {
+        *e = table[usize::from(*e)];
     }
 }
 
@@ -74,14 +59,11 @@ fn put_stored(layouts: &[u16], entries: &[u16], xs: &mut [i16], ys: &mut [i16])
     requires { PutStoredNeeds layouts.now entries.now xs.old ys.old }
     ensures { PutsStored layouts.now entries.now xs.old ys.old xs.new ys.new }
 {
-    let mut i = 0;
-    while i < xs.len() {
-        let q = constellation::stored::stored_or(layouts[i], entries[i], xs[i], ys[i]);
-        let x = q.x;
-        let y = q.y;
-        xs[i] = x;
-        ys[i] = y;
-        i += 1;
+    for i in 0..xs.len() {
+        let p = Point { x: xs[i], y: ys[i] };
+        let q = constellation::stored::stored_or(layouts[i], entries[i], p);
+        xs[i] = q.x;
+        ys[i] = q.y;
     }
 }
 
@@ -114,7 +96,7 @@ pub fn put_block(
     requires { TableNeeds table.now layouts.now labels.now entries.old xs.old ys.old × (length xs.old ≤ most_places) }
     ensures { PutsPoints layouts.now labels.now xs.new ys.new }
 {
-    let stored = count_stored(layouts) as usize;
+    let stored = usize::from(count_stored(layouts));
     if stored < xs.len() {
         put_by_rule(layouts, labels, xs, ys);
     }
@@ -128,10 +110,7 @@ pub fn block_end(from: usize, places: usize) -> usize
     requires { from < places }
     ensures { BlockEnd from places result }
 {
-    if places - from < BLOCK {
-        return places;
-    }
-    from + BLOCK
+    from + BLOCK.min(places - from)
 }
 
 // The points of the labels, by the layouts of the places. The table is lent to all blocks. Called by proved code only.
@@ -141,8 +120,7 @@ pub fn put_points(layouts: &[u16], labels: &[u16], xs: &mut [i16], ys: &mut [i16
 {
     let table = constellation::points::point_table();
     let mut entries = [0u16; BLOCK];
-    let mut i = 0;
-    while i < xs.len() {
+    for i in (0..xs.len()).step_by(BLOCK) {
         let end = block_end(i, xs.len());
         put_block(
             &table,
@@ -152,6 +130,5 @@ pub fn put_points(layouts: &[u16], labels: &[u16], xs: &mut [i16], ys: &mut [i16
             &mut xs[i..end],
             &mut ys[i..end],
         );
-        i = end;
     }
 }

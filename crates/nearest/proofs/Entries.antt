@@ -16,9 +16,10 @@ use Rattle.cosets.specs.Meters.{tone_meter, cost_of, LeastOf, BestLabel}
 use Rattle.frame.proofs.Labels.{at_get}
 use Rattle.frame.specs.Labels.{bits_of_labels, Within, labels_at}
 use Rattle.g9932.specs.Bits.{weight, odd, bits}
-use Rattle.g9932.specs.Sizes.{entry, Point, origin}
+use Rattle.g9932.specs.Sizes.{entry, Point, origin, most_tones}
 use Rattle.decisions.specs.Entries.{meter_by, meters_in, Decidable}
-use Rattle.decisions.specs.Deciding.{Costed, cost_by, CostLists, EntryNeeds, lone_in, MeterCosts, upper_at, lower_at, low_number, LowTraced, CosetNumber, Traced, PlaceLabels, LeastAt, LeastLows, total_at, BestAll, none, more}
+use Rattle.decisions.specs.declared.CostLists.{CostLists}
+use Rattle.decisions.specs.Deciding.{Costed, cost_by, EntryNeeds, lone_in, MeterCosts, upper_at, lower_at, low_number, LowTraced, CosetNumber, Traced, PlaceLabels, LeastAt, LeastLows, total_at, BestAll, none, more}
 use Rattle.nearest.specs.Planned.{LaidOut}
 use Rattle.decisions.proofs.PathLabels.{meters_length, meters_get}
 
@@ -51,30 +52,20 @@ one_bit_lem n = refl
 
 -- ---- costs
 
-module _ {least from : ℕ} {es ps layouts k0 k1 k2 k3 : List ℕ} {xs ys : List ℤ} {q : List Point} (two : 1 ≤ least) (d : Decidable least from es ps xs ys) (laid : LaidOut from es ps layouts)
-    (same : length layouts ≡ length xs) (c : Costed layouts q k0 k1 k2 k3 (length xs)) where
+module _ {least from : ℕ} {es ps layouts : List ℕ} {ks : CostLists} {xs ys : List ℤ} {q : List Point} (two : 1 ≤ least) (d : Decidable least from es ps xs ys) (laid : LaidOut from es ps layouts)
+    (same : length layouts ≡ length xs) (c : Costed layouts q ks (length xs)) where
   inside : (k : ℕ) → k < length es → entry ps k < length xs
   inside k h = d.rising.below k (omega (arith, d.places_length))
 
-  cost_lists : CostLists k0 k1 k2 k3
-  cost_lists =
+  pub entry_needs : length xs ≤ most_tones → EntryNeeds from ps
+  entry_needs few =
       record {
-        length1 = c.length1 ∙ sym c.length0;
-        length2 = c.length2 ∙ sym c.length0;
-        length3 = c.length3 ∙ sym c.length0;
-        small = λ i h. (c.costs i (omega (arith, c.length0))).small;
-      }
-
-  pub entry_needs : EntryNeeds from ps k0 k1 k2 k3
-  entry_needs =
-      record {
-        lists = cost_lists;
-        inside = λ k h. omega (arith, inside k (omega (arith, d.places_length)), c.length0);
-        shared_inside = λ k h l. omega (arith, d.shared_inside k (omega (arith, d.places_length)) l, c.length0);
+        inside = λ k h. omega (arith, inside k (omega (arith, d.places_length)));
+        shared_inside = λ k h l. omega (arith, d.shared_inside k (omega (arith, d.places_length)) l);
       }
 
   -- coded, each entry has at least 2 bits
-  pub meter_costs : 2 ≤ least → MeterCosts (meters_in from q es ps) from ps k0 k1 k2 k3
+  pub meter_costs : 2 ≤ least → MeterCosts (meters_in from q es ps) from ps ks
   meter_costs h2 =
       let n = meters_length from q es ps d.places_length in
       record {
@@ -87,7 +78,7 @@ module _ {least from : ℕ} {es ps layouts k0 k1 k2 k3 : List ℕ} {xs ys : List
       bits_of_lem true k h = omega (arith, d.bits_least k h)
       bits_of_lem false k h = omega arith
 
-      go : (b : Bool) (k : ℕ) → ltb (entry ps k) from ≡ b → k < length es → LeastOf (meter_by b (entry es k) (entry ps k) q) (cost_of (cost_by b k0 k1 k2 k3 (entry ps k)))
+      go : (b : Bool) (k : ℕ) → ltb (entry ps k) from ≡ b → k < length es → LeastOf (meter_by b (entry es k) (entry ps k) q) (cost_of (cost_by b ks (entry ps k)))
       go true k e h = (c.costs (entry ps k) (inside k h)).tone (entry es k) (omega (arith, d.bits_least k h)) (d.bits_most k h) (laid.own k h (ltb-true (entry ps k) from e))
       go false k e h =
           let l = ltb-false (entry ps k) from e in
@@ -124,7 +115,7 @@ module _ {least from : ℕ} {es ps layouts k0 k1 k2 k3 : List ℕ} {xs ys : List
 
   -- ---- uncoded: every tone has an entry of its own
 
-  module _ {lows labels : List ℕ} {n : ℕ} (all : from ≡ length xs) (l : LeastLows layouts ps k0 k1 k2 k3 lows n) (p : PlaceLabels layouts q lows labels (length xs)) where
+  module _ {lows labels : List ℕ} {n : ℕ} (all : from ≡ length xs) (l : LeastLows layouts ps ks lows n) (p : PlaceLabels layouts q lows labels (length xs)) where
     own : (k : ℕ) → k < length es → entry ps k < from
     own k h = omega (arith, inside k h)
 
@@ -135,7 +126,7 @@ module _ {least from : ℕ} {es ps layouts k0 k1 k2 k3 : List ℕ} {xs ys : List
     chosen : (k : ℕ) → k < length es → Chosen k
     chosen k h = by (ltb (entry es k) 2) refl
       where
-        low : LeastAt layouts k0 k1 k2 k3 lows l.costs (entry ps k)
+        low : LeastAt layouts ks lows l.costs (entry ps k)
         low = l.least (entry ps k) (rw same (inside k h))
 
         by : (b : Bool) → ltb (entry es k) 2 ≡ b → Chosen k

@@ -1,25 +1,18 @@
 -- The inputs of nearest reading: coordinates in range, and ROOM of the working buffer beside the other lists'.
 use Prim.Native.Nat.{ℕ, suc, ◌+◌, ◌-◌, ◌<◌}
-use mathlib.Core.Bool.{Bool, true, false, ◌||◌, true≢false}
-use mathlib.Core.Path.{◌≡◌, refl, sym, ap, ◌∙◌}
+use mathlib.Core.Bool.{Bool, true, false, ◌||◌}
+use mathlib.Core.Path.{◌≡◌, refl, ◌∙◌}
 use native.Mathlib.Omega.{arith}
 use borrow.Author.Tests.{lt-ltb, le-ltb, ltb-true, ltb-false, eq-eqb, ne_eqb}
-use lib.Dec.{ltb, eqb}
+use lib.Dec.{ltb}
 use lib.IntN.{ℤ, pos, negsuc, ◌+ℤ◌}
 use lib.Signed.{mag}
 use Rattle.g9932.proofs.TwosComplement.{pos_inj}
-use Rattle.g9932.proofs.Verdicts.{number_some, test_here}
+use Rattle.g9932.proofs.Verdicts.{test_here}
 use Rattle.g9932.specs.Answers.{read_inputs}
 use Rattle.g9932.specs.Nearest.{out_of_range, nearest_inputs}
-use Rattle.g9932.specs.Refusals.{number_of, place_of, Verdict, refused, room_test}
+use Rattle.g9932.specs.Refusals.{refused, room_test}
 use Rattle.g9932.specs.Sizes.{bytes_for}
-use Rattle.g9932.specs.declared.Refusal.{Refusal}
-use Rattle.plan.specs.Plan.{planned_verdict}
-use Rattle.plan.specs.declared.Planned.{Planned}
-use Rattle.plan.specs.declared.Planned.TheVariants.{Lists, Refused}
-use Rattle.plan.specs.declared.PlanSizes.{PlanSizes}
-use Rattle.symbol.specs.Inputs.{ChecksInputs}
-use Rattle.nearest.specs.Planned.{after_lists, ChecksLists}
 
 -- ---- 23
 
@@ -63,21 +56,3 @@ module _ (start size nsc bytes x y f w r : ℕ) where
       or-false : (b : Bool) → b || false ≡ b
       or-false true = refl
       or-false false = refl
-
--- ---- after the tables
-
-module _ {v : PlanSizes → Verdict} {planned : Planned} where
-  pub tables_refused : {x : Refusal} → planned ≡ Refused x → ChecksLists v planned (Refused x)
-  tables_refused e = record { answer = sym (ap (after_lists v) e); passed = λ p z. e ∙ z }
-
-  module _ {p : PlanSizes} (e : planned ≡ Lists p) where
-    pub work_refused : (x : Refusal) → refused (number_of x) (place_of x) ≡ v p → ChecksLists v planned (Refused x)
-    work_refused x q =
-        record {
-          answer = q ∙ sym (ap (after_lists v) e);
-          passed = λ p z. absurd (true≢false (sym (ap (λ (r : Planned). eqb (planned_verdict r).number 0) z) ∙ number_some x));
-        }
-
-    -- what the other inputs say
-    pub others_say : {u : ℕ → Verdict} {r : Planned} → u p.size ≡ v p → ChecksInputs u (Lists p) r → ChecksLists v planned r
-    others_say q c = record { answer = c.answer ∙ q ∙ sym (ap (after_lists v) e); passed = λ k z. e ∙ c.passed k z }

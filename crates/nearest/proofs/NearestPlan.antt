@@ -1,5 +1,6 @@
 -- Accepted tables, their plan and received points: labels that cost least, by the plan's entries, give a nearest frame of the tables; and
 -- points in range can be decided.
+use Rattle.std.specs.Prelude.{None}
 use Prim.Native.Nat.{ℕ, ◌+◌, ◌/◌, ◌≤◌, ◌<◌}
 use mathlib.Core.Bool.{Bool, false, ◌||◌}
 use mathlib.Core.List.{List, [], ◌∷◌}
@@ -24,17 +25,16 @@ use Rattle.g9932.specs.Bits.{first}
 use Rattle.g9932.specs.Nearest.{frame_total, NearestFrame, out_of_range, range_test}
 use Rattle.g9932.specs.Order.{Pair, sum, filter, bits_of, pairs_of, reordered_tones, coded_pairs}
 use Rattle.g9932.specs.Refusals.{table_verdict, frame_test}
-use Rattle.g9932.specs.Sizes.{Tables, entry, most_tones, Point, points, pack, frame_bits}
+use Rattle.g9932.specs.Sizes.{Tables, entry, Point, points, pack, frame_bits}
 use Rattle.g9932.specs.Symbol.{pairs_in, size_of, sent_in, written_points}
 use Rattle.g9932.specs.Trellis.{zero_state, encode_pairs, read_pairs, frame, taken_total, sent_of, reading_of}
-use Rattle.g9932.specs.declared.Found.TheVariants.{Nothing}
 use Rattle.g9932.specs.declared.Mode.{Mode}
 use Rattle.g9932.specs.declared.Mode.TheVariants.{Uncoded, Coded}
 use Rattle.passes.proofs.PlanLabels.{plan_placed}
 use Rattle.paths.specs.Frames.{pair_by, pairs_by, sent_cost, Labelled, LeastFrame}
 use Rattle.paths.specs.Paths.{Inputs}
 use Rattle.plan.specs.Plan.{least_own, sharing, PlanIs}
-use Rattle.plan.specs.declared.PlanSizes.{PlanSizes}
+use Rattle.plan.specs.declared.Plan.{Plan}
 use Rattle.symbol.proofs.TablePlan.{known, the_plan, entries_by, plain_sum, coded_pairs_lem}
 use Rattle.decisions.specs.Deciding.{pair_meters, BestAll, none, more}
 use Rattle.decisions.specs.Entries.{meters_in, Decidable}
@@ -67,12 +67,12 @@ best_least (m ∷ ms) d n (more {d = r} {c = c} {n = k} b a) e h =
     let q = best_least ms r k a (drop m.bits e) (length-drop m.bits e ∙ omega arith) in
     omega (arith, p, q)
 
-module _ (T : Tables) (ok : (table_verdict T).number ≡ 0) (p : PlanSizes) {layouts entries places drawing : List ℕ} (is : PlanIs T p layouts entries places drawing) where
+module _ (T : Tables) (ok : (table_verdict T).number ≡ 0) (p : Plan) (is : PlanIs T p) where
   abbrev es : List ℕ
-  es = take p.entry_count entries
+  es = p.entries.bits.now
 
   abbrev ps : List ℕ
-  ps = take p.entry_count places
+  ps = p.entries.places.now
 
   abbrev from : ℕ
   from = p.shared_from.0
@@ -178,7 +178,7 @@ module _ (T : Tables) (ok : (table_verdict T).number ≡ 0) (p : PlanSizes) {lay
       let w = or-false (out_of_range (get_or xs i (pos 0))) (out_of_range (get_or ys i (pos 0))) f in
       (ltb-false 1023 _ w.0, ltb-false 1023 _ w.1)
 
-  pub decidable : (xs ys : List ℤ) → length xs ≡ length T.tones → length ys ≡ length T.tones → first (range_test (points xs ys)) (length T.tones) ≡ Nothing
+  pub decidable : (xs ys : List ℤ) → length xs ≡ length T.tones → length ys ≡ length T.tones → first (range_test (points xs ys)) (length T.tones) ≡ None
       → Decidable (least_own T.mode) from es ps xs ys
   decidable xs ys nx ny e =
       let placed : Placed es ps T.tones = plan_placed (the_plan T ok p is) T.tones (sym (length_classes T)) in
@@ -201,7 +201,7 @@ module _ (T : Tables) (ok : (table_verdict T).number ≡ 0) (p : PlanSizes) {lay
 
   -- ---- decided labels are a nearest frame's
 
-  module _ (xs ys : List ℤ) (nx : length xs ≡ length T.tones) (ny : length ys ≡ length T.tones) (range : first (range_test (points xs ys)) (length T.tones) ≡ Nothing) where
+  module _ (xs ys : List ℤ) (nx : length xs ≡ length T.tones) (ny : length ys ≡ length T.tones) (range : first (range_test (points xs ys)) (length T.tones) ≡ None) where
     abbrev q : List Point
     q = points xs ys
 
@@ -255,7 +255,3 @@ module _ (T : Tables) (ok : (table_verdict T).number ≡ 0) (p : PlanSizes) {lay
   pub no_pairs : T.mode ≡ Uncoded → length (pairs_in T) ≡ 0
   unfolding coded_pairs
   no_pairs m = ap (λ (z : Mode). length (coded_pairs z T.bits T.tones)) m
-
-  -- the entries, in an array that has room for any tables'
-  pub entries_count : length entries ≡ most_tones → length es ≡ p.entry_count
-  entries_count n = length-take-le p.entry_count entries (omega (arith, n, is.entries_most, (known T ok).tones_most, (known T ok).table_most))

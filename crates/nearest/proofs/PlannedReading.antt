@@ -10,15 +10,15 @@ use Rattle.frame.specs.Written.{Framed}
 use Rattle.g9932.proofs.Packed.{Bytes}
 use Rattle.g9932.specs.Answers.{break_in, frame_in}
 use Rattle.g9932.specs.Filler.{register_after}
-use Rattle.g9932.specs.Nearest.{NearestFrame, nearest_of}
+use Rattle.g9932.specs.Nearest.{NearestFrame}
 use Rattle.g9932.specs.Sizes.{Tables, Point, points, bytes_for, pack}
 use Rattle.g9932.specs.Symbol.{classes_of}
 use Rattle.g9932.specs.declared.Mode.{Mode}
 use Rattle.g9932.specs.declared.Mode.TheVariants.{Uncoded, Coded}
-use Rattle.g9932.specs.declared.Nearest.TheVariants.{Done}
 use Rattle.mapper.specs.Writing.{SetsFiller}
 use Rattle.passes.proofs.Points.{framed_bytes}
 use Rattle.passes.specs.ReadSymbol.{FrameLabels, ReadsPath}
+use Rattle.decisions.specs.declared.CostLists.{CostLists}
 use Rattle.decisions.specs.Deciding.{Costed, PlaceLabels}
 use Rattle.decisions.specs.Entries.{meters_in}
 use Rattle.nearest.specs.Planned.{DecideSupposes, LowNeeds, Lows, Decides, NearestSupposes, ReadsPlanned}
@@ -32,44 +32,40 @@ decide_again n d = record { tones = d.tones; laid = d.laid; decidable = d.decida
 -- ---- the steps of deciding
 
 module _ {m : Mode} {from : ℕ} {es ps layouts : List ℕ} {xs ys : List ℤ} {work labels : List ℕ} (d : DecideSupposes m from es ps layouts xs ys work labels)
-    {j0 j1 j2 j3 : List ℕ} (c : Costed layouts (points xs ys) j0 j1 j2 j3 (length xs)) where
+    {ks : CostLists} (c : Costed layouts (points xs ys) ks (length xs)) where
   abbrev q : List Point
   q = points xs ys
 
   same : length layouts ≡ length xs
   same = d.tones.layouts_length
 
-  pub low_needs : LowNeeds m from ps layouts j0 j1 j2 j3 work labels
+  pub low_needs : LowNeeds m from ps layouts ks work labels
   low_needs = go m d
     where
       np : length ps ≡ length es
       np = d.decidable.places_length
 
-      go : (m : Mode) → DecideSupposes m from es ps layouts xs ys work labels → LowNeeds m from ps layouts j0 j1 j2 j3 work labels
+      go : (m : Mode) → DecideSupposes m from es ps layouts xs ys work labels → LowNeeds m from ps layouts ks work labels
       go Uncoded d =
           record {
             places =
                 record {
-                  length0 = c.length0;
-                  length1 = c.length1;
-                  length2 = c.length2;
-                  length3 = c.length3;
                   labels_length = d.labels_length ∙ sym same;
-                  small = λ i h. (c.costs i (omega (arith, h, same))).small;
+                  few = rw same d.tones.few;
                 };
             entries = record { below = λ k h. rw same (d.decidable.rising.below k h); many = omega (arith, d.many, np) };
           }
       go Coded d =
           let w = d.by_mode.1 ∙ ap (λ (z : ℕ). 16 * ((z + 1) / 2)) (sym np) in (
-            record { entries = entry_needs (omega arith) d.decidable d.laid same c; enough = omega (arith, d.by_mode.0, np); many = omega (arith, d.many, np); sixteens = w },
+            record { entries = entry_needs (omega arith) d.decidable d.laid same c d.tones.few; enough = omega (arith, d.by_mode.0, np); many = omega (arith, d.many, np); sixteens = w },
             record { rising = subst (Rising ps) (sym d.labels_length) d.decidable.rising; enough = omega (arith, d.by_mode.0, np); many = omega (arith, d.many, np); sixteens = w },
             (meters_in from q es ps, meter_costs (omega arith) d.decidable d.laid same c (omega arith)),
           )
 
-  pub decided : (lows after : List ℕ) (n : ℕ) → Lows m from ps layouts j0 j1 j2 j3 lows n → PlaceLabels layouts q lows after (length xs) → Decides m from es ps q after n
+  pub decided : (lows after : List ℕ) (n : ℕ) → Lows m from ps layouts ks lows n → PlaceLabels layouts q lows after (length xs) → Decides m from es ps q after n
   decided lows after n l p = go m d l
     where
-      go : (m : Mode) → DecideSupposes m from es ps layouts xs ys work labels → Lows m from ps layouts j0 j1 j2 j3 lows n → Decides m from es ps q after n
+      go : (m : Mode) → DecideSupposes m from es ps layouts xs ys work labels → Lows m from ps layouts ks lows n → Decides m from es ps q after n
       go Uncoded d l =
           record {
             within = tones_within (omega arith) d.decidable d.laid same c d.by_mode l p;
@@ -92,7 +88,7 @@ module _ {T : Tables} {m : Mode} {from size start : ℕ} {es ps ds layouts label
     frame_fits = omega (arith, s.frame_length, s.held_length, s.size_most, s.start_most)
 
     pub planned_read : {r after : ℕ} {out filled : List ℕ} → SetsFiller ds r labels after filled → Bytes stored → out ≡ take (length f) stored
-        → ReadsPlanned T (points xs ys) r start (Done size after n) out
+        → ReadsPlanned T (points xs ys) r start (record { size = size; register = after; total = n }) out
     planned_read {r} {after} {out} draws bytes o =
         let w = s.bits_nearest r ls n same d in
         let framed : Framed start w.bits stored = subst (λ z. Framed start (frame_in z) stored) w.reads (reads.framed (ap break_in w.reads)) in
@@ -100,6 +96,7 @@ module _ {T : Tables} {m : Mode} {from size start : ℕ} {es ps ds layouts label
         let packed : out ≡ pack start w.bits = o ∙ framed_bytes start w.bits stored (length f) l frame_fits framed bytes in
         let reg : after ≡ register_after r (classes_of T) = draws.register_is ∙ s.register_is r in
         record {
-          answer = (λ i. nearest_of (Done (s.size_is i) (reg i) n));
+          size_is = s.size_is;
+          register_is = reg;
           nearest = subst (λ z. NearestFrame T (points xs ys) r start z n) (sym packed) w.nearest;
         }

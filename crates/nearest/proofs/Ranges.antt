@@ -1,4 +1,5 @@
 -- 23 RANGE in a loop over the places.
+use Rattle.std.specs.Prelude.{None}
 use Prim.Native.Nat.{ℕ, ◌+◌, ◌<◌}
 use mathlib.Core.Bool.{Bool, false, ◌||◌}
 use mathlib.Core.List.{List}
@@ -13,7 +14,6 @@ use Rattle.g9932.proofs.Search.{first_more}
 use Rattle.g9932.specs.Bits.{first}
 use Rattle.g9932.specs.Nearest.{out_of_range, range_test}
 use Rattle.g9932.specs.Sizes.{Point, points}
-use Rattle.g9932.specs.declared.Found.TheVariants.{Nothing}
 use Rattle.g9932.proofs.PointLists.{point_at_lem}
 
 -- what the code tests at a place is the rule's test there
@@ -26,6 +26,6 @@ range_tested xs ys i h n ea eb fx fy =
     (λ z. ex z || ey z) ∙ ap (λ (p : Point). out_of_range p.px || out_of_range p.py) (sym (point_at_lem xs ys i h n))
 
 -- a search that goes on to its end, and remembers in `any` whether its test held somewhere
-pub any_more : (p : ℕ → Bool) (i : ℕ) (any : Bool) {here : Bool} → (any ≡ false → first p i ≡ Nothing) → here ≡ p i → any || here ≡ false
-    → first p (i + 1) ≡ Nothing
+pub any_more : (p : ℕ → Bool) (i : ℕ) (any : Bool) {here : Bool} → (any ≡ false → first p i ≡ None) → here ≡ p i → any || here ≡ false
+    → first p (i + 1) ≡ None
 any_more p i any {here} none is e = let both = or-false any here e in first_more p i (none both.0) (sym is ∙ both.1)

@@ -1,13 +1,12 @@
 -- Nearest reading from the plan of the tables on. A function is not lent the tables that its lists were planned from: ...Supposes is what
 -- it supposes of some, ...Needs that there are such, and ...Any... is its promise for whichever they are.
-use Rattle.std.specs.Prelude.{ℕ, suc, ◌+◌, ◌*◌, ◌/◌, ◌≤◌, ◌<◌, Bool, List, ◌≡◌, ℤ, length}
+use Rattle.std.specs.Prelude.{Result, Ok, ℕ, suc, ◌+◌, ◌*◌, ◌/◌, ◌≤◌, ◌<◌, Bool, List, ◌≡◌, ℤ, length}
 use Rattle.constellation.specs.Layouts.{layout_of}
 use Rattle.cosets.specs.Meters.{Meter}
 use Rattle.frame.specs.Labels.{bits_of_labels, Within, labels_at, Placed}
 use Rattle.g9932.specs.Filler.{after_draws, register_after}
-use Rattle.g9932.specs.Nearest.{NearestFrame, nearest_inputs, ReadsNearest, nearest_of, total_in}
+use Rattle.g9932.specs.Nearest.{NearestFrame, nearest_inputs, work_bytes, ReadsNearest}
 use Rattle.g9932.specs.Order.{pairs_of}
-use Rattle.g9932.specs.Refusals.{number_of, place_of, Verdict, refused, accepted, table_verdict}
 use Rattle.g9932.specs.Sizes.{Tables, entry, Point, points, bytes_for, pack, most_tones, most_bits, most_held}
 use Rattle.g9932.specs.Symbol.{classes_of, size_of}
 use Rattle.g9932.specs.Trellis.{frame, reading_of}
@@ -16,10 +15,11 @@ use Rattle.g9932.specs.declared.Mode.TheVariants.{Uncoded, Coded}
 use Rattle.g9932.specs.declared.Nearest.{Nearest}
 use Rattle.mapper.specs.Writing.{FillerNeeds}
 use Rattle.passes.specs.ReadSymbol.{HeldFits}
-use Rattle.plan.specs.Plan.{Arrays, PlanIs, least_own, planned_verdict}
-use Rattle.plan.specs.declared.Planned.{Planned}
-use Rattle.plan.specs.declared.Planned.TheVariants.{Lists, Refused}
-use Rattle.plan.specs.declared.PlanSizes.{PlanSizes}
+use Rattle.plan.specs.Plan.{least_own}
+use Rattle.plan.specs.declared.Plan.{Plan}
+use Rattle.symbol.specs.Inputs.{PlansFor}
+use Rattle.g9932.specs.declared.Refused.{Refused}
+use Rattle.decisions.specs.declared.CostLists.{CostLists}
 use Rattle.decisions.specs.Entries.{meters_in, Decidable}
 use Rattle.decisions.specs.Deciding.{PlaceNeeds, pair_meters, MeterCosts, PathNeeds, LeastPath, TraceNeeds, LowTraced, Traced, ToneNeeds, LeastLows, BestAll}
 
@@ -29,20 +29,6 @@ use Rattle.decisions.specs.Deciding.{PlaceNeeds, pair_meters, MeterCosts, PathNe
 abbrev pub work_for : Mode → ℕ → ℕ
 work_for Uncoded n = 0
 work_for Coded n = 16 * ((n + 1) / 2)
-
--- the refusal of the tables, or else the verdict on the inputs, which is by the plan's sizes
-abbrev pub after_lists : (PlanSizes → Verdict) → Planned → Verdict
-after_lists v (Lists p) = v p
-after_lists v (Refused x) = refused (number_of x) (place_of x)
-
--- a plan that passes is the given one
-pub record ChecksLists (v : PlanSizes → Verdict) (planned r : Planned) : Type 0 where
-  pub answer : planned_verdict r ≡ after_lists v planned
-  pub passed : (p : PlanSizes) → r ≡ Lists p → planned ≡ Lists p
-
-abbrev pub EntriesFit : Planned → Type 0
-EntriesFit (Lists p) = p.entry_count ≤ most_tones
-EntriesFit (Refused x) = Unit {0}
 
 -- ---- the labels
 
@@ -69,20 +55,20 @@ abbrev pub DecideNeeds : Mode → ℕ → List ℕ → List ℕ → List ℤ →
 DecideNeeds m from ps layouts xs ys work labels = (es : List ℕ) × DecideSupposes m from es ps layouts xs ys work labels
 
 -- the two lowest bits of the labels at the entries' places, by the costs there
-abbrev pub LowNeeds : Mode → ℕ → List ℕ → List ℕ → List ℕ → List ℕ → List ℕ → List ℕ → List ℕ → List ℕ → Type 0
-LowNeeds Uncoded from ps layouts k0 k1 k2 k3 work labels = ToneNeeds layouts ps k0 k1 k2 k3 labels
-LowNeeds Coded from ps layouts k0 k1 k2 k3 work labels =
-    PathNeeds from ps k0 k1 k2 k3 work × TraceNeeds ps work labels × ((ms : List Meter) × MeterCosts ms from ps k0 k1 k2 k3)
+abbrev pub LowNeeds : Mode → ℕ → List ℕ → List ℕ → CostLists → List ℕ → List ℕ → Type 0
+LowNeeds Uncoded from ps layouts ks work labels = ToneNeeds layouts ps labels
+LowNeeds Coded from ps layouts ks work labels =
+    PathNeeds from ps work × TraceNeeds ps work labels × ((ms : List Meter) × MeterCosts ms from ps ks)
 
 -- coded: along a path of least cost, which some survivors gave
-pub record PathLows (from : ℕ) (ps k0 k1 k2 k3 labels : List ℕ) (n : ℕ) : Type 0 where
+pub record PathLows (from : ℕ) (ps : List ℕ) (ks : CostLists) (labels : List ℕ) (n : ℕ) : Type 0 where
   pub survivors : List ℕ
-  pub path : (ms : List Meter) → MeterCosts ms from ps k0 k1 k2 k3 → LeastPath (pair_meters ms) survivors n
+  pub path : (ms : List Meter) → MeterCosts ms from ps ks → LeastPath (pair_meters ms) survivors n
   pub traced : LowTraced ps survivors labels (length ps)
 
-abbrev pub Lows : Mode → ℕ → List ℕ → List ℕ → List ℕ → List ℕ → List ℕ → List ℕ → List ℕ → ℕ → Type 0
-Lows Uncoded from ps layouts k0 k1 k2 k3 labels n = LeastLows layouts ps k0 k1 k2 k3 labels n
-Lows Coded from ps layouts k0 k1 k2 k3 labels n = PathLows from ps k0 k1 k2 k3 labels n
+abbrev pub Lows : Mode → ℕ → List ℕ → List ℕ → CostLists → List ℕ → ℕ → Type 0
+Lows Uncoded from ps layouts ks labels n = LeastLows layouts ps ks labels n
+Lows Coded from ps layouts ks labels n = PathLows from ps ks labels n
 
 -- uncoded: the labels at the entries' places are nearest, within their bits, and n is what they cost
 pub record DecidesTones (from : ℕ) (es ps : List ℕ) (q : List Point) (labels : List ℕ) (n : ℕ) : Type 0 where
@@ -128,42 +114,34 @@ pub record NearestSupposes (T : Tables) (m : Mode) (from size : ℕ) (es ps ds l
   pub bits_nearest : (r : ℕ) (ls : List ℕ) (n : ℕ) → length ls ≡ length labels → Decides m from es ps (points xs ys) ls n
       → NearestBits T m es (points xs ys) r start (bits_of_labels es (labels_at ps ls)) n
 
-pub record NearestNeeds (m : Mode) (from size : ℕ) (es ps ds layouts : List ℕ) (xs ys : List ℤ) (labels held f : List ℕ) (start : ℕ) (work : List ℕ) : Type 0 where
-  pub tables : Tables
-  pub supposes : NearestSupposes tables m from size es ps ds layouts xs ys labels held f start work
+-- the same, by the plan as it is lent
+abbrev pub NearestBy : Tables → Plan → List ℤ → List ℤ → List ℕ → List ℕ → List ℕ → ℕ → List ℕ → Type 0
+NearestBy T p xs ys labels held f start work =
+    NearestSupposes T p.mode p.shared_from.0 p.size p.entries.bits.now p.entries.places.now p.drawing.now p.layouts.now xs ys labels held f start work
+
+abbrev pub NearestNeeds : Plan → List ℤ → List ℤ → List ℕ → List ℕ → List ℕ → ℕ → List ℕ → Type 0
+NearestNeeds p xs ys labels held f start work = (T : Tables) × NearestBy T p xs ys labels held f start work
 
 -- L, the register after the draws, and a nearest frame with its total
 pub record ReadsPlanned (T : Tables) (q : List Point) (r start : ℕ) (a : Nearest) (after : List ℕ) : Type 0 where
-  pub answer : nearest_of a ≡ record { verdict = accepted (size_of T); register = register_after r (classes_of T) }
-  pub nearest : NearestFrame T q r start after (total_in a)
+  pub size_is : a.size ≡ size_of T
+  pub register_is : a.register ≡ register_after r (classes_of T)
+  pub nearest : NearestFrame T q r start after a.total
 
 -- whatever tables they are
-abbrev pub ReadsAnyPlanned : Mode → ℕ → ℕ → List ℕ → List ℕ → List ℕ → List ℕ → List ℤ → List ℤ → List ℕ → List ℕ → List ℕ → ℕ → List ℕ → ℕ → Nearest → List ℕ → Type 0
-ReadsAnyPlanned m from size es ps ds layouts xs ys labels held f start work r a after =
-    (T : Tables) → NearestSupposes T m from size es ps ds layouts xs ys labels held f start work → ReadsPlanned T (points xs ys) r start a after
+abbrev pub ReadsAnyPlanned : Plan → List ℤ → List ℤ → List ℕ → List ℕ → List ℕ → ℕ → List ℕ → ℕ → Nearest → List ℕ → Type 0
+ReadsAnyPlanned p xs ys labels held f start work r a after =
+    (T : Tables) → NearestBy T p xs ys labels held f start work → ReadsPlanned T (points xs ys) r start a after
 
--- ---- a whole symbol, from the answers of planning and of checking the inputs
+-- ---- a whole symbol, from the plan of tables and inputs of which nothing is refused but a coordinate
 
--- what the inputs are tested for, by the plan
-abbrev pub inputs_by : Tables → ℕ → ℕ → ℕ → ℕ → ℕ → ℕ → PlanSizes → Verdict
-inputs_by T start x y f w r p = nearest_inputs start p.size (length T.tones) (work_for T.mode p.entry_count) x y f w r
+pub record PlannedBy (T : Tables) (p : Plan) (xs ys : List ℤ) (r : ℕ) (f : List ℕ) (start : ℕ) (work : List ℕ) : Type 0 where
+  pub plans : PlansFor T (λ size. nearest_inputs start size (length T.tones) (work_bytes T) (length xs) (length ys) (length f) (length work) r) (Ok p)
 
--- nothing of 1 to 8 and 10 to 12 is refused, and the arrays hold the plan
-pub record Passed (T : Tables) (v : PlanSizes → Verdict) (p : PlanSizes) (layouts entries places drawing : List ℕ) : Type 0 where
-  pub tables_pass : accepted p.size ≡ table_verdict T
-  pub inputs_pass : accepted p.size ≡ v p
-  pub plan : PlanIs T p layouts entries places drawing
-
-pub record ListsSuppose (T : Tables) (m : Mode) (p : PlanSizes) (layouts entries places drawing : List ℕ) (xs ys : List ℤ) (r : ℕ) (f : List ℕ) (start : ℕ) (work : List ℕ) : Type 0 where
-  pub mode_is : T.mode ≡ m
-  pub arrays : Arrays layouts entries places drawing
-  pub passed : Passed T (inputs_by T start (length xs) (length ys) (length f) (length work) r) p layouts entries places drawing
-
-pub record ListsNeeds (m : Mode) (p : PlanSizes) (layouts entries places drawing : List ℕ) (xs ys : List ℤ) (r : ℕ) (f : List ℕ) (start : ℕ) (work : List ℕ) : Type 0 where
-  pub tables : Tables
-  pub supposes : ListsSuppose tables m p layouts entries places drawing xs ys r f start work
+abbrev pub PlannedNeeds : Plan → List ℤ → List ℤ → ℕ → List ℕ → ℕ → List ℕ → Type 0
+PlannedNeeds p xs ys r f start work = (T : Tables) × PlannedBy T p xs ys r f start work
 
 -- whatever tables they are
-abbrev pub ReadsAnyLists : Mode → PlanSizes → List ℕ → List ℕ → List ℕ → List ℕ → List ℤ → List ℤ → ℕ → List ℕ → ℕ → List ℕ → Nearest → List ℕ → List ℕ → Type 0
-ReadsAnyLists m p layouts entries places drawing xs ys r f start work a after work_after =
-    (T : Tables) → ListsSuppose T m p layouts entries places drawing xs ys r f start work → ReadsNearest T xs ys r start f work a after work_after
+abbrev pub ReadsAnyPlan : Plan → List ℤ → List ℤ → ℕ → List ℕ → ℕ → List ℕ → Result Nearest Refused → List ℕ → List ℕ → Type 0
+ReadsAnyPlan p xs ys r f start work a after work_after =
+    (T : Tables) → PlannedBy T p xs ys r f start work → ReadsNearest T xs ys r start f work a after work_after

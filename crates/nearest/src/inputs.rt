@@ -1,11 +1,12 @@
 // The inputs of nearest reading besides the tables.
 ghost use Rattle.std.specs.Prelude.{◌≡◌, ◌≤◌, length};
+ghost use Rattle.g9932.specs.Answers.{told};
 ghost use Rattle.g9932.specs.Nearest.{nearest_inputs};
 ghost use Rattle.g9932.specs.Sizes.{most_tones};
-ghost use Rattle.nearest.specs.Planned.{work_for, EntriesFit, ChecksLists};
+ghost use Rattle.nearest.specs.Planned.{work_for};
 
-use g9932::{Mode, Refusal};
-use plan::Planned;
+use g9932::{Mode, Points, Refusal};
+use plan::Plan;
 
 // The bytes of the working buffer: 16 a coded pair. Called by proved code only.
 fn work_bytes(mode: Mode, entry_count: usize) -> usize
@@ -18,39 +19,22 @@ fn work_bytes(mode: Mode, entry_count: usize) -> usize
     }
 }
 
-// Refusals 10 to 12 of nearest reading, after those of the tables. Called by proved code only.
+// Refusals 10 to 12 of nearest reading, by the plan of the tables. Called by proved code only.
 pub fn check_inputs(
-    planned: Planned,
-    mode: Mode,
+    plan: Plan,
     nsc: usize,
-    xs: &[i16],
-    ys: &[i16],
-    frame: &[u8],
-    work: &[u8],
+    points: Points,
+    frame_len: usize,
+    work_len: usize,
     start: u8,
     register: u32,
-) -> Planned
-    requires { EntriesFit planned }
-    ensures { ChecksLists (λ p. nearest_inputs start p.size nsc (work_for mode p.entry_count) (length xs.now) (length ys.now) (length frame.now) (length work.now) register) planned result }
+) -> Result<(), Refusal>
+    requires { length plan.entries.bits.now ≤ most_tones }
+    ensures { told plan.entry.size result ≡ nearest_inputs start plan.entry.size nsc (work_for plan.entry.mode (length plan.entry.entries.bits.now)) (length points.entry.xs.now) (length points.entry.ys.now) frame_len work_len register }
 {
-    match planned {
-        Planned::Refused(refusal) => {
-            return Planned::Refused(refusal);
-        }
-        Planned::Lists(p) => {
-            if work.len() != work_bytes(mode, p.entry_count) {
-                return Planned::Refused(Refusal::Room);
-            }
-            let lists = Planned::Lists(p);
-            symbol::reading::check_inputs(
-                lists,
-                nsc,
-                xs.len(),
-                ys.len(),
-                frame.len(),
-                start,
-                register,
-            )
-        }
+    let bytes = work_bytes(plan.mode, plan.entries.bits.len());
+    if work_len != bytes {
+        return Err(Refusal::Room);
     }
+    symbol::reading::check_inputs(plan.size, nsc, points, frame_len, start, register)
 }

@@ -61,12 +61,11 @@ module _ (b t : List ℕ) (i : ℕ) {k v : ℕ} (x : k ≡ entry t i) (y : v ≡
 
 -- the tones but the 1-bit ones, and the counts of at least 2
 pub record OthersLeft (b t : List ℕ) (from : ℕ) (ts₀ bs₀ ts bs : List ℕ) (other at i : ℕ) : Type 0 where
-  pub within : i ≤ length t
   pub tones : Left ts other (others b (drop i t)) (length (others b t)) (sets ts₀ 0 (others b t))
   pub bits : Left bs at (bigs b (drop i t)) (from + length (bigs b t)) (sets bs₀ from (bigs b t))
 
 pub others_start : {b t ts bs : List ℕ} {from : ℕ} → OthersLeft b t from ts bs ts bs 0 from 0
-others_start = record { within = omega arith; tones = record { fits = omega arith; gives = refl }; bits = record { fits = refl; gives = refl } }
+others_start = record { tones = record { fits = omega arith; gives = refl }; bits = record { fits = refl; gives = refl } }
 
 module _ {b t ts₀ bs₀ ts bs : List ℕ} {from other at i : ℕ} (a : OthersLeft b t from ts₀ bs₀ ts bs other at i) where
   pub others_end : length t ≤ i → Placing b t from ts₀ bs₀ ts bs
@@ -83,25 +82,23 @@ module _ {b t ts₀ bs₀ ts bs : List ℕ} {from other at i : ℕ} (a : OthersL
     pub others_past : v ≡ 1 → OthersLeft b t from ts₀ bs₀ ts bs other at (i + 1)
     others_past e =
         record {
-          within = omega arith;
           tones = left_same (other_past b t i x y h e) a.tones;
           bits = left_same (big_past b t i x y h (omega arith)) a.bits;
         }
 
     module _ {after : List ℕ} (e : v ≡ 1 → ⊥) (w : after ≡ set ts other k) where
       pub others_big : 2 ≤ v → OthersLeft b t from ts₀ bs₀ after (set bs at v) (other + 1) (at + 1) (i + 1)
-      others_big f = record { within = omega arith; tones = left_step w (other_here b t i x y h e) a.tones; bits = left_step refl (big_here b t i x y h f) a.bits }
+      others_big f = record { tones = left_step w (other_here b t i x y h e) a.tones; bits = left_step refl (big_here b t i x y h f) a.bits }
 
       pub others_zero : v < 2 → OthersLeft b t from ts₀ bs₀ after bs (other + 1) at (i + 1)
-      others_zero f = record { within = omega arith; tones = left_step w (other_here b t i x y h e) a.tones; bits = left_same (big_past b t i x y h f) a.bits }
+      others_zero f = record { tones = left_step w (other_here b t i x y h e) a.tones; bits = left_same (big_past b t i x y h f) a.bits }
 
 -- the 1-bit tones
 pub record OnesLeft (b t : List ℕ) (behind : ℕ) (ts₀ ts : List ℕ) (one i : ℕ) : Type 0 where
-  pub within : i ≤ length t
   pub tones : Left ts one (singles b (drop i t)) (behind + length (singles b t)) (sets ts₀ behind (singles b t))
 
 pub ones_start : {b t ts : List ℕ} {behind : ℕ} → OnesLeft b t behind ts ts behind 0
-ones_start = record { within = omega arith; tones = record { fits = refl; gives = refl } }
+ones_start = record { tones = record { fits = refl; gives = refl } }
 
 module _ {b t ts₀ ts : List ℕ} {behind one i : ℕ} (a : OnesLeft b t behind ts₀ ts one i) where
   pub ones_end : length t ≤ i → ts ≡ sets ts₀ behind (singles b t)
@@ -112,7 +109,7 @@ module _ {b t ts₀ ts : List ℕ} {behind one i : ℕ} (a : OnesLeft b t behind
     one_fits e = omega (arith, a.tones.fits, ap length (single_here b t i x y h e))
 
     pub one_more : {after : List ℕ} → v ≡ 1 → after ≡ set ts one k → OnesLeft b t behind ts₀ after (one + 1) (i + 1)
-    one_more e w = record { within = omega arith; tones = left_step w (single_here b t i x y h e) a.tones }
+    one_more e w = record { tones = left_step w (single_here b t i x y h e) a.tones }
 
     pub one_past : (v ≡ 1 → ⊥) → OnesLeft b t behind ts₀ ts one (i + 1)
-    one_past e = record { within = omega arith; tones = left_same (single_past b t i x y h e) a.tones }
+    one_past e = record { tones = left_same (single_past b t i x y h e) a.tones }

@@ -1,18 +1,17 @@
 -- Laws of `sets`, a run of stores: what is left to write, from here, gives what the whole gives from the start.
-use Prim.Native.Nat.{ℕ, zero, suc, ◌+◌, ◌-◌, ◌<◌, ◌≤◌}
+use Prim.Native.Nat.{ℕ, suc, ◌+◌, ◌-◌, ◌≤◌}
+use Rattle.std.proofs.lemmas.List.{append_assoc, drop-drop}
 use mathlib.Core.List.{List, [], ◌∷◌, ◌++◌}
+use borrow.Rule.Slice.PartMut.{put_mid}
 use mathlib.Core.Path.{◌≡◌, sym, ap, ◌∙◌}
 use native.Mathlib.Numerals.{add-one}
 use native.Mathlib.Omega.{arith}
-use lib.ListN.{length, take, drop, set, replicate, length-append}
+use lib.ListN.{length, take, drop, set, replicate, length-append, length-replicate}
 use lib.Seq.{sets, sets-eq, take_at}
 
--- one store more, and the end
+-- one store more
 pub sets_step : (out : List ℕ) (n x : ℕ) {xs ys zs : List ℕ} → xs ≡ x ∷ ys → sets out n xs ≡ zs → sets (set out n x) (n + 1) ys ≡ zs
 sets_step out n x e q = rw add-one (sym (ap (sets out n) e) ∙ q)
-
-pub sets_done : (out : List ℕ) (n : ℕ) {xs zs : List ℕ} → xs ≡ [] → sets out n xs ≡ zs → out ≡ zs
-sets_done out n e q = sym (ap (sets out n) e) ∙ q
 
 -- a run still to be written: xs from place n on, as far as `end`, gives `goal`
 pub record Left (out : List ℕ) (n : ℕ) (xs : List ℕ) (end : ℕ) (goal : List ℕ) : Type 0 where
@@ -45,6 +44,9 @@ module _ (out xs ys : List ℕ) {m n : ℕ} (e : m ≡ length xs) where
       rw (sets_sets (sets out 0 xs) ys zs m k f, sets_sets out xs (ys ++ zs) 0 m (omega arith))
       (take_sets out (xs ++ (ys ++ zs)) n (simp length-append (omega arith)) h)
 
-pub replicate_some : (n v : ℕ) → 0 < n → replicate n v ≡ v ∷ replicate (n - 1) v
-replicate_some zero v h = absurd (omega arith)
-replicate_some (suc n) v h = let e : suc n - 1 ≡ n = omega arith in rw e
+-- a part that is filled is a run of stores
+pub fill_sets : (out part : List ℕ) (n k v : ℕ) → part ≡ replicate k v → n + k ≤ length out → put_mid n (n + k - n) out part ≡ sets out n (replicate k v)
+fill_sets out part n k v e h =
+    let m : n + k - n ≡ k = omega arith in
+    let l = length-replicate {A = ℕ} k v in
+    rw (e, m) (sym (rw (sets-eq (replicate k v) out n (omega arith), l, drop-drop k n out, append_assoc)))

@@ -2,54 +2,37 @@
 #![tactic(auto)]
 
 ghost use Rattle.std.specs.Prelude.{◌≡◌};
-ghost use Rattle.g9932.specs.Sizes.{tables};
+ghost use Rattle.g9932.specs.Sizes.{tables_of};
 ghost use Rattle.g9932.specs.Refusals.{table_verdict};
 ghost use Rattle.g9932.specs.Answers.{verdict_of, Reorders};
 
-use g9932::{Checked, Mode, Refusal};
+use g9932::{Mode, Refusal, Tables};
 use order::write_order;
-use tables::sizes::{Sized, size_tables};
+use tables::sizes::size_tables;
 
 mod order; // t' and b'
 
 // Checks the tables and tells L: refusals 1 to 8.
-pub fn check_tables(mode: Mode, bits: &[u8], gains: &[u16], tones: &[u16]) -> Checked
-    ensures { verdict_of result ≡ table_verdict (tables mode bits.now gains.now tones.now) }
+pub fn check_tables(mode: Mode, t: Tables) -> Result<usize, Refusal>
+    ensures { verdict_of result ≡ table_verdict (tables_of mode t.entry) }
 {
-    let s = size_tables(mode, bits, gains, tones);
-    match s {
-        Sized::Refused(x) => Checked::Refused(x),
-        Sized::Frame { size, .. } => Checked::Accepted(size),
-    }
+    let frame = size_tables(mode, t)?;
+    Ok(frame.size)
 }
 
 // Re-orders: refusals 1 to 8 and 10. Where nothing is refused, writes t' and b'; else writes nothing.
 pub fn reorder(
     mode: Mode,
-    bits: &[u8],
-    gains: &[u16],
-    tones: &[u16],
+    t: Tables,
     tones_out: &mut [u16],
     bits_out: &mut [u8],
-) -> Checked
-    ensures { Reorders (tables mode bits.now gains.now tones.now) tones_out.old bits_out.old result tones_out.new bits_out.new }
+) -> Result<usize, Refusal>
+    ensures { Reorders (tables_of mode t.entry) tones_out.old bits_out.old result tones_out.new bits_out.new }
 {
-    let s = size_tables(mode, bits, gains, tones);
-    match s {
-        Sized::Refused(x) => Checked::Refused(x),
-        Sized::Frame {
-            size,
-            entries,
-            sharers,
-        } => {
-            if tones_out.len() != tones.len() {
-                return Checked::Refused(Refusal::Room);
-            }
-            if bits_out.len() != tones.len() {
-                return Checked::Refused(Refusal::Room);
-            }
-            write_order(mode, entries, sharers, bits, tones, tones_out, bits_out);
-            Checked::Accepted(size)
-        }
+    let frame = size_tables(mode, t)?;
+    if tones_out.len() != t.tones.len() || bits_out.len() != t.tones.len() {
+        return Err(Refusal::Room);
     }
+    write_order(mode, frame, t.bits, t.tones, tones_out, bits_out);
+    Ok(frame.size)
 }

@@ -1,4 +1,5 @@
 -- The filler bits at the places that draw, and the register after them: writing and reading.
+use Rattle.std.specs.Prelude.{Option, None, Some}
 use Prim.Native.Nat.{ℕ, zero, suc, ◌+◌, ◌*◌, ◌≤◌, ◌<◌}
 use mathlib.Core.Bool.{Bool, true, false, cond, true≢false}
 use mathlib.Core.List.{List, [], ◌∷◌, ◌++◌, append_assoc}
@@ -13,8 +14,6 @@ use Rattle.g9932.specs.Sizes.{entry, Point, origin}
 use Rattle.g9932.specs.Symbol.{is_filler, monitor_test}
 use Rattle.g9932.specs.declared.Class.{Class}
 use Rattle.g9932.specs.declared.Class.TheVariants.{Data, Monitored, Silent}
-use Rattle.g9932.specs.declared.Found.{Found}
-use Rattle.g9932.specs.declared.Found.TheVariants.{At, Nothing}
 use Rattle.mapper.specs.Reading.{passes_filler, wrong_filler}
 use Rattle.mapper.specs.Writing.{with_filler}
 use Rattle.plan.specs.Plan.{is_drawing, places_where}
@@ -88,9 +87,9 @@ unfolding register_after
 register_more r [] c = refl
 register_more r (b ∷ cs) c = register_more (after_draws (draws b) r) cs c
 
-or_not : (f : Found) (n : ℕ) → or_at f false n ≡ f
-or_not (At k) n = refl
-or_not Nothing n = refl
+or_not : (f : Option ℕ) (n : ℕ) → or_at f false n ≡ f
+or_not (Some k) n = refl
+or_not None n = refl
 
 -- a tone that draws none passes 14
 none_drawn : (c : Class) (s : ℕ) (p : Point) → is_drawing c ≡ false → is_filler c s p ≡ true
@@ -131,6 +130,6 @@ module _ (r : ℕ) (cs : List Class) (q : List Point) (layouts ls : List ℕ)
           let x = tells (length pre) inside (rw here is) (register_after r pre) in
           rw (first_next (length pre), before, ← x) at rest
 
-  pub wrong_first : wrong_filler r (places_where is_drawing 0 cs) layouts ls Nothing ≡ first test (length cs)
+  pub wrong_first : wrong_filler r (places_where is_drawing 0 cs) layouts ls None ≡ first test (length cs)
   unfolding register_after first
   wrong_first = from_place [] cs refl

@@ -1,4 +1,5 @@
 -- Reading points to labels by place, and these to a frame: what the steps ask, and what they find.
+use Rattle.std.specs.Prelude.{Option, None, Some, Result, Ok, Err, ⊤}
 use Prim.Native.Nat.{ℕ, ◌+◌, ◌-◌, ◌*◌, ◌^◌, ◌≤◌, ◌<◌}
 use mathlib.Core.Bool.{Bool, true}
 use mathlib.Core.List.{List, ◌++◌, map}
@@ -24,8 +25,6 @@ use Rattle.g9932.specs.Symbol.{load, is_filler, offgrid_test, monitor_test}
 use Rattle.g9932.specs.Trellis.{reading_of}
 use Rattle.g9932.specs.declared.Class.{Class}
 use Rattle.g9932.specs.declared.Class.TheVariants.{Silent}
-use Rattle.g9932.specs.declared.Found.{Found}
-use Rattle.g9932.specs.declared.Found.TheVariants.{At, Nothing}
 use Rattle.g9932.specs.declared.Mode.{Mode}
 use Rattle.g9932.specs.declared.Mode.TheVariants.{Uncoded, Coded}
 use Rattle.g9932.specs.declared.Place.{Place}
@@ -34,9 +33,7 @@ use Rattle.mapper.specs.Reading.{DemapAllNeeds, LabelIs, DemapsPoints, CheckNeed
 use Rattle.mapper.specs.declared.read.FillerRead.{FillerRead}
 use Rattle.plan.specs.Plan.{is_drawing}
 use Rattle.passes.specs.ReadSymbol.{ReadPlacesSupposes, ReadsPlaces, HeldFits, FrameLabels, ReadFrameSupposes, ReadsFrame, ReadsPath}
-use Rattle.passes.specs.declared.read.PlacesRead.TheVariants.{Refused, Done}
 use Rattle.decoder.specs.Reading.{ReadLabelNeeds as TrellisNeeds, ReadsLabels, CollectsPairs}
-use Rattle.decoder.specs.declared.PairsRead.{PairsRead}
 use Rattle.passes.proofs.FillerPlaces.{register_places, wrong_first}
 use Rattle.passes.proofs.PlanLabels.{joined, joined_count, by_entry, joined_within, ones_small, plan_placed, where_inside, all_count}
 use Rattle.passes.proofs.SymbolPoints.{class_at_lem, load_at, tone_layout, offgrid_first, label_is, carried, label_small, tells_filler, gathered}
@@ -77,15 +74,15 @@ module _ {cs : List Class} {from : ℕ} {es ps ds layouts labels : List ℕ} {xs
         layouts_length = layouts_count ∙ sym n;
       }
 
-  module _ {ls : List ℕ} {f : Found} (d : DemapsPoints layouts xs ys ls f) where
+  module _ {ls : List ℕ} {f : Option ℕ} (d : DemapsPoints layouts xs ys ls f) where
     offgrid_is : f ≡ first (offgrid_test cs (points xs ys)) (length cs)
     offgrid_is = offgrid_first cs w.plan.carries xs ys w.xs_length same f (rw w.plan.layouts_are at d.off)
 
     -- 13
-    pub off_found : {k : Place} → f ≡ At k.0 → (r : ℕ) → ReadsPlaces cs r (points xs ys) (Refused (Offgrid k)) ls
+    pub off_found : {k : Place} → f ≡ Some k.0 → (r : ℕ) → ReadsPlaces cs r (points xs ys) (Err (Offgrid k)) ls
     off_found e r = record { answer = found_here 13 _ (sym offgrid_is ∙ e) }
 
-    module _ (on : f ≡ Nothing) {r : ℕ} {c : FillerRead} (k : ChecksFiller ds layouts r ls c) where
+    module _ (on : f ≡ None) {r : ℕ} {c : FillerRead} (k : ChecksFiller ds layouts r ls c) where
       label : (i : ℕ) → i < length cs → LabelIs (class_layout (get_or cs i Silent)) (get_or (points xs ys) i origin) (entry ls i)
       label = label_is cs w.plan.carries xs ys w.xs_length same ls (rw w.plan.layouts_are at (d.labelled on))
 
@@ -94,13 +91,13 @@ module _ {cs : List Class} {from : ℕ} {es ps ds layouts labels : List ℕ} {xs
       tells i h e s = rw (w.plan.layouts_are, class_at_lem cs i h) (tells_filler (get_or cs i Silent) (get_or (points xs ys) i origin) (entry ls i) e (label i h) s)
 
       monitor_is_lem : c.monitor ≡ first (monitor_test r cs (points xs ys)) (length cs)
-      monitor_is_lem = k.monitor_is ∙ ap (λ (l : List ℕ). wrong_filler r l layouts ls Nothing) w.plan.drawing_are ∙ wrong_first r cs (points xs ys) layouts ls tells
+      monitor_is_lem = k.monitor_is ∙ ap (λ (l : List ℕ). wrong_filler r l layouts ls None) w.plan.drawing_are ∙ wrong_first r cs (points xs ys) layouts ls tells
 
       -- 14
-      pub filler_found : {j : Place} → c.monitor ≡ At j.0 → ReadsPlaces cs r (points xs ys) (Refused (Monitor j)) ls
+      pub filler_found : {j : Place} → c.monitor ≡ Some j.0 → ReadsPlaces cs r (points xs ys) (Err (Monitor j)) ls
       filler_found e = record { answer = found_past 13 (sym offgrid_is ∙ on) (found_here 14 _ (sym monitor_is_lem ∙ e)) }
 
-      pub none_found : c.monitor ≡ Nothing → ReadsPlaces cs r (points xs ys) (Done c.register) ls
+      pub none_found : c.monitor ≡ None → ReadsPlaces cs r (points xs ys) (Ok c.register) ls
       none_found e =
           let n : length ls ≡ length cs = d.labels_length ∙ w.xs_length in
           record {
@@ -159,7 +156,7 @@ module _ {m : Mode} {start : ℕ} {es ps ls held : List ℕ} (w : FrameLabels m 
         let r : HeldFits Uncoded start es (length held) = rw e at w.held_fits in
         omega (arith, c.counted, r.1)
 
-    pub collected : {after : List ℕ} → length after ≡ length mid → unpack (take (v.next + 1) after) ≡ written v mid ++ bits (8 - v.fill) 0 → ReadsFrame m start es d Nothing after
+    pub collected : {after : List ℕ} → length after ≡ length mid → unpack (take (v.next + 1) after) ≡ written v mid ++ bits (8 - v.fill) 0 → ReadsFrame m start es d (Ok tt) after
     unfolding reading_of
     collected {after} k f =
         let h = collect_fits in
@@ -170,25 +167,25 @@ module _ {m : Mode} {start : ℕ} {es ps ls held : List ℕ} (w : FrameLabels m 
         })
 
   -- coded, the code is read
-  module _ (e : m ≡ Coded) {p : PairsRead} {mid : List ℕ} (c : ReadsLabels (empty_writer start) es (labels_at ps ls) held p mid) where
-    pub broken_found : {k : ℕ} (after : List ℕ) → p.broken ≡ At k → ReadsFrame m start es d (At k) after
-    broken_found after b = rw e (record { broken_is = sym b ∙ c.broken; framed = λ z. absurd (found_not z) })
+  module _ (e : m ≡ Coded) where
+    pub broken_found : {k : ℕ} (mid after : List ℕ) → ReadsLabels (empty_writer start) es (labels_at ps ls) held (Err k) mid → ReadsFrame m start es d (Err k) after
+    broken_found mid after b = rw e (record { broken_is = b; framed = λ z. absurd (found_not z) })
 
-    module _ (b : p.broken ≡ Nothing) (same : length mid ≡ length held) where
+    module _ {p : BitWriter} {mid : List ℕ} (c : ReadsLabels (empty_writer start) es (labels_at ps ls) held (Ok p) mid) (same : length mid ≡ length held) where
       -- the last byte is there
-      pub read_fits : p.writer.next < length mid
+      pub read_fits : p.next < length mid
       read_fits =
           let r : HeldFits Coded start es (length held) = rw e at w.held_fits in
-          omega (arith, c.counted b, r.3)
+          omega (arith, c.counted, r.3)
 
-      pub none_broken : {after : List ℕ} → length after ≡ length mid → unpack (take (p.writer.next + 1) after) ≡ written p.writer mid ++ bits (8 - p.writer.fill) 0
-          → ReadsFrame m start es d Nothing after
+      pub none_broken : {after : List ℕ} → length after ≡ length mid → unpack (take (p.next + 1) after) ≡ written p mid ++ bits (8 - p.fill) 0
+          → ReadsFrame m start es d (Ok tt) after
       none_broken {after} k f =
           let h = read_fits in
           rw e
           (record {
-            broken_is = sym b ∙ c.broken;
-            framed = λ _. finished p.writer mid after (omega arith) (omega arith) c.waits f start (frame_in (reading_of Coded (pairs_of es) d)) (c.whole b ∙ rw (written_empty start held));
+            broken_is = sym c.unbroken;
+            framed = λ _. finished p mid after (omega arith) (omega arith) c.waits f start (frame_in (reading_of Coded (pairs_of es) d)) (c.whole ∙ rw (written_empty start held));
           })
 
   -- coded, no pair is tested
@@ -236,5 +233,5 @@ module _ {m : Mode} {start : ℕ} {cs : List Class} {d : List Bool} {from : ℕ}
         held_fits = w.held_fits;
       }
 
-  pub joined_reads : {b : Found} {after : List ℕ} → ReadsFrame m start es (bits_of_labels es (labels_at ps ls)) b after → ReadsFrame m start es d b after
+  pub joined_reads : {b : Result ⊤ ℕ} {after : List ℕ} → ReadsFrame m start es (bits_of_labels es (labels_at ps ls)) b after → ReadsFrame m start es d b after
   joined_reads {b} {after} r = subst (λ (e : List Bool). ReadsFrame m start es e b after) (by_entry w.plan labels n small ∙ w.labelled.bits_are) r

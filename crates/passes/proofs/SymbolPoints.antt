@@ -1,6 +1,7 @@
 -- The points of a symbol from the labels by place, and the labels from the points.
+use Rattle.std.specs.Prelude.{Option, None, Some, is_some, option_map}
 use Prim.Native.Nat.{ℕ, zero, suc, ◌^◌, ◌≤◌, ◌<◌}
-use mathlib.Core.Bool.{Bool, true, false, not, true≢false}
+use mathlib.Core.Bool.{Bool, true, not, true≢false}
 use mathlib.Core.List.{List, [], ◌∷◌, ◌++◌, map}
 use mathlib.Core.Path.{◌≡◌, refl, sym, ap, ◌∙◌}
 use native.Mathlib.Omega.{arith}
@@ -10,24 +11,21 @@ use lib.Seq.{take_at, drop_at, take-length, ext_get_or}
 use Rattle.constellation.specs.DemapByLayout.{Demaps}
 use Rattle.constellation.specs.Layouts.{layout_of, class_layout, ToneLayout, carries, nothing}
 use Rattle.constellation.specs.MapByLayout.{Mappable, label, silent, MapsTo}
-use Rattle.constellation.specs.Reading.{FoundLabelIs}
 use Rattle.frame.specs.Labels.{bits_of_labels}
 use Rattle.g9932.proofs.Search.{first_all, first_at}
 use Rattle.g9932.proofs.Words.{num_lt, bits_num, length_bits}
 use Rattle.g9932.specs.Bits.{bits, num, first}
 use Rattle.g9932.specs.Filler.{drawn, register_after, after_draws, draws}
 use Rattle.g9932.specs.Points.{point_of, label_of}
-use Rattle.g9932.specs.Sizes.{entry, Point, origin, points}
+use Rattle.g9932.specs.Sizes.{entry, Point, origin, points, point_at}
 use Rattle.g9932.specs.Symbol.{load, tone_point, write_points, in_constellation, is_filler, offgrid_test, tone_bits, gather_bits}
 use Rattle.g9932.specs.declared.Class.{Class}
 use Rattle.g9932.specs.declared.Class.TheVariants.{Data, Monitored, Silent}
-use Rattle.g9932.specs.declared.Found.{Found}
-use Rattle.g9932.specs.declared.Found.TheVariants.{At, Nothing}
 use Rattle.g9932.proofs.PointLists.{point_at_lem}
-use Rattle.mapper.specs.Reading.{point_at, LabelIs, OffAt, passes_filler}
+use Rattle.mapper.specs.Reading.{LabelIs, OffAt, passes_filler}
 use Rattle.plan.specs.Plan.{ClassBits, is_drawing}
 use Rattle.passes.proofs.FillerPlaces.{filled}
-use Rattle.passes.proofs.OneTone.{label_read, filler_read}
+use Rattle.passes.proofs.OneTone.{found_label, label_read, filler_read}
 
 -- ---- writing
 
@@ -63,18 +61,18 @@ mapped Silent r l p h s m = m.silent refl
 
 -- ---- reading
 
-sought_on : (n : ℕ) (p : Point) (l : ℕ) → 1 ≤ n → n ≤ 15 → LabelIs (layout_of n) p l → FoundLabelIs (record { found = true; label = l }) (label_of n p)
+sought_on : (n : ℕ) (p : Point) (l : ℕ) → 1 ≤ n → n ≤ 15 → LabelIs (layout_of n) p l → Some l ≡ option_map num (label_of n p)
 sought_on n p l h k d = d.sought n h k refl
 
 -- the label of a point in a tone's constellation has the tone's bits
 pub carried : (c : Class) (p : Point) (l : ℕ) → ClassBits c → LabelIs (class_layout c) p l → bits (load c) l ≡ tone_bits c p
 unfolding bits
-carried (Data n) p l h d = let is = sought_on n p l h.0 h.1 d in (label_read n p (record { found = true; label = l }) is (sym is.found)).0
+carried (Data n) p l h d = (label_read n p l (sought_on n p l h.0 h.1 d)).0
 carried Monitored p l h d = refl
 carried Silent p l h d = refl
 
 pub label_small : (c : Class) (p : Point) (l : ℕ) → ClassBits c → LabelIs (class_layout c) p l → 1 ≤ load c → l < 2 ^ load c
-label_small (Data n) p l h d m = let is = sought_on n p l h.0 h.1 d in (label_read n p (record { found = true; label = l }) is (sym is.found)).1
+label_small (Data n) p l h d m = (label_read n p l (sought_on n p l h.0 h.1 d)).1
 label_small Monitored p l h d m = absurd (omega arith)
 label_small Silent p l h d m = absurd (omega arith)
 
@@ -83,15 +81,14 @@ pub tells_filler : (c : Class) (p : Point) (l : ℕ) → is_drawing c ≡ true �
     → passes_filler (class_layout c) l (num (drawn 2 s)) ≡ is_filler c s p
 tells_filler (Data n) p l e d s = absurd (true≢false (sym e))
 tells_filler Monitored p l e d s =
-    let is = sought_on 2 p l (omega arith) (omega arith) d in
-    filler_read s (num (drawn 2 s)) p (record { found = true; label = l }) is refl
+    filler_read s (num (drawn 2 s)) p l (sought_on 2 p l (omega arith) (omega arith) d) refl
 tells_filler Silent p l e d s = refl
 
 -- a point is in a tone's constellation exactly where it has a label by the tone's layout
-on_by : (c : Class) (p : Point) (o : Bool) (l : ℕ) → ClassBits c → Demaps (class_layout c) p (record { on = o; label = l }) → o ≡ in_constellation c p
-on_by (Data n) p o l h d = (d.sought n h.0 h.1 refl).found
-on_by Monitored p o l h d = (d.sought 2 (omega arith) (omega arith) refl).found
-on_by Silent p o l h d = d.silent refl
+on_by : (c : Class) (p : Point) (o : Option ℕ) → ClassBits c → Demaps (class_layout c) p o → is_some o ≡ in_constellation c p
+on_by (Data n) p o h d = found_label o (label_of n p) (d.sought n h.0 h.1 refl)
+on_by Monitored p o h d = found_label o (label_of 2 p) (d.sought 2 (omega arith) (omega arith) refl)
+on_by Silent p o h d = d.silent refl
 
 pub tone_layout : (c : Class) → ClassBits c → ToneLayout (class_layout c)
 tone_layout (Data n) h = carries n h.0 h.1 refl
@@ -117,16 +114,16 @@ module _ (cs : List Class) (all : (k : ℕ) → k < length cs → ClassBits (get
   abbrev test : ℕ → Bool
   test = offgrid_test cs q
 
-  test_at : (k : ℕ) → k < length cs → (o : Bool) (l : ℕ) → Demaps (entry (map class_layout cs) k) (point_at xs ys k) (record { on = o; label = l }) → test k ≡ not o
-  test_at k h o l d =
+  test_at : (k : ℕ) → k < length cs → (o : Option ℕ) → Demaps (entry (map class_layout cs) k) (point_at xs ys k) o → test k ≡ not (is_some o)
+  test_at k h o d =
       ap (λ (p : Point). not (in_constellation (get_or cs k Silent) p)) (point_at_lem xs ys k (omega arith) ny)
-      ∙ ap not (sym (on_by (get_or cs k Silent) (point_at xs ys k) o l (all k h) (rw (class_at_lem cs k h) at d)))
+      ∙ ap not (sym (on_by (get_or cs k Silent) (point_at xs ys k) o (all k h) (rw (class_at_lem cs k h) at d)))
 
   -- the first place that 13 refuses
-  pub offgrid_first : (f : Found) → OffAt (map class_layout cs) xs ys f → f ≡ first test (length cs)
-  offgrid_first (At k) d =
-      first_at test k (length cs) (first_all test k (λ i h. let w = d.2 i h in test_at i (omega (arith, d.0)) true w.0 w.1)) (test_at k (omega (arith, d.0)) false d.1.0 d.1.1) (omega (arith, d.0))
-  offgrid_first Nothing d = sym (first_all test (length cs) (λ i h. let w = d i (omega arith) in test_at i h true w.0 w.1))
+  pub offgrid_first : (f : Option ℕ) → OffAt (map class_layout cs) xs ys f → f ≡ first test (length cs)
+  offgrid_first (Some k) d =
+      first_at test k (length cs) (first_all test k (λ i h. let w = d.2 i h in test_at i (omega (arith, d.0)) (Some w.0) w.1)) (test_at k (omega (arith, d.0)) None d.1) (omega (arith, d.0))
+  offgrid_first None d = sym (first_all test (length cs) (λ i h. let w = d i (omega arith) in test_at i h (Some w.0) w.1))
 
   module _ (ls : List ℕ) (are : (k : ℕ) → k < length xs → LabelIs (entry (map class_layout cs) k) (point_at xs ys k) (entry ls k)) where
     pub label_is : (k : ℕ) → k < length cs → LabelIs (class_layout (get_or cs k Silent)) (get_or q k origin) (entry ls k)

@@ -11,11 +11,10 @@ use Rattle.frame.specs.Labels.{bits_of_labels}
 use Rattle.g9932.proofs.Symbols.{length_write}
 use Rattle.g9932.specs.Bits.{num}
 use Rattle.g9932.specs.Filler.{drawn, after_draws, register_after}
-use Rattle.g9932.specs.Sizes.{entry, Point, origin}
+use Rattle.g9932.specs.Sizes.{entry, Point, origin, point_at}
 use Rattle.g9932.specs.Symbol.{load, write_points}
 use Rattle.g9932.specs.declared.Class.{Class}
 use Rattle.g9932.specs.declared.Class.TheVariants.{Silent}
-use Rattle.mapper.specs.Reading.{point_at}
 use Rattle.mapper.specs.Writing.{FillerNeeds, with_filler, PutNeeds, PutsPoints}
 use Rattle.plan.specs.Plan.{is_drawing}
 use Rattle.passes.specs.WriteSymbol.{WritePointsSupposes, WritesPoints}

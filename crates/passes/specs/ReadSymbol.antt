@@ -1,5 +1,6 @@
 -- Points to labels by place, and these to a frame.
-use Rattle.std.specs.Prelude.{ℕ, ◌+◌, ◌*◌, ◌^◌, ◌≤◌, ◌<◌, Bool, List, map, ◌≡◌, ℤ, length, take}
+use Rattle.std.specs.Prelude.{Option, None, Some, Result, Ok, Err, ⊤}
+use Rattle.std.specs.Prelude.{ℕ, ◌+◌, ◌*◌, ◌^◌, ◌≤◌, ◌<◌, Bool, List, map, ◌≡◌, ℤ, length}
 use Rattle.frame.specs.Labels.{bits_of_labels, Within, labels_at, Placed}
 use Rattle.frame.specs.Written.{Framed}
 use Rattle.g9932.specs.Answers.{on_done, report_of, report_by, break_in, frame_in, places_verdict, points_verdict}
@@ -9,17 +10,14 @@ use Rattle.g9932.specs.Refusals.{refused, accepted, number_of, place_of}
 use Rattle.g9932.specs.Sizes.{Tables, entry, Point, points, bytes_for, pack, most_tones, most_bits, most_held}
 use Rattle.g9932.specs.Symbol.{load, classes_of, size_of, gather_bits, reading_in}
 use Rattle.g9932.specs.Trellis.{reading_of, taken_total}
-use Rattle.g9932.specs.declared.Answer.{Answer}
+use Rattle.g9932.specs.declared.Done.{Done}
+use Rattle.g9932.specs.declared.Refusal.{Refusal}
+use Rattle.g9932.specs.declared.Refused.{Refused}
 use Rattle.g9932.specs.declared.Class.{Class}
-use Rattle.g9932.specs.declared.Found.{Found}
-use Rattle.g9932.specs.declared.Found.TheVariants.{Nothing}
 use Rattle.g9932.specs.declared.Mode.{Mode}
 use Rattle.g9932.specs.declared.Mode.TheVariants.{Uncoded, Coded}
 use Rattle.plan.specs.Classes.{PlanOf}
-use Rattle.plan.specs.declared.PlanSizes.{PlanSizes}
-use Rattle.passes.specs.PlanFits.{PlanFits}
-use Rattle.passes.specs.declared.read.PlacesRead.{PlacesRead}
-use Rattle.passes.specs.declared.read.PlacesRead.TheVariants.{Refused, Done}
+use Rattle.plan.specs.declared.Plan.{Plan}
 
 -- ---- the places
 
@@ -46,15 +44,15 @@ pub record PlacesDone (cs : List Class) (r : ℕ) (q : List Point) (s : ℕ) (la
   pub register_is : s ≡ register_after r cs
   pub labels_are : ToneLabels cs (gather_bits cs q) labels
 
-abbrev pub PlacesBy : List Class → ℕ → List Point → PlacesRead → List ℕ → Type 0
-PlacesBy cs r q (Refused x) labels = refused (number_of x) (place_of x) ≡ places_verdict cs q r
-PlacesBy cs r q (Done s) labels = PlacesDone cs r q s labels
+abbrev pub PlacesBy : List Class → ℕ → List Point → Result ℕ Refusal → List ℕ → Type 0
+PlacesBy cs r q (Err x) labels = refused (number_of x) (place_of x) ≡ places_verdict cs q r
+PlacesBy cs r q (Ok s) labels = PlacesDone cs r q s labels
 
-pub record ReadsPlaces (cs : List Class) (r : ℕ) (q : List Point) (t : PlacesRead) (labels : List ℕ) : Type 0 where
+pub record ReadsPlaces (cs : List Class) (r : ℕ) (q : List Point) (t : Result ℕ Refusal) (labels : List ℕ) : Type 0 where
   pub answer : PlacesBy cs r q t labels
 
 -- whatever classes they are
-abbrev pub ReadsAnyPlaces : List ℕ → List ℕ → List ℕ → List ℤ → List ℤ → ℕ → PlacesRead → List ℕ → Type 0
+abbrev pub ReadsAnyPlaces : List ℕ → List ℕ → List ℕ → List ℤ → List ℤ → ℕ → Result ℕ Refusal → List ℕ → Type 0
 ReadsAnyPlaces ds layouts labels xs ys r t after =
     (cs : List Class) (from : ℕ) (es ps : List ℕ) → ReadPlacesSupposes cs from es ps ds layouts labels xs ys → ReadsPlaces cs r (points xs ys) t after
 
@@ -72,13 +70,18 @@ pub record FrameLabels (m : Mode) (start : ℕ) (es ps labels held : List ℕ) :
   pub start_most : start ≤ 7
   pub held_fits : HeldFits m start es (length held)
 
-pub record ReadsFrame (m : Mode) (start : ℕ) (es : List ℕ) (d : List Bool) (broken : Found) (after : List ℕ) : Type 0 where
-  pub broken_is : broken ≡ break_in (reading_of m (pairs_of es) d)
-  pub framed : broken ≡ Nothing → Framed start (frame_in (reading_of m (pairs_of es) d)) after
+-- the pair at which a frame is not read
+abbrev pub broken_at : {A : Type 0} → Result A ℕ → Option ℕ
+broken_at (Ok a) = None
+broken_at (Err k) = Some k
+
+pub record ReadsFrame (m : Mode) (start : ℕ) (es : List ℕ) (d : List Bool) (read : Result ⊤ ℕ) (after : List ℕ) : Type 0 where
+  pub broken_is : broken_at read ≡ break_in (reading_of m (pairs_of es) d)
+  pub framed : broken_at read ≡ None → Framed start (frame_in (reading_of m (pairs_of es) d)) after
 
 -- the frame, where no pair breaks the code
 pub record ReadsPath (m : Mode) (start : ℕ) (es : List ℕ) (d : List Bool) (after : List ℕ) : Type 0 where
-  pub framed : break_in (reading_of m (pairs_of es) d) ≡ Nothing → Framed start (frame_in (reading_of m (pairs_of es) d)) after
+  pub framed : break_in (reading_of m (pairs_of es) d) ≡ None → Framed start (frame_in (reading_of m (pairs_of es) d)) after
 
 -- the labels are those of some classes and their bits
 pub record ReadFrameSupposes (m : Mode) (start : ℕ) (cs : List Class) (d : List Bool) (from : ℕ) (es ps ds layouts labels held : List ℕ) : Type 0 where
@@ -92,9 +95,9 @@ ReadFrameNeeds m start from es ps labels held =
     (cs : List Class) × (d : List Bool) × (ds : List ℕ) × (layouts : List ℕ) × ReadFrameSupposes m start cs d from es ps ds layouts labels held
 
 -- whatever classes and bits they are
-abbrev pub ReadsAnyFrame : Mode → ℕ → ℕ → List ℕ → List ℕ → List ℕ → List ℕ → Found → List ℕ → Type 0
-ReadsAnyFrame m start from es ps labels held broken after =
-    (cs : List Class) (d : List Bool) (ds layouts : List ℕ) → ReadFrameSupposes m start cs d from es ps ds layouts labels held → ReadsFrame m start es d broken after
+abbrev pub ReadsAnyFrame : Mode → ℕ → ℕ → List ℕ → List ℕ → List ℕ → List ℕ → Result ⊤ ℕ → List ℕ → Type 0
+ReadsAnyFrame m start from es ps labels held read after =
+    (cs : List Class) (d : List Bool) (ds layouts : List ℕ) → ReadFrameSupposes m start cs d from es ps ds layouts labels held → ReadsFrame m start es d read after
 
 -- ---- a whole symbol
 
@@ -112,23 +115,21 @@ pub record ReadSymbolSupposes (T : Tables) (m : Mode) (from size : ℕ) (es ps d
   pub size_most : size_of T ≤ most_bits
   pub readings : (q : List Point) → reading_of m (pairs_of es) (gather_bits (classes_of T) q) ≡ reading_in T q
   pub whole : (q : List Point) (r : ℕ) → (places_verdict (classes_of T) q r).number ≡ 0 → length q ≡ length (classes_of T)
-      → break_in (reading_in T q) ≡ Nothing → length (frame_in (reading_in T q)) ≡ size_of T
+      → break_in (reading_in T q) ≡ None → length (frame_in (reading_in T q)) ≡ size_of T
 
--- the same, of arrays that begin with the lists of the plan
-abbrev pub ReadSymbolBy : Tables → Mode → PlanSizes → ℕ → List ℕ → List ℕ → List ℕ → List ℕ → List ℤ → List ℤ → List ℕ → List ℕ → List ℕ → ℕ → Type 0
-ReadSymbolBy T m p n layouts entries places drawing xs ys labels held f start =
-    ReadSymbolSupposes T m p.shared_from.0 p.size (take p.entry_count entries) (take p.entry_count places) (take p.drawing_count drawing) (take n layouts) xs ys (take n labels) held f start
+-- the same, by the plan as it is lent
+abbrev pub ReadSymbolBy : Tables → Plan → List ℤ → List ℤ → List ℕ → List ℕ → List ℕ → ℕ → Type 0
+ReadSymbolBy T p xs ys labels held f start =
+    ReadSymbolSupposes T p.mode p.shared_from.0 p.size p.entries.bits.now p.entries.places.now p.drawing.now p.layouts.now xs ys labels held f start
 
-pub record ReadSymbolNeeds (m : Mode) (p : PlanSizes) (n : ℕ) (layouts entries places drawing : List ℕ) (xs ys : List ℤ) (labels held f : List ℕ) (start : ℕ) : Type 0 where
-  pub fits : PlanFits p n layouts entries places drawing labels
-  pub tables : Tables
-  pub planned : ReadSymbolBy tables m p n layouts entries places drawing xs ys labels held f start
+abbrev pub ReadSymbolNeeds : Plan → List ℤ → List ℤ → List ℕ → List ℕ → List ℕ → ℕ → Type 0
+ReadSymbolNeeds p xs ys labels held f start = (T : Tables) × ReadSymbolBy T p xs ys labels held f start
 
-pub record ReadsPoints (T : Tables) (q : List Point) (r : ℕ) (before : List ℕ) (start : ℕ) (a : Answer) (after : List ℕ) : Type 0 where
+pub record ReadsPoints (T : Tables) (q : List Point) (r : ℕ) (before : List ℕ) (start : ℕ) (a : Result Done Refused) (after : List ℕ) : Type 0 where
   pub answer : report_of a ≡ report_by (points_verdict T q r) r (register_after r (classes_of T))
   pub frame_holds : after ≡ on_done (points_verdict T q r) (pack start (frame_in (reading_in T q))) before
 
 -- whatever tables they are
-abbrev pub ReadsAnySymbol : Mode → PlanSizes → ℕ → List ℕ → List ℕ → List ℕ → List ℕ → List ℤ → List ℤ → List ℕ → List ℕ → List ℕ → ℕ → ℕ → Answer → List ℕ → Type 0
-ReadsAnySymbol m p n layouts entries places drawing xs ys labels held f start r a after =
-    (T : Tables) → ReadSymbolBy T m p n layouts entries places drawing xs ys labels held f start → ReadsPoints T (points xs ys) r f start a after
+abbrev pub ReadsAnySymbol : Plan → List ℤ → List ℤ → List ℕ → List ℕ → List ℕ → ℕ → ℕ → Result Done Refused → List ℕ → Type 0
+ReadsAnySymbol p xs ys labels held f start r a after =
+    (T : Tables) → ReadSymbolBy T p xs ys labels held f start → ReadsPoints T (points xs ys) r f start a after

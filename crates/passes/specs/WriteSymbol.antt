@@ -11,8 +11,7 @@ use Rattle.g9932.specs.declared.Mode.{Mode}
 use Rattle.g9932.specs.declared.Mode.TheVariants.{Uncoded, Coded}
 use Rattle.mapper.specs.Writing.{CutNeeds}
 use Rattle.plan.specs.Classes.{PlanOf}
-use Rattle.plan.specs.declared.PlanSizes.{PlanSizes}
-use Rattle.passes.specs.PlanFits.{PlanFits}
+use Rattle.plan.specs.declared.Plan.{Plan}
 use Rattle.trellis.specs.Coding.{FrameNeeds}
 
 -- ---- the labels of a frame
@@ -67,17 +66,14 @@ pub record WriteSymbolSupposes (T : Tables) (m : Mode) (from : ℕ) (f : List �
   pub xs_length : length xs ≡ length (classes_of T)
   pub ys_length : length ys ≡ length (classes_of T)
 
--- the same, of arrays that begin with the lists of the plan
-abbrev pub WriteSymbolBy : Tables → Mode → PlanSizes → ℕ → List ℕ → ℕ → List ℕ → List ℕ → List ℕ → List ℕ → List ℕ → List ℤ → List ℤ → Type 0
-WriteSymbolBy T m p n f start layouts entries places drawing labels xs ys =
-    WriteSymbolSupposes T m p.shared_from.0 f start (take p.entry_count entries) (take p.entry_count places) (take p.drawing_count drawing) (take n layouts) (take n labels) xs ys
+-- the same, by the plan as it is lent
+abbrev pub WriteSymbolBy : Tables → Plan → List ℕ → ℕ → List ℕ → List ℤ → List ℤ → Type 0
+WriteSymbolBy T p f start labels xs ys = WriteSymbolSupposes T p.mode p.shared_from.0 f start p.entries.bits.now p.entries.places.now p.drawing.now p.layouts.now labels xs ys
 
-pub record WriteSymbolNeeds (m : Mode) (p : PlanSizes) (n : ℕ) (f : List ℕ) (start : ℕ) (layouts entries places drawing labels : List ℕ) (xs ys : List ℤ) : Type 0 where
-  pub fits : PlanFits p n layouts entries places drawing labels
-  pub tables : Tables
-  pub planned : WriteSymbolBy tables m p n f start layouts entries places drawing labels xs ys
+abbrev pub WriteSymbolNeeds : Plan → List ℕ → ℕ → List ℕ → List ℤ → List ℤ → Type 0
+WriteSymbolNeeds p f start labels xs ys = (T : Tables) × WriteSymbolBy T p f start labels xs ys
 
 -- whatever tables they are
-abbrev pub WritesAnySymbol : Mode → PlanSizes → ℕ → List ℕ → ℕ → List ℕ → List ℕ → List ℕ → List ℕ → List ℕ → List ℤ → List ℤ → ℕ → ℕ → List ℤ → List ℤ → Type 0
-WritesAnySymbol m p n f start layouts entries places drawing labels xs ys r after xs_after ys_after =
-    (T : Tables) → WriteSymbolBy T m p n f start layouts entries places drawing labels xs ys → WritesPoints (classes_of T) r (sent_in T start f) after xs_after ys_after
+abbrev pub WritesAnySymbol : Plan → List ℕ → ℕ → List ℕ → List ℤ → List ℤ → ℕ → ℕ → List ℤ → List ℤ → Type 0
+WritesAnySymbol p f start labels xs ys r after xs_after ys_after =
+    (T : Tables) → WriteSymbolBy T p f start labels xs ys → WritesPoints (classes_of T) r (sent_in T start f) after xs_after ys_after

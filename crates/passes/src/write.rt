@@ -1,84 +1,51 @@
 // Writing a symbol.
 ghost use Rattle.passes.specs.WriteSymbol.{LabelFrameNeeds, sent_for, EntryLabels, WritePointsNeeds, WritesAnyPoints, WriteSymbolNeeds, WritesAnySymbol};
 
-use g9932::{Mode, Place};
-use plan::PlanSizes;
+use g9932::Mode;
+use plan::Plan;
 
 // The labels of a frame whose bits begin at bit `start`, each at its entry's place: coded, the trellis makes them.
-fn label_frame(
-    mode: Mode,
-    frame: &[u8],
-    start: usize,
-    entries: &[u8],
-    places: &[u16],
-    labels: &mut [u16],
-)
-    requires { LabelFrameNeeds mode frame.now start entries.now places.now labels.old }
-    ensures { EntryLabels (sent_for mode frame.now start entries.now) entries.now places.now labels.new }
+fn label_frame(plan: Plan, frame: &[u8], start: usize, labels: &mut [u16])
+    requires { LabelFrameNeeds plan.mode frame.now start plan.entries.bits.now plan.entries.places.now labels.old }
+    ensures { EntryLabels (sent_for plan.entry.mode frame.now start plan.entry.entries.bits.now) plan.entry.entries.bits.now plan.entry.entries.places.now labels.new }
 {
-    match mode {
-        Mode::Uncoded => mapper::write::cut_labels(frame, start, entries, places, labels),
-        Mode::Coded => trellis::encode_labels(frame, start, entries, places, labels),
+    match plan.mode {
+        Mode::Uncoded => mapper::write::cut_labels(frame, start, plan.entries, labels),
+        Mode::Coded => trellis::encode_labels(frame, start, plan.entries, labels),
     }
 }
 
-// The points of labels at their entries' places, and the register after the draws. From place `shared_from` on two tones share a label.
+// The points of labels at their entries' places, and the register after the draws.
 fn write_points(
-    shared_from: Place,
-    drawing: &[u16],
-    layouts: &[u16],
+    plan: Plan,
     register: u32,
     labels: &mut [u16],
     xs: &mut [i16],
     ys: &mut [i16],
 ) -> u32
-    requires { WritePointsNeeds shared_from.0 drawing.now layouts.now labels.old xs.old ys.old }
-    ensures { WritesAnyPoints shared_from.0 drawing.now layouts.now labels.old xs.old ys.old register result xs.new ys.new }
+    requires { WritePointsNeeds plan.shared_from.0 plan.drawing.now plan.layouts.now labels.old xs.old ys.old }
+    ensures { WritesAnyPoints plan.entry.shared_from.0 plan.entry.drawing.now plan.entry.layouts.now labels.old xs.old ys.old register result xs.new ys.new }
 {
-    mapper::write::split_shared(labels, shared_from);
-    let after = mapper::write::set_filler(drawing, register, labels);
-    mapper::points::put_points(layouts, labels, xs, ys);
+    mapper::write::split_shared(labels, plan.shared_from);
+    let after = mapper::write::set_filler(plan.drawing, register, labels);
+    mapper::points::put_points(plan.layouts, labels, xs, ys);
     after
 }
 
-// The symbol of an accepted frame of n tones, by the plan of its tables in four arrays, and the register after the draws. Called by
+// The symbol of an accepted frame, by the plan of its tables, and the register after the draws. The labels are working memory. Called by
 // proved code only.
 pub fn write_symbol(
-    mode: Mode,
-    p: PlanSizes,
-    n: usize,
+    plan: Plan,
     frame: &[u8],
     start: u8,
     register: u32,
-    layouts: &[u16],
-    entries: &[u8],
-    places: &[u16],
-    drawing: &[u16],
     labels: &mut [u16],
     xs: &mut [i16],
     ys: &mut [i16],
 ) -> u32
-    requires { WriteSymbolNeeds mode p n frame.now start layouts.now entries.now places.now drawing.now labels.old xs.old ys.old }
-    ensures { WritesAnySymbol mode p n frame.now start layouts.now entries.now places.now drawing.now
-        labels.old xs.old ys.old register result xs.new ys.new }
+    requires { WriteSymbolNeeds plan frame.now start labels.old xs.old ys.old }
+    ensures { WritesAnySymbol plan.entry frame.now start labels.old xs.old ys.old register result xs.new ys.new }
 {
-    let e = p.entry_count;
-    let d = p.drawing_count;
-    label_frame(
-        mode,
-        frame,
-        start as usize,
-        &entries[..e],
-        &places[..e],
-        &mut labels[..n],
-    );
-    write_points(
-        p.shared_from,
-        &drawing[..d],
-        &layouts[..n],
-        register,
-        &mut labels[..n],
-        xs,
-        ys,
-    )
+    label_frame(plan, frame, usize::from(start), labels);
+    write_points(plan, register, labels, xs, ys)
 }

@@ -2,30 +2,14 @@
 use Prim.Native.Nat.{ℕ, zero, suc, ◌+◌, ◌*◌, ◌-◌, ◌/◌, ◌%◌, ◌^◌, ◌≤◌, ◌<◌}
 use mathlib.Core.Bool.{Bool, true, false}
 use mathlib.Core.List.{List, [], ◌∷◌}
-use mathlib.Core.Path.{◌≡◌, refl, ap, subst, ◌∙◌}
+use mathlib.Core.Path.{◌≡◌, refl, subst, ◌∙◌}
 use native.Mathlib.Omega.{arith}
-use lib.ListN.{get_or, set, replicate}
+use lib.ListN.{get_or}
 use Rattle.paths.specs.Survivors.{selected, far, reached, Below}
 use Rattle.paths.proofs.Metrics.{four_cases, GroupIs, group_at, group_is}
 use Rattle.paths.proofs.Steps.{selected_le}
 
 -- ---- the metrics that can be reached
-
--- those of the first n states that can be, with the others far
-unfoldable pub fourths : List ℕ → ℕ → List ℕ
-fourths old zero = replicate 16 far
-fourths old (suc n) = set (fourths old n) (4 * n) (get_or old (4 * n) 0)
-
-pub fourths_more : (old : List ℕ) (s : ℕ) → s % 4 ≡ 0 → set (fourths old (s / 4)) s (get_or old s 0) ≡ fourths old ((s + 4) / 4)
-unfolding fourths
-fourths_more old s h =
-    let e1 : (s + 4) / 4 ≡ suc (s / 4) = omega arith in
-    let e2 : s ≡ 4 * (s / 4) = omega arith in
-    rw e1 (ap (λ (z : ℕ). set (fourths old (s / 4)) z (get_or old z 0)) e2)
-
-pub fourths_all : (old : List ℕ) → fourths old 4 ≡ reached old true
-unfolding fourths reached
-fourths_all old = refl
 
 below_fourth : (a : ℕ) (l : List ℕ) → a ≤ far → Below far l → Below far (a ∷ far ∷ far ∷ far ∷ l)
 below_fourth a l h b zero = h

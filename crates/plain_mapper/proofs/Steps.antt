@@ -1,31 +1,28 @@
 -- The plain rule's step as the code takes it, from b bits to b − 2, and the bounds of what it goes by.
+use Rattle.std.specs.Prelude.{Option, None, Some}
 use Prim.Native.Nat.{ℕ, zero, suc, ◌-◌, ◌*◌, ◌/◌, ◌%◌, ◌^◌, ◌≤◌, ◌<◌}
-use mathlib.Core.Bool.{Bool, false, true≢false}
+use mathlib.Core.Bool.{Bool, true, false, ◌||◌, true≢false}
 use mathlib.Core.List.{List}
-use mathlib.Core.Option.{Option, none, some}
 use mathlib.Core.Path.{◌≡◌, refl, sym, ap, ◌∙◌}
 use native.Mathlib.Nat.{pow-suc, mod-eq_of_lt}
 use native.Mathlib.Omega.{arith}
-use borrow.Author.Tests.{le-ltb}
+use borrow.Author.Tests.{le-ltb, eqb-true}
+use lib.Dec.{eqb}
 use lib.IntN.{ℤ, pos, negsuc, nat_abs}
 use lib.Pow.{pow_mono}
 use lib.Signed.{mag}
-use mir.Syntax.{w16}
-use mir.Val.{SFits}
 use Rattle.g9932.specs.Answers.{read_point}
 use Rattle.g9932.specs.Bits.{bits}
 use Rattle.g9932.specs.Plain.{smallest, block_corner, in_block, plain_point, corner_of, low_label, of_block, fourfold, plain_label, label_number, plain_found, plain_read}
 use Rattle.g9932.specs.Points.{point_of, same_point, label_of}
 use Rattle.g9932.specs.Sizes.{Point}
-use Rattle.g9932.specs.declared.Found.{Found}
-use Rattle.g9932.specs.declared.Found.TheVariants.{At, Nothing}
 use Rattle.g9932.proofs.Distances.{point_range}
 use Rattle.g9932.proofs.Labels.{point_label}
 use Rattle.g9932.proofs.Plain.{larger_points, larger_labels, plain_point_lem, plain_label_lem, plain_read_lem}
 use Rattle.g9932.proofs.Search.{first_found}
 use Rattle.g9932.proofs.Words.{length_bits, num_lt}
 use Rattle.plain_mapper.specs.Bounds.{Below, Within}
-use Rattle.plain_mapper.proofs.Signed.{doubled_within, corner_within}
+use Rattle.plain_mapper.proofs.Signed.{doubled_within}
 
 -- ---- from b bits to b − 2
 
@@ -35,6 +32,16 @@ larger (suc zero) h n = absurd (true≢false n)
 larger (suc (suc zero)) h n = absurd (true≢false n)
 larger (suc (suc (suc zero))) h n = absurd (true≢false n)
 larger (suc (suc (suc (suc b)))) h n = omega arith
+
+pub smallest_le : (b : ℕ) → smallest b ≡ true → b ≤ 15
+smallest_le b h = go (eqb b 1) (eqb b 2) (eqb b 3) (eqb b 5) refl refl refl refl h
+  where
+    go : (e1 e2 e3 e5 : Bool) → eqb b 1 ≡ e1 → eqb b 2 ≡ e2 → eqb b 3 ≡ e3 → eqb b 5 ≡ e5 → e1 || e2 || e3 || e5 ≡ true → b ≤ 15
+    go true e2 e3 e5 p q r s h = omega (arith, eqb-true b 1 p)
+    go false true e3 e5 p q r s h = omega (arith, eqb-true b 2 q)
+    go false false true e5 p q r s h = omega (arith, eqb-true b 3 r)
+    go false false false true p q r s h = omega (arith, eqb-true b 5 s)
+    go false false false false p q r s h = absurd (true≢false (sym h))
 
 pub point_step : (b l : ℕ) → 2 ≤ b → smallest b ≡ false → plain_point b l ≡ in_block (l % 4) (block_corner (plain_point (b - 2) (l / 4)))
 point_step zero l h n = absurd (omega arith)
@@ -73,12 +80,9 @@ plain_within b l h k m =
 pub block_within : (p : Point) → Within 1023 p → Within 4095 (block_corner p)
 block_within p h = (doubled_within p.px h.0, doubled_within p.py h.1)
 
-pub corners_within : (p : Point) → SFits w16 p.px → SFits w16 p.py → Within 32766 (corner_of p)
-corners_within p hx hy = (corner_within p.px hx, corner_within p.py hy)
-
 number_below : (b : ℕ) (p : Point) → b ≤ 15 → (o : Option (List Bool)) → label_of b p ≡ o → Below 32768 (label_number o)
-number_below b p h none e = tt
-number_below b p h (some v) e =
+number_below b p h None e = tt
+number_below b p h (Some v) e =
     let l = (point_label b p v e).0 in
     omega (arith, num_lt v, ap (λ (n : ℕ). 2 ^ n) l, pow_mono {i = b} {j = 15} h)
 
@@ -88,12 +92,12 @@ label_below b p h k = rw (plain_label_lem b p h) (number_below b p k (label_of b
 pub low_below : (p : Point) → Below 4 (low_label p)
 low_below p = go (low_label p) refl
   where
-    go : (f : Found) → low_label p ≡ f → Below 4 f
-    go (At k) e = (first_found (λ j. same_point (in_block j (corner_of p)) p) 4 k e).0
-    go Nothing e = tt
+    go : (f : Option ℕ) → low_label p ≡ f → Below 4 f
+    go (Some k) e = (first_found (λ j. same_point (in_block j (corner_of p)) p) 4 k e).0
+    go None e = tt
 
 -- ---- the answer
 
-pub read_as_lem : (b : ℕ) (p : Point) (f : Found) → 1 ≤ b → b ≤ 15 → f ≡ plain_label b p → read_point b p ≡ plain_found f
+pub read_as_lem : (b : ℕ) (p : Point) (f : Option ℕ) → 1 ≤ b → b ≤ 15 → f ≡ plain_label b p → read_point b p ≡ plain_found f
 unfolding plain_read
 read_as_lem b p f h k e = sym (plain_read_lem b p) ∙ rw (le-ltb b 1 h, le-ltb 15 b k, e)

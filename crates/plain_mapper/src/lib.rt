@@ -6,15 +6,15 @@ pub mod small;
 
 ghost use Rattle.std.specs.Prelude.{true, ◌≡◌, ◌^◌, ◌<◌, ◌≤◌, pos, ◌+ℤ◌, ◌-ℤ◌, ◌*ℤ◌};
 ghost use Rattle.std.specs.Int.Signed.{mag, shr_z};
-ghost use Rattle.g9932.specs.Bits.{or_at, first};
+ghost use Rattle.g9932.specs.Bits.{first};
 ghost use Rattle.g9932.specs.Sizes.{point, origin};
 ghost use Rattle.g9932.specs.Points.{same_point};
-ghost use Rattle.g9932.specs.Plain.{smallest as is_smallest, small_point, block_corner, in_block, plain_point, corner_at, corner_of, low_label, of_block, fourfold as fourfold_of, plain_label};
+ghost use Rattle.g9932.specs.Plain.{smallest as is_smallest, small_point, block_corner, in_block, plain_point, corner_at, corner_of, low_label, of_block, small_label, plain_label};
 ghost use Rattle.g9932.specs.Answers.{map_label, read_point, mapped_of, labelled_of};
-ghost use Rattle.plain_mapper.specs.Bounds.{Below, Within};
+ghost use Rattle.plain_mapper.specs.Bounds.{Within};
 
-use g9932::{Found, Labelled, Mapped, Place, Refusal};
-use small::{Point, small_point, smallest};
+use g9932::{Place, Point, Refusal};
+use small::{small_point, smallest};
 
 // 2X - 1: a coordinate of the corner of the block that a point becomes.
 fn doubled(z: i16) -> i16
@@ -44,7 +44,7 @@ fn block_corner(p: Point) -> Point
 }
 
 // The point of label 4n + k, by the corner, which is that of 4n: above it, to its right, diagonal.
-fn in_block(k: usize, corner: Point) -> Point
+fn in_block(k: u32, corner: Point) -> Point
     requires { (k < 4) × Within 4095 (point corner.x corner.y) }
     ensures { point result.x result.y ≡ in_block k (point corner.x corner.y) }
 {
@@ -65,8 +65,9 @@ fn in_block(k: usize, corner: Point) -> Point
     }
 }
 
-// The point of a label of b bits, by way of b - 2 bits.
-fn plain_point(b: u8, label: usize) -> Point
+// The point of a label of b bits, by way of b - 2 bits. The bounds of b and of the label are clauses, not types: they change from call to
+// call.
+fn plain_point(b: u8, label: u32) -> Point
     requires { (1 ≤ b) × (b ≤ 15) × (label < 2 ^ b) }
     ensures { point result.x result.y ≡ plain_point b label }
 {
@@ -78,61 +79,26 @@ fn plain_point(b: u8, label: usize) -> Point
 }
 
 // Maps one label: refusal 16.
-pub fn map_label(bits: u8, label: u32) -> Mapped
+pub fn map_label(bits: u8, label: u32) -> Result<Point, Refusal>
     ensures { mapped_of result ≡ map_label bits label }
 {
-    if bits < 1 {
-        return Mapped::Refused(Refusal::Label);
+    if bits < 1 || 15 < bits || 1u32 << bits <= label {
+        return Err(Refusal::Label);
     }
-    if 15 < bits {
-        return Mapped::Refused(Refusal::Label);
-    }
-    if 1u32 << bits <= label {
-        return Mapped::Refused(Refusal::Label);
-    }
-    let p = plain_point(bits, label as usize);
-    Mapped::Point { x: p.x, y: p.y }
+    Ok(plain_point(bits, label))
 }
 
-// Whether two points are the same.
-fn same(p: Point, q: Point) -> bool
-    ensures { result ≡ same_point (point p.x p.y) (point q.x q.y) }
+// The label of one of the smallest constellations that has the point, if one has.
+fn small_label(b: u8, p: Point) -> Option<u32>
+    requires { is_smallest b ≡ true }
+    ensures { result ≡ small_label b (point p.x p.y) }
 {
-    if p.x != q.x {
-        return false;
-    }
-    if p.y != q.y {
-        return false;
-    }
-    true
-}
-
-// What was found already, or else this label, if it is the one.
-fn or_at(found: Found, here: bool, label: usize) -> Found
-    ensures { result ≡ or_at found here label }
-{
-    match found {
-        Found::At(earlier) => Found::At(earlier),
-        Found::Nothing => {
-            if here {
-                return Found::At(label);
-            }
-            Found::Nothing
+    for label in 0..1u32 << b {
+        if small_point(b, label) == p {
+            return Some(label);
         }
     }
-}
-
-// The label below `end` of one of the smallest constellations that has the point, if one has.
-fn small_label(b: u8, end: usize, p: Point) -> Found
-    requires { (is_smallest b ≡ true) × (end ≤ 2 ^ b) }
-    ensures { result ≡ first (λ l. same_point (small_point b l) (point p.x p.y)) end }
-{
-    if end == 0 {
-        return Found::Nothing;
-    }
-    let last = end - 1;
-    let found = small_label(b, last, p);
-    or_at(found, same(small_point(b, last), p), last)
+    None
 }
 
 // A coordinate of the corner of the block that a point is in: one more than a multiple of four, for it is 2X - 1 of an odd X.
@@ -172,77 +138,46 @@ fn of_block(corner: Point) -> Point
 }
 
 // The place of a label in its block, if any, by how far its point is to the right of the corner and above it.
-fn place_in_block(right: i16, up: i16) -> Found
+fn place_in_block(right: i16, up: i16) -> Option<u32>
     ensures { result ≡ first (λ k. same_point (in_block k origin) (point right up)) 4 }
 {
-    if right == 0 {
-        if up == 0 {
-            return Found::At(0);
-        }
-        if up == 2 {
-            return Found::At(1);
-        }
-        return Found::Nothing;
+    match (right, up) {
+        (0, 0) => Some(0),
+        (0, 2) => Some(1),
+        (2, 0) => Some(2),
+        (2, 2) => Some(3),
+        _ => None,
     }
-    if right == 2 {
-        if up == 0 {
-            return Found::At(2);
-        }
-        if up == 2 {
-            return Found::At(3);
-        }
-    }
-    Found::Nothing
 }
 
 // The two lowest bits of the label of a point, if any, by the corner of its block.
-fn low_label(p: Point, corner: Point) -> Found
+fn low_label(p: Point, corner: Point) -> Option<u32>
     requires { point corner.x corner.y ≡ corner_of (point p.x p.y) }
     ensures { result ≡ low_label (point p.x p.y) }
 {
     place_in_block(p.x - corner.x, p.y - corner.y)
 }
 
-// The label 4n + k, or none where n or k is missing.
-fn fourfold(block: Found, low: Found) -> Found
-    requires { Below 32768 block × Below 4 low }
-    ensures { result ≡ fourfold_of block low }
-{
-    match block {
-        Found::At(n) => match low {
-            Found::At(k) => Found::At(4 * n + k),
-            Found::Nothing => Found::Nothing,
-        },
-        Found::Nothing => Found::Nothing,
-    }
-}
-
 // The label of b bits that has a point, if one has, by way of b - 2 bits.
-fn plain_label(b: u8, p: Point) -> Found
+fn plain_label(b: u8, p: Point) -> Option<u32>
     requires { (1 ≤ b) × (b ≤ 15) }
     ensures { result ≡ plain_label b (point p.x p.y) }
 {
     if smallest(b) {
-        return small_label(b, 1usize << b, p);
+        return small_label(b, p);
     }
     let corner = corner_of(p);
-    let n = plain_label(b - 2, of_block(corner));
-    fourfold(n, low_label(p, corner))
+    let n = plain_label(b - 2, of_block(corner))?;
+    let k = low_label(p, corner)?;
+    Some(4 * n + k)
 }
 
 // Reads one point: refusal 16 for its bits, then 13.
-pub fn read_point(bits: u8, x: i16, y: i16) -> Labelled
-    ensures { labelled_of result ≡ read_point bits (point x y) }
+pub fn read_point(bits: u8, p: Point) -> Result<u32, Refusal>
+    ensures { labelled_of result ≡ read_point bits (point p.x p.y) }
 {
-    if bits < 1 {
-        return Labelled::Refused(Refusal::Label);
+    if bits < 1 || 15 < bits {
+        return Err(Refusal::Label);
     }
-    if 15 < bits {
-        return Labelled::Refused(Refusal::Label);
-    }
-    let found = plain_label(bits, Point { x, y });
-    match found {
-        Found::At(label) => Labelled::Label(label as u32),
-        Found::Nothing => Labelled::Refused(Refusal::Offgrid(Place(0))),
-    }
+    plain_label(bits, p).ok_or(Refusal::Offgrid(Place(0)))
 }

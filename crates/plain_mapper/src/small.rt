@@ -5,15 +5,10 @@ ghost use Rattle.g9932.specs.Sizes.{point, origin};
 ghost use Rattle.g9932.specs.Points.{one_points, even_point, three_points, table10_3, odd_point};
 ghost use Rattle.g9932.specs.Plain.{smallest as is_smallest, small_point};
 
-// A point, in a constellation or not.
-#[derive(Clone, Copy)]
-pub struct Point {
-    pub x: i16,
-    pub y: i16,
-}
+use g9932::Point;
 
 // b = 1: 0 is (1, 1), 1 is (-1, -1).
-fn one_bit(label: usize) -> Point
+fn one_bit(label: u32) -> Point
     requires { label < 2 }
     ensures { point result.x result.y ≡ get_or one_points label origin }
 {
@@ -24,7 +19,7 @@ fn one_bit(label: usize) -> Point
 }
 
 // b = 2: X is (v1 1), Y is (v0 1).
-fn two_bits(label: usize) -> Point
+fn two_bits(label: u32) -> Point
     requires { label < 4 }
     ensures { point result.x result.y ≡ even_point (lowest_bits 2 label) }
 {
@@ -37,7 +32,7 @@ fn two_bits(label: usize) -> Point
 }
 
 // b = 3, labels 0 to 7.
-fn three_bits(label: usize) -> Point
+fn three_bits(label: u32) -> Point
     requires { label < 8 }
     ensures { point result.x result.y ≡ get_or three_points label origin }
 {
@@ -54,7 +49,7 @@ fn three_bits(label: usize) -> Point
 }
 
 // Table 10-3: Xc Xd Yc Yd by the label of five bits.
-fn table_10_3(label: usize) -> u16
+fn table_10_3(label: u32) -> u16
     requires { label < 32 }
     ensures { result ≡ get_or table10_3 label 0 }
 {
@@ -83,7 +78,7 @@ fn coordinate(c: u16, d: u16, v: u16) -> i16
 }
 
 // b = 5: X is (Xc Xd v1 1), Y is (Yc Yd v0 1).
-fn five_bits(label: usize) -> Point
+fn five_bits(label: u32) -> Point
     requires { label < 32 }
     ensures { point result.x result.y ≡ odd_point 5 (lowest_bits 5 label) }
 {
@@ -99,14 +94,11 @@ fn five_bits(label: usize) -> Point
 pub fn smallest(b: u8) -> bool
     ensures { result ≡ is_smallest b }
 {
-    match b {
-        1 | 2 | 3 | 5 => true,
-        _ => false,
-    }
+    matches!(b, 1 | 2 | 3 | 5)
 }
 
 // The point of a label of the smallest constellations. Called by proved code only.
-pub fn small_point(b: u8, label: usize) -> Point
+pub fn small_point(b: u8, label: u32) -> Point
     requires { (is_smallest b ≡ true) × (label < 2 ^ b) }
     ensures { point result.x result.y ≡ small_point b label }
 {

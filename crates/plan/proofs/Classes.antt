@@ -5,7 +5,7 @@ use mathlib.Core.List.{List, [], ◌∷◌, ◌++◌, map}
 use mathlib.Core.Path.{◌≡◌, refl, sym, ap, ap₂, ◌∙◌}
 use native.Mathlib.Omega.{arith}
 use borrow.Author.Tests.{leb-true}
-use lib.ListN.{length, take, get_or, replicate}
+use lib.ListN.{length, get_or, replicate}
 use Rattle.g9932.specs.Order.{cons_if, filter, reordered_tones}
 use Rattle.g9932.specs.Sizes.{Tables, entry}
 use Rattle.g9932.specs.Symbol.{load, classes_by, classes_of}
@@ -14,7 +14,7 @@ use Rattle.g9932.specs.declared.Class.TheVariants.{Data, Monitored, Silent}
 use Rattle.plan.specs.Classes.{PlanOf}
 use Rattle.plan.specs.Plan.{ClassBits, least_own, every_second, PlanIs, is_placed}
 use Rattle.tables.specs.Modes.{sharing}
-use Rattle.plan.specs.declared.PlanSizes.{PlanSizes}
+use Rattle.plan.specs.declared.Plan.{Plan}
 use Rattle.plan.proofs.Steps.{class_bits}
 use Rattle.plan.proofs.Whole.{least_own_lem, classes_plan, placed_count, plan_entries, plan_places}
 
@@ -40,9 +40,8 @@ classes_bits b g [] most k h = absurd (omega arith)
 classes_bits b g (a ∷ t) most zero h = class_bits (entry b a) (entry g a) (most a)
 classes_bits b g (a ∷ t) most (suc k) h = classes_bits b g t most k (omega arith)
 
-pub plan_of : (T : Tables) (p : PlanSizes) {layouts entries places drawing : List ℕ} → ((k : ℕ) → entry T.bits k ≤ 15) → sharing T.mode T.bits T.tones % 2 ≡ 0
-    → PlanIs T p layouts entries places drawing
-    → PlanOf (classes_of T) p.shared_from.0 (take p.entry_count entries) (take p.entry_count places) (take p.drawing_count drawing) (take (length T.tones) layouts)
+pub plan_of : (T : Tables) (p : Plan) → ((k : ℕ) → entry T.bits k ≤ 15) → sharing T.mode T.bits T.tones % 2 ≡ 0 → PlanIs T p
+    → PlanOf (classes_of T) p.shared_from.0 p.entries.bits.now p.entries.places.now p.drawing.now p.layouts.now
 plan_of T p most even is =
     let m = T.mode in
     let b = T.bits in

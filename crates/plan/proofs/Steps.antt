@@ -18,7 +18,8 @@ use Rattle.g9932.specs.Sizes.{entry, tone_of, class_by}
 use Rattle.g9932.specs.Symbol.{load, class_at, classes_by}
 use Rattle.g9932.specs.declared.Class.TheVariants.{Data, Monitored, Silent}
 use Rattle.g9932.specs.declared.Class.{Class}
-use Rattle.plan.specs.Plan.{ClassBits, is_drawing, is_placed, places_where, every_second, FilesEmpty, FilesTone, Filing, Shares}
+use Rattle.plan.specs.Plan.{ClassBits, is_drawing, is_placed, places_where, every_second, FilesEmpty, FilesTone, Filing, Shares, room}
+use Rattle.plan.specs.declared.Room.{Room}
 use Rattle.plan.specs.declared.filing.Cursors.{Cursors}
 
 -- the class of a tone, by its bits
@@ -58,40 +59,39 @@ draws_placed least (Data b) e = let z : ◌≡◌ {A = ℕ} 0 1 = cc in absurd (
 draws_placed least Monitored e = (refl, refl)
 draws_placed least Silent e = (refl, refl)
 
-module _ (least : ℕ) (at : Cursors) (layouts entries places drawing : List ℕ) where
-  pub files_data : (b x : ℕ) → leb least b ≡ true → x ≡ class_layout (Data b) → at.place.0 < length layouts → at.entry < length entries → at.entry < length places
-      → FilesTone least (Data b) at layouts entries places drawing (record { place = record { 0 = at.place.0 + 1 }; entry = at.entry + 1; drawing = at.drawing })
-      (set layouts at.place.0 x) (set entries at.entry b) (set places at.entry at.place.0) drawing
+module _ (least : ℕ) (at : Cursors) (all : Room) where
+  pub files_data : (b x : ℕ) → leb least b ≡ true → x ≡ class_layout (Data b) → at.place.0 < length all.layouts → at.entry < length all.entries → at.entry < length all.places
+      → FilesTone least (Data b) at all (record { place = record { 0 = at.place.0 + 1 }; entry = at.entry + 1; drawing = at.drawing })
+      (room (set all.layouts at.place.0 x) (set all.entries at.entry b) (set all.places at.entry at.place.0) all.drawing)
   unfolding weight
   files_data b x own is lt et pt =
       record {
         place_is = rw own;
         entry_is = rw own;
         drawing_is = omega arith;
-        layouts_are = rw (own, is) (more layouts at.place.0 (class_layout (Data b)) lt);
-        entries_are = rw own (more entries at.entry b et);
-        places_are = rw own (more places at.entry at.place.0 pt);
-        drawing_are = no_more drawing at.drawing;
+        layouts_are = rw (own, is) (more all.layouts at.place.0 (class_layout (Data b)) lt);
+        entries_are = rw own (more all.entries at.entry b et);
+        places_are = rw own (more all.places at.entry at.place.0 pt);
+        drawing_are = no_more all.drawing at.drawing;
       }
 
   -- a tone that shares
-  pub files_none : (b : ℕ) → leb least b ≡ false → FilesTone least (Data b) at layouts entries places drawing at layouts entries places drawing
+  pub files_none : (b : ℕ) → leb least b ≡ false → FilesTone least (Data b) at all at all
   unfolding weight
   files_none b not =
       record {
         place_is = rw not (omega arith);
         entry_is = rw not (omega arith);
         drawing_is = omega arith;
-        layouts_are = rw not (no_more layouts at.place.0);
-        entries_are = rw not (no_more entries at.entry);
-        places_are = rw not (no_more places at.entry);
-        drawing_are = no_more drawing at.drawing;
+        layouts_are = rw not (no_more all.layouts at.place.0);
+        entries_are = rw not (no_more all.entries at.entry);
+        places_are = rw not (no_more all.places at.entry);
+        drawing_are = no_more all.drawing at.drawing;
       }
 
   -- a tone without data
-  pub files_empty : (c : Class) → is_drawing c ≡ true → leb least 0 ≡ false → (x : ℕ) → x ≡ class_layout c → at.place.0 < length layouts → at.drawing < length drawing
-      → {r : Cursors} {layouts_after drawing_after : List ℕ} → FilesEmpty x at layouts drawing r layouts_after drawing_after
-      → FilesTone least c at layouts entries places drawing r layouts_after entries places drawing_after
+  pub files_empty : (c : Class) → is_drawing c ≡ true → leb least 0 ≡ false → (x : ℕ) → x ≡ class_layout c → at.place.0 < length all.layouts → at.drawing < length all.drawing
+      → {r : Cursors} {after : Room} → FilesEmpty x at all r after → FilesTone least c at all r after
   unfolding weight
   files_empty c empty not x is lt dt f =
       let z = draws_placed least c empty in
@@ -99,19 +99,19 @@ module _ (least : ℕ) (at : Cursors) (layouts entries places drawing : List ℕ
         place_is = rw z.1 f.place_is;
         entry_is = rw (z.0, not) (f.entry_is ∙ omega arith);
         drawing_is = rw empty f.drawing_is;
-        layouts_are = rw (z.1, f.place_is, f.layouts_are, is) (more layouts at.place.0 (class_layout c) lt);
-        entries_are = rw (z.0, not, f.entry_is) (no_more entries at.entry);
-        places_are = rw (z.0, not, f.entry_is) (no_more places at.entry);
-        drawing_are = rw (empty, f.drawing_is, f.drawing_are) (more drawing at.drawing at.place.0 dt);
+        layouts_are = rw (z.1, f.place_is, f.room_is, is) (more all.layouts at.place.0 (class_layout c) lt);
+        entries_are = rw (z.0, not, f.entry_is, f.room_is) (no_more all.entries at.entry);
+        places_are = rw (z.0, not, f.entry_is, f.room_is) (no_more all.places at.entry);
+        drawing_are = rw (empty, f.drawing_is, f.room_is) (more all.drawing at.drawing at.place.0 dt);
       }
 
 -- ---- a tone more
 
-module _ (least : ℕ) (cs : List Class) {at r : Cursors} {layouts entries places drawing layouts_after entries_after places_after drawing_after : List ℕ} (c : Class)
-    (f : Filing least cs at layouts entries places drawing)
-    (w : FilesTone least c at layouts entries places drawing r layouts_after entries_after places_after drawing_after) where
+module _ (least : ℕ) (cs : List Class) {at r : Cursors} {before after : Room} (c : Class)
+    (f : Filing least cs at before)
+    (w : FilesTone least c at before r after) where
   -- at a place of its own
-  placed : is_placed least c ≡ true → Filing least (cs ++ (c ∷ [])) r layouts_after entries_after places_after drawing_after
+  placed : is_placed least c ≡ true → Filing least (cs ++ (c ∷ [])) r after
   unfolding weight
   placed here =
       let one : r.place.0 ≡ at.place.0 + 1 = w.place_is ∙ ap (λ (b : Bool). at.place.0 + weight b) here in
@@ -143,7 +143,7 @@ module _ (least : ℕ) (cs : List Class) {at r : Cursors} {layouts entries place
   passed Monitored e = let z : ◌≡◌ {A = ℕ} 0 1 = cc in absurd (omega arith)
   passed Silent e = let z : ◌≡◌ {A = ℕ} 0 1 = cc in absurd (omega arith)
 
-  skipped : is_placed least c ≡ false → Filing least cs r layouts_after entries_after places_after drawing_after
+  skipped : is_placed least c ≡ false → Filing least cs r after
   unfolding weight
   skipped not =
       let q = passed c not in
@@ -152,18 +152,18 @@ module _ (least : ℕ) (cs : List Class) {at r : Cursors} {layouts entries place
       let d : r.drawing ≡ at.drawing + 0 = w.drawing_is ∙ ap (λ (b : Bool). at.drawing + weight b) q.1 in
       record {
         place_is = omega (arith, f.place_is);
-        layouts_are = w.layouts_are ∙ rw not (append-nil (take at.place.0 layouts)) ∙ f.layouts_are;
-        entries_are = w.entries_are ∙ rw q.0 (append-nil (take at.entry entries)) ∙ f.entries_are;
-        places_are = w.places_are ∙ rw q.0 (append-nil (take at.entry places)) ∙ f.places_are;
-        drawing_are = w.drawing_are ∙ rw q.1 (append-nil (take at.drawing drawing)) ∙ f.drawing_are;
+        layouts_are = w.layouts_are ∙ rw not (append-nil (take at.place.0 before.layouts)) ∙ f.layouts_are;
+        entries_are = w.entries_are ∙ rw q.0 (append-nil (take at.entry before.entries)) ∙ f.entries_are;
+        places_are = w.places_are ∙ rw q.0 (append-nil (take at.entry before.places)) ∙ f.places_are;
+        drawing_are = w.drawing_are ∙ rw q.1 (append-nil (take at.drawing before.drawing)) ∙ f.drawing_are;
         entry_most = omega (arith, f.entry_most);
         drawing_most = omega (arith, f.drawing_most);
       }
 
-  pub tone_more : Filing least (cs ++ filter (is_placed least) (c ∷ [])) r layouts_after entries_after places_after drawing_after
+  pub tone_more : Filing least (cs ++ filter (is_placed least) (c ∷ [])) r after
   tone_more = go (is_placed least c) refl
     where
-      go : (b : Bool) → is_placed least c ≡ b → Filing least (cs ++ cons_if b c []) r layouts_after entries_after places_after drawing_after
+      go : (b : Bool) → is_placed least c ≡ b → Filing least (cs ++ cons_if b c []) r after
       go true e = placed e
       go false e = rw (append-nil cs) (skipped e)
 
@@ -194,41 +194,43 @@ second_more p (suc h) =
     let e : p + 2 * suc h ≡ suc (suc p) + 2 * h = omega arith in
     ap (λ (l : List ℕ). p ∷ l) (ap (λ (n : ℕ). every_second (suc (suc p)) h ++ (n ∷ [])) e ∙ second_more (suc (suc p)) h)
 
-module _ {layout from h at : ℕ} {layouts₀ entries₀ places₀ layouts entries places : List ℕ} (s : Shares layout from h at layouts₀ entries₀ places₀ layouts entries places) where
-  pub share_more : from + 2 * h + 1 < length layouts → at + h < length entries → at + h < length places
-      → Shares layout from (h + 1) at layouts₀ entries₀ places₀ (set (set layouts (from + 2 * h) layout) (from + 2 * h + 1) layout) (set entries (at + h) 2) (set places (at + h) (from + 2 * h))
+module _ {layout from h at : ℕ} {before all : Room} (s : Shares layout from h at before all) where
+  pub share_more : from + 2 * h + 1 < length all.layouts → at + h < length all.entries → at + h < length all.places
+      → Shares layout from (h + 1) at before (room (set (set all.layouts (from + 2 * h) layout) (from + 2 * h + 1) layout) (set all.entries (at + h) 2) (set all.places (at + h) (from + 2 * h)) all.drawing)
   share_more lt et pt =
       let two : from + 2 * (h + 1) ≡ from + 2 * h + 1 + 1 = omega arith in
       let n : at + (h + 1) ≡ at + h + 1 = omega arith in
       let r : 2 * (h + 1) ≡ suc (suc (2 * h)) = omega arith in
-      let k = length-set layouts (from + 2 * h) layout in
+      let k = length-set all.layouts (from + 2 * h) layout in
       record {
         layouts_are =
             rw (two, r)
-            (more (set layouts (from + 2 * h) layout) (from + 2 * h + 1) layout (omega arith)
-            ∙ ap (λ (l : List ℕ). l ++ (layout ∷ [])) (more layouts (from + 2 * h) layout (omega arith) ∙ ap (λ (l : List ℕ). l ++ (layout ∷ [])) s.layouts_are ∙ append_assoc (take from layouts₀) (replicate (2 * h) layout) (layout ∷ []) ∙ ap (λ (l : List ℕ). take from layouts₀ ++ l) (replicate_more (2 * h) layout))
-            ∙ append_assoc (take from layouts₀) (replicate (suc (2 * h)) layout) (layout ∷ [])
-            ∙ ap (λ (l : List ℕ). take from layouts₀ ++ l) (replicate_more (suc (2 * h)) layout));
+            (more (set all.layouts (from + 2 * h) layout) (from + 2 * h + 1) layout (omega arith)
+            ∙ ap (λ (l : List ℕ). l ++ (layout ∷ [])) (more all.layouts (from + 2 * h) layout (omega arith) ∙ ap (λ (l : List ℕ). l ++ (layout ∷ [])) s.layouts_are ∙ append_assoc (take from before.layouts) (replicate (2 * h) layout) (layout ∷ []) ∙ ap (λ (l : List ℕ). take from before.layouts ++ l) (replicate_more (2 * h) layout))
+            ∙ append_assoc (take from before.layouts) (replicate (suc (2 * h)) layout) (layout ∷ [])
+            ∙ ap (λ (l : List ℕ). take from before.layouts ++ l) (replicate_more (suc (2 * h)) layout));
         entries_are =
             rw (n, add-one h)
-            (more entries (at + h) 2 et
+            (more all.entries (at + h) 2 et
             ∙ ap (λ (l : List ℕ). l ++ (2 ∷ [])) s.entries_are
-            ∙ append_assoc (take at entries₀) (replicate h 2) (2 ∷ [])
-            ∙ ap (λ (l : List ℕ). take at entries₀ ++ l) (replicate_more h 2));
+            ∙ append_assoc (take at before.entries) (replicate h 2) (2 ∷ [])
+            ∙ ap (λ (l : List ℕ). take at before.entries ++ l) (replicate_more h 2));
         places_are =
             rw (n, add-one h)
-            (more places (at + h) (from + 2 * h) pt
+            (more all.places (at + h) (from + 2 * h) pt
             ∙ ap (λ (l : List ℕ). l ++ ((from + 2 * h) ∷ [])) s.places_are
-            ∙ append_assoc (take at places₀) (every_second from h) ((from + 2 * h) ∷ [])
-            ∙ ap (λ (l : List ℕ). take at places₀ ++ l) (second_more from h));
+            ∙ append_assoc (take at before.places) (every_second from h) ((from + 2 * h) ∷ [])
+            ∙ ap (λ (l : List ℕ). take at before.places ++ l) (second_more from h));
+        drawing_is = s.drawing_is;
       }
 
-pub share_none : {layout from at : ℕ} {layouts entries places : List ℕ} → Shares layout from 0 at layouts entries places layouts entries places
-share_none {from = from} {at = at} {layouts = layouts} {entries = entries} {places = places} =
+pub share_none : {layout from at : ℕ} {all : Room} → Shares layout from 0 at all all
+share_none {from = from} {at = at} {all = all} =
     let e : from + 0 ≡ from = omega arith in
     let n : at + 0 ≡ at = omega arith in
     record {
-      layouts_are = rw e (sym (append-nil (take from layouts)));
-      entries_are = rw n (sym (append-nil (take at entries)));
-      places_are = rw n (sym (append-nil (take at places)));
+      layouts_are = rw e (sym (append-nil (take from all.layouts)));
+      entries_are = rw n (sym (append-nil (take at all.entries)));
+      places_are = rw n (sym (append-nil (take at all.places)));
+      drawing_is = refl;
     }

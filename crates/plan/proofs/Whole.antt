@@ -13,13 +13,16 @@ use Rattle.g9932.proofs.Reordering.{length_order}
 use Rattle.g9932.proofs.Sent.{single_classes}
 use Rattle.g9932.specs.Order.{cons_if, filter, is_one, one_bit, others, singles, ones, reordered_tones}
 use Rattle.g9932.specs.Sizes.{tables, entry, tone_of, class_by}
-use Rattle.g9932.specs.Symbol.{load, class_at, classes_by}
+use Rattle.g9932.specs.Symbol.{load, class_at, classes_by, size_of}
 use Rattle.g9932.specs.declared.Class.{Class}
 use Rattle.g9932.specs.declared.Class.TheVariants.{Data, Monitored, Silent}
 use Rattle.g9932.specs.declared.Mode.{Mode}
 use Rattle.g9932.specs.declared.Mode.TheVariants.{Uncoded, Coded}
 use Rattle.plan.specs.Plan.{least_own, is_drawing, places_where, every_second, shared_from, PlanIs, is_placed, Filing, Shares}
 use Rattle.tables.specs.Modes.{sharing}
+use Rattle.g9932.specs.declared.Place.{Place}
+use Rattle.plan.specs.declared.Plan.{Plan}
+use Rattle.plan.specs.declared.Room.{Room}
 use Rattle.plan.specs.declared.filing.Cursors.{Cursors}
 use Rattle.plan.proofs.Steps.{places_append}
 
@@ -69,6 +72,12 @@ classes_plan Coded b g t =
 places_tail : {A : Type 0} (p : A → Bool) (a : A) → p a ≡ false → (n i : ℕ) → places_where p i (replicate n a) ≡ []
 places_tail p a e zero i = refl
 places_tail p a e (suc n) i = rw e (places_tail p a e n (suc i))
+
+-- a front is no longer than it was asked to be
+length_take_most : {A : Type 0} (n : ℕ) (l : List A) → length (take n l) ≤ n
+length_take_most zero l = omega arith
+length_take_most (suc n) [] = omega arith
+length_take_most (suc n) (a ∷ l) = let e = length_take_most n l in omega arith
 
 module _ (m : Mode) (b g t : List ℕ) where
   abbrev cs : List Class
@@ -120,23 +129,25 @@ module _ (m : Mode) (b g t : List ℕ) where
       ∙ rw (places_tail is_drawing (Data 1) refl (sharing m b t) (0 + length cs)) (append-nil (places_where is_drawing 0 cs))
 
   -- the lists as filed, with the shared entries behind them
-  pub plan_is : (sharers size : ℕ) (at : Cursors) (layouts entries places drawing layouts_after entries_after places_after : List ℕ)
-      → sharers ≡ sharing m b t → sharers % 2 ≡ 0 → Filing (least_own m) cs at layouts entries places drawing
-      → Shares (layout_of 1) at.place.0 (sharers / 2) at.entry layouts entries places layouts_after entries_after places_after
-      → PlanIs (tables m b g t) (record { size = size; entry_count = at.entry + sharers / 2; shared_from = at.place; drawing_count = at.drawing }) layouts_after entries_after places_after drawing
-  plan_is sharers size at layouts entries places drawing layouts_after entries_after places_after o even f s =
+  pub plan_is : (sharers : ℕ) (at : Cursors) (filed shared : Room) (p : Plan)
+      → sharers ≡ sharing m b t → sharers % 2 ≡ 0 → Filing (least_own m) cs at filed → Shares (layout_of 1) at.place.0 (sharers / 2) at.entry filed shared
+      → p.mode ≡ m → p.size ≡ size_of (tables m b g t) → p.shared_from ≡ at.place → p.layouts.now ≡ take (length t) shared.layouts → p.entries.bits.now ≡ take (at.entry + sharers / 2) shared.entries
+      → p.entries.places.now ≡ take (at.entry + sharers / 2) shared.places → p.drawing.now ≡ take at.drawing shared.drawing
+      → PlanIs (tables m b g t) p
+  plan_is sharers at filed shared p o even f s mode_is size_is at_is layouts_is entries_is places_is drawing_is =
       let n = placed_count in
       let two : 2 * (sharers / 2) ≡ sharing m b t = omega arith in
       let all : at.place.0 + 2 * (sharers / 2) ≡ length t = omega (arith, f.place_is) in
       let from : at.place.0 ≡ shared_from (tables m b g t) = omega (arith, f.place_is) in
       record {
-        layouts_are = ap (λ (n : ℕ). take n layouts_after) (sym all) ∙ s.layouts_are ∙ ap₂ (λ (k l : List ℕ). k ++ l) f.layouts_are (ap (λ (n : ℕ). replicate n (layout_of 1)) two) ∙ sym plan_layouts;
-        shared_is = from;
-        entries_are = s.entries_are ∙ ap₂ (λ (k l : List ℕ). k ++ l) (f.entries_are ∙ sym plan_entries) (ap (λ (n : ℕ). replicate (n / 2) 2) o);
-        places_are = s.places_are ∙ ap₂ (λ (k l : List ℕ). k ++ l) (f.places_are ∙ sym plan_places) (ap₂ (λ (p n : ℕ). every_second p (n / 2)) from o);
-        drawing_are = f.drawing_are ∙ sym plan_drawing;
-        entries_most = omega (arith, f.entry_most, f.place_is);
-        drawing_most = omega (arith, f.drawing_most, f.place_is);
+        mode_is = mode_is;
+        size_is = size_is;
+        layouts_are = layouts_is ∙ ap (λ (n : ℕ). take n shared.layouts) (sym all) ∙ s.layouts_are ∙ ap₂ (λ (k l : List ℕ). k ++ l) f.layouts_are (ap (λ (n : ℕ). replicate n (layout_of 1)) two) ∙ sym plan_layouts;
+        shared_is = ap (λ (p : Place). p.0) at_is ∙ from;
+        entries_are = entries_is ∙ s.entries_are ∙ ap₂ (λ (k l : List ℕ). k ++ l) (f.entries_are ∙ sym plan_entries) (ap (λ (n : ℕ). replicate (n / 2) 2) o);
+        places_are = places_is ∙ s.places_are ∙ ap₂ (λ (k l : List ℕ). k ++ l) (f.places_are ∙ sym plan_places) (ap₂ (λ (p n : ℕ). every_second p (n / 2)) from o);
+        drawing_are = drawing_is ∙ ap (take at.drawing) s.drawing_is ∙ f.drawing_are ∙ sym plan_drawing;
+        entries_most = rw entries_is (omega (arith, f.entry_most, f.place_is, length_take_most (at.entry + sharers / 2) shared.entries));
       }
 
 pub least_own_lem : (m : Mode) → 1 ≤ least_own m

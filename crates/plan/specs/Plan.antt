@@ -1,21 +1,22 @@
 -- The plan of a symbol: what its passes need of the tables, by place in t' and by entry of b'.
-use Rattle.std.specs.Prelude.{ℕ, zero, suc, ◌+◌, ◌-◌, ◌*◌, ◌/◌, ◌%◌, ◌≤◌, ◌<◌, Bool, true, List, [], ◌∷◌, ◌++◌, map, ◌≡◌, ltb, leb, length, take, set, replicate}
+use Rattle.std.specs.Prelude.{ℕ, zero, suc, ◌+◌, ◌-◌, ◌*◌, ◌/◌, ◌%◌, ◌≤◌, ◌<◌, Bool, true, List, [], ◌∷◌, ◌++◌, map, ◌≡◌, ltb, leb, length, take, set, replicate, Result, Ok, Err}
 use Rattle.constellation.specs.Layouts.{class_layout}
 use Rattle.g9932.specs.Bits.{weight}
 use Rattle.g9932.specs.Filler.{draws}
 use Rattle.g9932.specs.Order.{cons_if, filter}
 use Rattle.g9932.specs.Refusals.{number_of, place_of, Verdict, refused, accepted, table_verdict}
-use Rattle.g9932.specs.Sizes.{Tables, entry, most_tones}
-use Rattle.g9932.specs.Symbol.{load, classes_of}
+use Rattle.g9932.specs.Sizes.{Tables, tables, entry, most_tones}
+use Rattle.g9932.specs.Symbol.{load, classes_of, size_of}
 use Rattle.g9932.specs.declared.Class.{Class}
 use Rattle.g9932.specs.declared.Class.TheVariants.{Data, Monitored, Silent}
 use Rattle.g9932.specs.declared.Mode.{Mode}
 use Rattle.g9932.specs.declared.Mode.TheVariants.{Uncoded, Coded}
 use Rattle.tables.specs.Checks.{Below}
 pub use Rattle.tables.specs.Modes.{sharing}
-use Rattle.plan.specs.declared.Planned.{Planned}
-use Rattle.plan.specs.declared.Planned.TheVariants.{Lists, Refused}
-use Rattle.plan.specs.declared.PlanSizes.{PlanSizes}
+use Rattle.g9932.specs.declared.Refusal.{Refusal}
+use Rattle.tables.specs.declared.sizes.FrameSize.{FrameSize}
+use Rattle.plan.specs.declared.Plan.{Plan}
+use Rattle.plan.specs.declared.Room.{Room}
 use Rattle.plan.specs.declared.filing.Cursors.{Cursors}
 
 -- ---- the plan of accepted tables
@@ -59,45 +60,48 @@ drawing_in T = places_where is_drawing 0 (classes_of T)
 
 -- ---- what planning answers
 
-abbrev pub planned_verdict : Planned → Verdict
-planned_verdict (Lists p) = accepted p.size
-planned_verdict (Refused x) = refused (number_of x) (place_of x)
+abbrev pub planned_verdict : Result Plan Refusal → Verdict
+planned_verdict (Ok p) = accepted p.size
+planned_verdict (Err x) = refused (number_of x) (place_of x)
 
-pub record PlanIs (T : Tables) (p : PlanSizes) (layouts entries places drawing : List ℕ) : Type 0 where
-  pub layouts_are : take (length T.tones) layouts ≡ layouts_in T
+-- the lists of a plan
+pub record PlanIs (T : Tables) (p : Plan) : Type 0 where
+  pub mode_is : p.mode ≡ T.mode
+  pub size_is : p.size ≡ size_of T
+  pub layouts_are : p.layouts.now ≡ layouts_in T
   pub shared_is : p.shared_from.0 ≡ shared_from T
-  pub entries_are : take p.entry_count entries ≡ entries_in T
-  pub places_are : take p.entry_count places ≡ places_in T
-  pub drawing_are : take p.drawing_count drawing ≡ drawing_in T
-  pub entries_most : p.entry_count ≤ length T.tones
-  pub drawing_most : p.drawing_count ≤ length T.tones
+  pub entries_are : p.entries.bits.now ≡ entries_in T
+  pub places_are : p.entries.places.now ≡ places_in T
+  pub drawing_are : p.drawing.now ≡ drawing_in T
+  pub entries_most : length p.entries.bits.now ≤ length T.tones
 
-abbrev pub Made : Tables → Planned → List ℕ → List ℕ → List ℕ → List ℕ → Type 0
-Made T (Lists p) layouts entries places drawing = PlanIs T p layouts entries places drawing
-Made T (Refused x) layouts entries places drawing = Unit {0}
+abbrev pub Made : Tables → Result Plan Refusal → Type 0
+Made T (Ok p) = PlanIs T p
+Made T (Err x) = Unit {0}
 
--- the answer, and where nothing is refused the four lists
-pub record Plans (T : Tables) (r : Planned) (layouts entries places drawing : List ℕ) : Type 0 where
+-- the answer, and where nothing is refused the plan
+pub record Plans (T : Tables) (r : Result Plan Refusal) : Type 0 where
   pub answer : planned_verdict r ≡ table_verdict T
-  pub made : Made T r layouts entries places drawing
+  pub made : Made T r
 
 -- ---- filing the tones
 
--- the four lists, in arrays long enough for any tables
-pub record Arrays (layouts entries places drawing : List ℕ) : Type 0 where
-  pub layouts_length : length layouts ≡ most_tones
-  pub entries_length : length entries ≡ most_tones
-  pub places_length : length places ≡ most_tones
-  pub drawing_length : length drawing ≡ most_tones
+-- the four lists of a room
+abbrev pub room : List ℕ → List ℕ → List ℕ → List ℕ → Room
+room layouts entries places drawing = record { layouts = layouts; entries = entries; places = places; drawing = drawing }
 
-pub record PlanNeeds (m : Mode) (sharers : ℕ) (b g t layouts entries places drawing : List ℕ) : Type 0 where
-  pub arrays : Arrays layouts entries places drawing
+-- no list stands in it yet
+abbrev pub empty_room : Room
+empty_room = room (replicate most_tones 0) (replicate most_tones 0) (replicate most_tones 0) (replicate most_tones 0)
+
+pub record PlanNeeds (m : Mode) (frame : FrameSize) (b g t : List ℕ) : Type 0 where
+  pub size_is : frame.size ≡ size_of (tables m b g t)
   pub below : Below (length b) t
   pub bits_most : (k : ℕ) → entry b k ≤ 15
   pub gains : length g ≡ length b
   pub most : length t ≤ most_tones
-  pub sharers_are : sharers ≡ sharing m b t
-  pub even : sharers % 2 ≡ 0
+  pub sharers_are : frame.sharers ≡ sharing m b t
+  pub even : frame.sharers % 2 ≡ 0
 
 -- a class that a tone of accepted tables has: 1 to 15 bits where it has data
 abbrev pub ClassBits : Class → Type 0
@@ -112,22 +116,18 @@ is_placed least Monitored = true
 is_placed least Silent = true
 
 -- a tone without data: its place fits two of the lists, and goes into both
-pub record EmptyNeeds (at : Cursors) (layouts drawing : List ℕ) : Type 0 where
-  pub layouts_length : length layouts ≡ most_tones
-  pub drawing_length : length drawing ≡ most_tones
+pub record EmptyNeeds (at : Cursors) : Type 0 where
   pub place_most : at.place.0 < most_tones
   pub drawing_most : at.drawing ≤ at.place.0
 
-pub record FilesEmpty (layout : ℕ) (at : Cursors) (layouts drawing : List ℕ) (r : Cursors) (layouts_after drawing_after : List ℕ) : Type 0 where
+pub record FilesEmpty (layout : ℕ) (at : Cursors) (before : Room) (r : Cursors) (after : Room) : Type 0 where
   pub place_is : r.place.0 ≡ at.place.0 + 1
   pub entry_is : r.entry ≡ at.entry
   pub drawing_is : r.drawing ≡ at.drawing + 1
-  pub layouts_are : layouts_after ≡ set layouts at.place.0 layout
-  pub drawing_are : drawing_after ≡ set drawing at.drawing at.place.0
+  pub room_is : after ≡ room (set before.layouts at.place.0 layout) before.entries before.places (set before.drawing at.drawing at.place.0)
 
 -- what filing one tone asks: it fits the lists
-pub record ToneNeeds (c : Class) (least : ℕ) (at : Cursors) (layouts entries places drawing : List ℕ) : Type 0 where
-  pub arrays : Arrays layouts entries places drawing
+pub record ToneNeeds (c : Class) (least : ℕ) (at : Cursors) : Type 0 where
   pub carries : ClassBits c
   pub least_is : 1 ≤ least
   pub place_most : at.place.0 < most_tones
@@ -135,28 +135,26 @@ pub record ToneNeeds (c : Class) (least : ℕ) (at : Cursors) (layouts entries p
   pub drawing_most : at.drawing ≤ at.place.0
 
 -- what one tone adds to the lists, up to the cursors
-pub record FilesTone (least : ℕ) (c : Class) (at : Cursors) (layouts entries places drawing : List ℕ)
-    (r : Cursors) (layouts_after entries_after places_after drawing_after : List ℕ) : Type 0 where
+pub record FilesTone (least : ℕ) (c : Class) (at : Cursors) (before : Room) (r : Cursors) (after : Room) : Type 0 where
   pub place_is : r.place.0 ≡ at.place.0 + weight (is_placed least c)
   pub entry_is : r.entry ≡ at.entry + weight (leb least (load c))
   pub drawing_is : r.drawing ≡ at.drawing + weight (is_drawing c)
-  pub layouts_are : take r.place.0 layouts_after ≡ take at.place.0 layouts ++ cons_if (is_placed least c) (class_layout c) []
-  pub entries_are : take r.entry entries_after ≡ take at.entry entries ++ cons_if (leb least (load c)) (load c) []
-  pub places_are : take r.entry places_after ≡ take at.entry places ++ cons_if (leb least (load c)) at.place.0 []
-  pub drawing_are : take r.drawing drawing_after ≡ take at.drawing drawing ++ cons_if (is_drawing c) at.place.0 []
+  pub layouts_are : take r.place.0 after.layouts ≡ take at.place.0 before.layouts ++ cons_if (is_placed least c) (class_layout c) []
+  pub entries_are : take r.entry after.entries ≡ take at.entry before.entries ++ cons_if (leb least (load c)) (load c) []
+  pub places_are : take r.entry after.places ≡ take at.entry before.places ++ cons_if (leb least (load c)) at.place.0 []
+  pub drawing_are : take r.drawing after.drawing ≡ take at.drawing before.drawing ++ cons_if (is_drawing c) at.place.0 []
 
 -- the lists of classes in the order of their places, up to the cursors
-pub record Filing (least : ℕ) (cs : List Class) (at : Cursors) (layouts entries places drawing : List ℕ) : Type 0 where
+pub record Filing (least : ℕ) (cs : List Class) (at : Cursors) (all : Room) : Type 0 where
   pub place_is : at.place.0 ≡ length cs
-  pub layouts_are : take at.place.0 layouts ≡ map class_layout cs
-  pub entries_are : take at.entry entries ≡ filter (leb least) (map load cs)
-  pub places_are : take at.entry places ≡ places_where (leb least) 0 (map load cs)
-  pub drawing_are : take at.drawing drawing ≡ places_where is_drawing 0 cs
+  pub layouts_are : take at.place.0 all.layouts ≡ map class_layout cs
+  pub entries_are : take at.entry all.entries ≡ filter (leb least) (map load cs)
+  pub places_are : take at.entry all.places ≡ places_where (leb least) 0 (map load cs)
+  pub drawing_are : take at.drawing all.drawing ≡ places_where is_drawing 0 cs
   pub entry_most : at.entry ≤ at.place.0
   pub drawing_most : at.drawing ≤ at.place.0
 
-pub record FileNeeds (least : ℕ) (b g t layouts entries places drawing : List ℕ) : Type 0 where
-  pub arrays : Arrays layouts entries places drawing
+pub record FileNeeds (least : ℕ) (b g t : List ℕ) : Type 0 where
   pub below : Below (length b) t
   pub bits_most : (k : ℕ) → entry b k ≤ 15
   pub gains : length g ≡ length b
@@ -164,14 +162,12 @@ pub record FileNeeds (least : ℕ) (b g t layouts entries places drawing : List 
   pub least_is : 1 ≤ least
 
 -- entries that two tones share, behind the others
-pub record ShareNeeds (h from at : ℕ) (layouts entries places : List ℕ) : Type 0 where
-  pub layouts_length : length layouts ≡ most_tones
-  pub entries_length : length entries ≡ most_tones
-  pub places_length : length places ≡ most_tones
+pub record ShareNeeds (h from at : ℕ) : Type 0 where
   pub most : from + 2 * h ≤ most_tones
   pub at_most : at ≤ from
 
-pub record Shares (layout from h at : ℕ) (layouts entries places layouts_after entries_after places_after : List ℕ) : Type 0 where
-  pub layouts_are : take (from + 2 * h) layouts_after ≡ take from layouts ++ replicate (2 * h) layout
-  pub entries_are : take (at + h) entries_after ≡ take at entries ++ replicate h 2
-  pub places_are : take (at + h) places_after ≡ take at places ++ every_second from h
+pub record Shares (layout from h at : ℕ) (before after : Room) : Type 0 where
+  pub layouts_are : take (from + 2 * h) after.layouts ≡ take from before.layouts ++ replicate (2 * h) layout
+  pub entries_are : take (at + h) after.entries ≡ take at before.entries ++ replicate h 2
+  pub places_are : take (at + h) after.places ≡ take at before.places ++ every_second from h
+  pub drawing_is : after.drawing ≡ before.drawing

@@ -5,26 +5,45 @@
 mod filing;
 
 ghost use Rattle.std.specs.Prelude.{◌≡◌};
-ghost use Rattle.g9932.specs.Sizes.{tables};
-ghost use Rattle.plan.specs.Plan.{least_own, PlanIs, PlanNeeds, Plans, Arrays};
+ghost use Rattle.g9932.specs.Sizes.{tables_of};
+ghost use Rattle.plan.specs.Plan.{least_own, empty_room, PlanIs, PlanNeeds, Plans};
 
-use g9932::{Mode, Place, Refusal};
-use tables::sizes::Sized;
+use filing::{file_tones, share_entries};
+use g9932::{Entries, MOST_TONES, Mode, Place, Refusal, Tables};
+use tables::sizes::{FrameSize, size_tables};
 
-// L, and how far the lists of a plan reach: its entries, the first of the places that share entries, and the places that draw.
-#[derive(Clone, Copy)]
-pub struct PlanSizes {
-    pub size: usize,
-    pub entry_count: usize,
-    pub shared_from: Place,
-    pub drawing_count: usize,
+// Room for the lists of a plan, long enough for any tables.
+#[derive(Drop)]
+pub struct Room {
+    pub layouts: [u16; MOST_TONES],
+    pub entries: [u8; MOST_TONES],
+    pub places: [u16; MOST_TONES],
+    pub drawing: [u16; MOST_TONES],
 }
 
-// The answer of planning.
+// A plan: its mode, L, the layouts by place, the bits and the place of each entry, the first of the places that share entries, and the
+// places that draw.
 #[derive(Clone, Copy)]
-pub enum Planned {
-    Lists(PlanSizes),
-    Refused(Refusal),
+pub struct Plan<'a> {
+    pub mode: Mode,
+    pub size: usize,
+    pub layouts: &'a [u16],
+    pub entries: Entries<'a>,
+    pub shared_from: Place,
+    pub drawing: &'a [u16],
+}
+
+impl Room {
+    pub fn new() -> Self
+        ensures { result ≡ empty_room }
+    {
+        Self {
+            layouts: [0; MOST_TONES],
+            entries: [0; MOST_TONES],
+            places: [0; MOST_TONES],
+            drawing: [0; MOST_TONES],
+        }
+    }
 }
 
 // The bits from which on a tone has an entry of its own.
@@ -37,69 +56,33 @@ fn least_own(mode: Mode) -> u8
     }
 }
 
-// Makes the lists of a plan. Of the tones `sharers` share entries, and L is `size`. Its caller shows that refusals 1 to 8 do not apply.
-fn file_plan(
-    mode: Mode,
-    sharers: usize,
-    size: usize,
-    bits: &[u8],
-    gains: &[u16],
-    tones: &[u16],
-    layouts: &mut [u16],
-    entries: &mut [u8],
-    places: &mut [u16],
-    drawing: &mut [u16],
-) -> PlanSizes
-    requires { PlanNeeds mode sharers bits.now gains.now tones.now layouts.old entries.old places.old drawing.old }
-    ensures { PlanIs (tables mode bits.now gains.now tones.now) result layouts.new entries.new places.new drawing.new × (result.size ≡ size) }
+// Makes the lists of a plan. Its caller shows that refusals 1 to 8 do not apply.
+fn file_plan<'a>(mode: Mode, frame: FrameSize, t: Tables, room: &'a mut Room) -> Plan<'a>
+    requires { PlanNeeds mode frame t.bits.now t.gains.now t.tones.now }
+    ensures { PlanIs (tables_of mode t.entry) result }
 {
     let table = constellation::layout_table();
-    let least = least_own(mode);
-    let at = filing::file_tones(
-        least, bits, gains, tones, &table, layouts, entries, places, drawing,
-    );
-    let shared_from = at.place;
-    let entry = at.entry;
-    filing::share_entries(
-        sharers / 2,
-        shared_from,
-        entry,
-        table[1],
-        layouts,
-        entries,
-        places,
-    );
-    PlanSizes {
-        size,
-        entry_count: entry + sharers / 2,
-        shared_from,
-        drawing_count: at.drawing,
+    let at = file_tones(least_own(mode), t, &table, room);
+    let pairs = frame.sharers / 2;
+    share_entries(pairs, at, table[1], room);
+    let count = at.entry + pairs;
+    Plan {
+        mode,
+        size: frame.size,
+        layouts: &room.layouts[..t.tones.len()],
+        entries: Entries {
+            bits: &room.entries[..count],
+            places: &room.places[..count],
+        },
+        shared_from: at.place,
+        drawing: &room.drawing[..at.drawing],
     }
 }
 
-// Refusals 1 to 8. Where nothing is refused, the plan stands in four lent arrays of 4,096, as far as the answer says. Called by proved
-// code only, which shows their lengths.
-pub fn plan_tables(
-    mode: Mode,
-    bits: &[u8],
-    gains: &[u16],
-    tones: &[u16],
-    layouts: &mut [u16],
-    entries: &mut [u8],
-    places: &mut [u16],
-    drawing: &mut [u16],
-) -> Planned
-    requires { Arrays layouts.old entries.old places.old drawing.old }
-    ensures { Plans (tables mode bits.now gains.now tones.now) result layouts.new entries.new places.new drawing.new }
+// Refusals 1 to 8, or the plan, in the lent room.
+pub fn plan_tables<'a>(mode: Mode, t: Tables, room: &'a mut Room) -> Result<Plan<'a>, Refusal>
+    ensures { Plans (tables_of mode t.entry) result }
 {
-    let s = tables::sizes::size_tables(mode, bits, gains, tones);
-    match s {
-        Sized::Refused(x) => Planned::Refused(x),
-        Sized::Frame { size, sharers, .. } => {
-            let p = file_plan(
-                mode, sharers, size, bits, gains, tones, layouts, entries, places, drawing,
-            );
-            Planned::Lists(p)
-        }
-    }
+    let frame = size_tables(mode, t)?;
+    Ok(file_plan(mode, frame, t, room))
 }

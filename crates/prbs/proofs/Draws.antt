@@ -1,21 +1,21 @@
 -- Draws in numbers: the bit that is fed back, and the two bits of a 0-bit tone.
 use mathlib.Core.Path.{◌≡◌, refl, sym, ap, ap₂, ◌∙◌}
 use Prim.Native.Nat.{ℕ, zero, suc, ◌+◌, ◌-◌, ◌*◌, ◌/◌, ◌%◌, ◌^◌, ◌≤◌, ◌<◌}
-use native.Mathlib.Nat.{pow-zero, pow-suc, mul-zero, mul_comm, mul_assoc, mul-add, div-one, mod-one, add-mul-div_right, add-mul-mod_self_right}
+use native.Mathlib.Nat.{one-mul, mod-lt, pow-zero, pow-suc, mul-zero, mul_comm, mul_assoc, mul-add, div-one, mod-one, add-mul-div_right, add-mul-mod_self_right}
 use native.Mathlib.Numerals.{add-one}
 use native.Mathlib.Omega.{arith}
 use lib.Bits.{bit_xor, differ, xor_step, xor_mod, xor_shr}
-use lib.Pow.{pow_pos, pow-add, shr-shr, mod-pow-add}
+use lib.Pow.{pow_pos, pow-add, shr-shr, shl_exact, mod-pow-add}
 use Rattle.g9932.specs.Bits.{weight, odd, num}
 use Rattle.g9932.specs.Filler.{next_register, draw_of, drawn, after_draws}
 use Rattle.g9932.proofs.Filler.{after_add}
 use Rattle.g9932.proofs.Words.{weight_odd, weight_xor}
 
-pub next_number : (r : ℕ) → next_register r ≡ r / 2 + 4194304 * ((r % 2 + r / 32 % 2) % 2)
+next_number : (r : ℕ) → next_register r ≡ r / 2 + 4194304 * ((r % 2 + r / 32 % 2) % 2)
 unfolding next_register
 next_number r = rw (weight_xor (odd r) (odd (r / 32)), weight_odd r, weight_odd (r / 32))
 
-pub feed_fits : (r n : ℕ) → r < 4294967296 → r / 2 + 4194304 * (n % 2) < 4294967296
+feed_fits : (r n : ℕ) → r < 4294967296 → r / 2 + 4194304 * (n % 2) < 4294967296
 feed_fits r n h = bounded (r / 2) (n % 2) (omega arith) (omega arith)
   where
     bounded : (a w : ℕ) → a < 2147483648 → w < 2 → a + 4194304 * w < 4294967296
@@ -92,7 +92,7 @@ shift_on n r w h =
     one = omega arith
 
 -- The register after up to 18 draws: so many bits are fed back at once.
-pub several_fed : (n r : ℕ) → n ≤ 18 → after_draws n r ≡ r / 2 ^ n + 2 ^ (23 - n) * (fed r % 2 ^ n)
+several_fed : (n r : ℕ) → n ≤ 18 → after_draws n r ≡ r / 2 ^ n + 2 ^ (23 - n) * (fed r % 2 ^ n)
 unfolding draw_of
 several_fed zero r h = rw (pow-zero 2, div-one r, mod-one (fed r), mul-zero (2 ^ (23 - 0))) (omega arith)
 several_fed (suc n) r h =
@@ -113,18 +113,17 @@ several_fed (suc n) r h =
         let f : p * (z * 2) ≡ p * 2 * z = ap (λ (x : ℕ). p * x) (mul_comm z 2) ∙ sym (mul_assoc p 2 z) in
         omega (arith, e, f)
 
--- of a tone, and of nine
-pub two_fed : (r : ℕ) → after_draws 2 r ≡ r / 4 + 2097152 * (bit_xor r (r / 32) % 4)
-two_fed r = several_fed 2 r (omega arith)
+-- what the code works out, by shifts
+pub several_shifted : (n r : ℕ) → n ≤ 18 → r / 2 ^ n + fed r % (1 * 2 ^ n % 4294967296) * 2 ^ (23 - n) % 4294967296 ≡ after_draws n r
+several_shifted n r h =
+    let one = shl_exact 1 n 32 (omega arith) (omega arith) ∙ one-mul (2 ^ n) in
+    let feed = shl_exact n (23 - n) 32 (mod-lt (fed r) (pow_pos n)) (omega arith) ∙ mul_comm (fed r % 2 ^ n) (2 ^ (23 - n)) in
+    rw (one, feed) (sym (several_fed n r h))
 
-pub nine_fed : (r : ℕ) → after_draws 18 r ≡ r / 262144 + 32 * (bit_xor r (r / 32) % 262144)
-nine_fed r = several_fed 18 r (omega arith)
-
-pub two_fit : (r n : ℕ) → r < 4294967296 → r / 4 + 2097152 * (n % 4) < 4294967296
-two_fit r n h = bounded (r / 4) (n % 4) (omega arith) (omega arith)
-  where
-    bounded : (a w : ℕ) → a < 1073741824 → w < 4 → a + 2097152 * w < 4294967296
-    bounded a w ha hw = omega arith
+pub draws_fit : (n r : ℕ) → r < 4294967296 → after_draws n r < 4294967296
+unfolding draw_of
+draws_fit zero r h = h
+draws_fit (suc n) r h = draws_fit n (next_register r) (rw next_number (feed_fits r (r % 2 + r / 32 % 2) h))
 
 -- draws after draws
 pub draws_on : (j k n r : ℕ) → j + k ≡ n → after_draws k (after_draws j r) ≡ after_draws n r

@@ -1,22 +1,31 @@
 // The filler bit generator: the pseudo-random sequence that 0-bit tones draw, and monitored ones carry.
 #![tactic(auto)]
 
-ghost use Rattle.std.specs.Prelude.{◌≡◌, ◌*◌};
+ghost use Rattle.std.specs.Prelude.{◌≡◌, ◌*◌, ◌≤◌};
 ghost use Rattle.g9932.specs.Filler.{draw_of, after_draws};
 ghost use Rattle.g9932.specs.Answers.{draw_answer, drawn_of};
 ghost use Rattle.g9932.specs.Refusals.{seed_test};
 ghost use Rattle.prbs.specs.TwoBits.{TwoDrawn};
 
-use g9932::{Drawn, FillerBit, Refusal};
+use g9932::{FillerBit, Refusal, Refused};
 
-// The next filler bit, and the register after it: bit 22 is old bit 0 xor old bit 5.
+// The register after several draws at once: as many bits are fed back as are drawn, each old bit 0 xor old bit 5 of its own draw.
+// A 19th would be fed from one of these.
+fn after_several(register: u32, draws: usize) -> u32
+    requires { draws ≤ 18 }
+    ensures { result ≡ after_draws draws register }
+{
+    let feed = (register ^ (register / 32)) % (1 << draws);
+    (register >> draws) + (feed << (23 - draws))
+}
+
+// The next filler bit, and the register after it.
 fn next_bit(register: u32) -> FillerBit
     ensures { result ≡ draw_of register }
 {
-    let feed = (register % 2 + register / 32 % 2) % 2;
     FillerBit {
         bit: register % 2 == 1,
-        register: register / 2 + 4194304 * feed,
+        register: after_several(register, 1),
     }
 }
 
@@ -27,74 +36,43 @@ pub struct FillerLabel {
     pub register: u32,
 }
 
-// Draws v0, then v1, at once: they are the two lowest bits of the register, and each bit fed back is the one that its own draw feeds.
+// Draws v0, then v1, at once: they are the two lowest bits of the register.
 pub fn filler_label(register: u32) -> FillerLabel
     ensures { TwoDrawn register result }
 {
-    let feed = (register ^ (register / 32)) % 4;
     FillerLabel {
         label: register % 4,
-        register: register / 4 + 2097152 * feed,
+        register: after_several(register, 2),
     }
 }
 
-// The register after the draws of nine 0-bit tones: 18 bits are fed back at once. The next would be fed from one of these.
-fn after_nine(register: u32) -> u32
-    ensures { result ≡ after_draws 18 register }
-{
-    let feed = (register ^ (register / 32)) % 262144;
-    register / 262144 + 32 * feed
-}
-
-// The same, so many times.
-fn after_nines(register: u32, nines: usize) -> u32
-    ensures { result ≡ after_draws (18 * nines) register }
-{
-    let mut next = register;
-    let mut left = nines;
-    while 0 < left {
-        next = after_nine(next);
-        left -= 1;
-    }
-    next
-}
-
-// The register after the draws of so many 0-bit tones.
+// The register after the draws of so many 0-bit tones: those of nine at once, and then of the rest.
 pub fn after_tones(register: u32, tones: usize) -> u32
     ensures { result ≡ after_draws (2 * tones) register }
 {
-    let mut next = after_nines(register, tones / 9);
-    let mut left = tones % 9;
-    while 0 < left {
-        next = filler_label(next).register;
-        left -= 1;
+    let mut next = register;
+    for _ in 0..tones / 9 {
+        next = after_several(next, 18);
     }
-    next
+    after_several(next, 2 * (tones % 9))
 }
 
-// Whether SEED (12) applies.
+// Whether SEED (12) applies. A test, and no `Result`: some callers refuse with the register, some without.
 pub fn seed_refused(register: u32) -> bool
     ensures { result ≡ seed_test register }
 {
-    if register < 1 {
-        return true;
-    }
-    8388607 < register
+    register < 1 || 8388607 < register
 }
 
 // Draws one filler bit: refusal 12.
-pub fn draw(register: u32) -> Drawn
+pub fn draw(register: u32) -> Result<FillerBit, Refused>
     ensures { drawn_of result ≡ draw_answer register }
 {
     if seed_refused(register) {
-        return Drawn::Refused {
+        return Err(Refused {
             refusal: Refusal::Seed,
             register,
-        };
+        });
     }
-    let d = next_bit(register);
-    Drawn::Bit {
-        bit: d.bit,
-        register: d.register,
-    }
+    Ok(next_bit(register))
 }

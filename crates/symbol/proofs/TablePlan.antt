@@ -22,7 +22,7 @@ use Rattle.g9932.proofs.Sent.{load_classes, size_uncoded}
 use Rattle.plan.proofs.Classes.{plan_of}
 use Rattle.plan.specs.Classes.{PlanOf}
 use Rattle.plan.specs.Plan.{least_own, sharing, PlanIs}
-use Rattle.plan.specs.declared.PlanSizes.{PlanSizes}
+use Rattle.plan.specs.declared.Plan.{Plan}
 use Rattle.passes.specs.ReadSymbol.{HeldFits}
 use Rattle.passes.specs.WriteSymbol.{LabelFrameNeeds, sent_for}
 use Rattle.trellis.specs.Coding.{FrameNeeds}
@@ -47,11 +47,6 @@ filter_most p (n ∷ l) h k = go (p n) k (filter_most p l (λ j. h (suc j)))
     go true (suc k) rest = rest k
     go false k rest = rest k
 
-length_take_most : {A : Type 0} (n : ℕ) (l : List A) → length (take n l) ≤ n
-length_take_most zero l = omega arith
-length_take_most (suc n) [] = omega arith
-length_take_most (suc n) (a ∷ l) = let e = length_take_most n l in omega arith
-
 module _ (T : Tables) (ok : (table_verdict T).number ≡ 0) where
   pub known : Accepted T
   known = accepted_tables T ok
@@ -66,14 +61,14 @@ module _ (T : Tables) (ok : (table_verdict T).number ≡ 0) where
       go Uncoded e = refl
       go Coded e = (known.coded e).ones_even
 
-  module _ (p : PlanSizes) {layouts entries places drawing : List ℕ} (is : PlanIs T p layouts entries places drawing) where
+  module _ (p : Plan) (is : PlanIs T p) where
     abbrev es : List ℕ
-    es = take p.entry_count entries
+    es = p.entries.bits.now
 
     abbrev ps : List ℕ
-    ps = take p.entry_count places
+    ps = p.entries.places.now
 
-    pub the_plan : PlanOf (classes_of T) p.shared_from.0 es ps (take p.drawing_count drawing) (take (length T.tones) layouts)
+    pub the_plan : PlanOf (classes_of T) p.shared_from.0 es ps p.drawing.now p.layouts.now
     the_plan = plan_of T p known.bits_most sharing_even is
 
     -- the entries, by the mode
@@ -108,7 +103,7 @@ module _ (T : Tables) (ok : (table_verdict T).number ≡ 0) where
     coded_taken e = ap taken_total (coded_pairs_lem e) ∙ (known.coded e).taken
 
     coded_many : T.mode ≡ Coded → length es ≤ most_tones
-    coded_many e = omega (arith, is.entries_most, tones_most_lem, length_take_most p.entry_count entries)
+    coded_many e = omega (arith, is.entries_most, tones_most_lem)
 
     -- ---- writing
 

@@ -4,66 +4,88 @@
 mod encoding;
 pub mod reading;
 
-ghost use Rattle.g9932.specs.Sizes.{tables};
-ghost use Rattle.g9932.specs.Answers.{Encodes, Reads};
+ghost use Rattle.std.specs.Prelude.{length};
+ghost use Rattle.g9932.specs.Sizes.{tables_of};
+ghost use Rattle.g9932.specs.Answers.{Encodes, Reads, encode_inputs, read_inputs};
+ghost use Rattle.symbol.specs.Inputs.{PlansFor};
 
-use g9932::{Answer, MOST_HELD, MOST_TONES, Mode};
-use plan::Planned;
+use g9932::{Done, MOST_HELD, MOST_TONES, Mode, Points, Refusal, Refused, Tables};
+use passes::read::read_symbol;
+use passes::write::write_symbol;
+use plan::{Plan, Room, plan_tables};
+
+// Refusals 1 to 8 and 10 to 12 of encoding, or the plan by which the frame is written. Encoding and both ways of reading differ in their
+// middle line: one function for all would take that test as a closure, which is no shorter.
+fn plan_encoding<'a>(
+    mode: Mode,
+    t: Tables,
+    x_len: usize,
+    y_len: usize,
+    frame: &[u8],
+    start: u8,
+    register: u32,
+    room: &'a mut Room,
+) -> Result<Plan<'a>, Refusal>
+    ensures { PlansFor (tables_of mode t.entry) (λ size. encode_inputs start size (length t.entry.tones.now) x_len y_len frame.now register) result }
+{
+    let plan = plan_tables(mode, t, room)?;
+    let nsc = t.tones.len();
+    encoding::check_inputs(plan.size, nsc, x_len, y_len, frame, start, register)?;
+    Ok(plan)
+}
 
 // Encodes a frame that starts at a bit of its first byte: refusals 1 to 8 and 10 to 12. Where nothing is refused, writes all of X and Y,
-// and answers L and the register after the draws; else writes nothing. A call takes some 44 KiB of stack, no heap and no global.
+// and answers L and the register after the draws; else writes nothing. A call takes some 46 KiB of stack, no heap and no global.
 pub fn encode(
     mode: Mode,
-    bits: &[u8],
-    gains: &[u16],
-    tones: &[u16],
+    t: Tables,
     frame: &[u8],
     start: u8,
     register: u32,
     xs: &mut [i16],
     ys: &mut [i16],
-) -> Answer
-    ensures { Encodes (tables mode bits.now gains.now tones.now) start frame.now register xs.old ys.old result xs.new ys.new }
+) -> Result<Done, Refused>
+    ensures { Encodes (tables_of mode t.entry) start frame.now register xs.old ys.old result xs.new ys.new }
 {
-    let mut layouts = [0u16; MOST_TONES];
-    let mut entries = [0u8; MOST_TONES];
-    let mut places = [0u16; MOST_TONES];
-    let mut drawing = [0u16; MOST_TONES];
+    let mut room = Room::new();
     let mut labels = [0u16; MOST_TONES];
-    let n = tones.len();
-    let planned = plan::plan_tables(
+    let n = t.tones.len();
+    let planned = plan_encoding(
         mode,
-        bits,
-        gains,
-        tones,
-        &mut layouts,
-        &mut entries,
-        &mut places,
-        &mut drawing,
+        t,
+        xs.len(),
+        ys.len(),
+        frame,
+        start,
+        register,
+        &mut room,
     );
-    let checked = encoding::check_inputs(planned, n, xs.len(), ys.len(), frame, start, register);
-    match checked {
-        Planned::Refused(refusal) => Answer::Refused { refusal, register },
-        Planned::Lists(p) => {
-            let size = p.size;
-            let register = passes::write::write_symbol(
-                mode,
-                p,
-                n,
-                frame,
-                start,
-                register,
-                &layouts,
-                &entries,
-                &places,
-                &drawing,
-                &mut labels,
-                xs,
-                ys,
-            );
-            Answer::Done { size, register }
+    match planned {
+        Err(refusal) => Err(Refused { refusal, register }),
+        Ok(plan) => {
+            let size = plan.size;
+            let register = write_symbol(plan, frame, start, register, &mut labels[..n], xs, ys);
+            Ok(Done { size, register })
         }
     }
+}
+
+// Refusals 1 to 8 and 10 to 12 of reading, or the plan by which the points are read.
+fn plan_reading<'a>(
+    mode: Mode,
+    t: Tables,
+    points: Points,
+    frame_len: usize,
+    start: u8,
+    register: u32,
+    room: &'a mut Room,
+) -> Result<Plan<'a>, Refusal>
+    ensures { PlansFor (tables_of mode t.entry) (λ size. read_inputs start size (length t.entry.tones.now) (length points.entry.xs.now) (length points.entry.ys.now) frame_len register) result }
+{
+    let plan = plan_tables(mode, t, room)?;
+    let nsc = t.tones.len();
+    reading::check_inputs(plan.size, nsc, points, frame_len, start, register)?;
+    Ok(plan)
 }
 
 // Reads a symbol into a frame that starts at a bit of its first byte: refusals 1 to 8 and 10 to 12, then 13 at every place, 14 at every
@@ -71,53 +93,31 @@ pub fn encode(
 // draws; else writes nothing. A call takes some 52 KiB of stack, no heap and no global.
 pub fn read(
     mode: Mode,
-    bits: &[u8],
-    gains: &[u16],
-    tones: &[u16],
-    xs: &[i16],
-    ys: &[i16],
+    t: Tables,
+    points: Points,
     register: u32,
     frame: &mut [u8],
     start: u8,
-) -> Answer
-    ensures { Reads (tables mode bits.now gains.now tones.now) xs.now ys.now register start frame.old result frame.new }
+) -> Result<Done, Refused>
+    ensures { Reads (tables_of mode t.entry) points.entry.xs.now points.entry.ys.now register start frame.old result frame.new }
 {
-    let mut layouts = [0u16; MOST_TONES];
-    let mut entries = [0u8; MOST_TONES];
-    let mut places = [0u16; MOST_TONES];
-    let mut drawing = [0u16; MOST_TONES];
+    let mut room = Room::new();
     let mut labels = [0u16; MOST_TONES];
     let mut held = [0u8; MOST_HELD];
-    let n = tones.len();
-    let planned = plan::plan_tables(
-        mode,
-        bits,
-        gains,
-        tones,
-        &mut layouts,
-        &mut entries,
-        &mut places,
-        &mut drawing,
-    );
+    let n = t.tones.len();
     let frame_len = frame.len();
-    let checked = reading::check_inputs(planned, n, xs.len(), ys.len(), frame_len, start, register);
-    match checked {
-        Planned::Refused(refusal) => Answer::Refused { refusal, register },
-        Planned::Lists(p) => passes::read::read_symbol(
-            mode,
-            p,
-            n,
-            &layouts,
-            &entries,
-            &places,
-            &drawing,
-            xs,
-            ys,
-            register,
-            &mut labels,
-            &mut held,
-            frame,
-            start,
-        ),
+    match plan_reading(mode, t, points, frame_len, start, register, &mut room) {
+        Err(refusal) => Err(Refused { refusal, register }),
+        Ok(plan) => {
+            read_symbol(
+                plan,
+                points,
+                register,
+                &mut labels[..n],
+                &mut held,
+                frame,
+                start,
+            )
+        }
     }
 }

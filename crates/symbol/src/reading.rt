@@ -1,45 +1,30 @@
 // The inputs of reading besides the tables.
-ghost use Rattle.g9932.specs.Answers.{read_inputs};
-ghost use Rattle.symbol.specs.Inputs.{ChecksInputs};
+ghost use Rattle.std.specs.Prelude.{◌≡◌, length};
+ghost use Rattle.g9932.specs.Answers.{read_inputs, told};
 
-use g9932::Refusal;
-use plan::Planned;
+use g9932::{Points, Refusal};
 
-// Refusals 10 to 12 of reading, after those of the tables; of 11 the start alone.
+// Refusals 10 to 12 of reading, for a frame of `size` bits and `nsc` tones; of 11 the start alone.
 pub fn check_inputs(
-    planned: Planned,
+    size: usize,
     nsc: usize,
-    x_len: usize,
-    y_len: usize,
+    points: Points,
     frame_len: usize,
     start: u8,
     register: u32,
-) -> Planned
-    ensures { ChecksInputs (λ size. read_inputs start size nsc x_len y_len frame_len register) planned result }
+) -> Result<(), Refusal>
+    ensures { told size result ≡ read_inputs start size nsc (length points.entry.xs.now) (length points.entry.ys.now) frame_len register }
 {
-    match planned {
-        Planned::Refused(refusal) => {
-            return Planned::Refused(refusal);
-        }
-        Planned::Lists(p) => {
-            if x_len != nsc {
-                return Planned::Refused(Refusal::Room);
-            }
-            if y_len != nsc {
-                return Planned::Refused(Refusal::Room);
-            }
-            if frame_len != frame::bytes_for(start, p.size) {
-                return Planned::Refused(Refusal::Room);
-            }
-            let start_refused = frame::start_refused(start);
-            let seed_refused = prbs::seed_refused(register);
-            if start_refused {
-                return Planned::Refused(Refusal::Frame);
-            }
-            if seed_refused {
-                return Planned::Refused(Refusal::Seed);
-            }
-            return Planned::Lists(p);
-        }
+    let x_len = points.xs.len();
+    let y_len = points.ys.len();
+    if ((x_len != nsc) | (y_len != nsc)) | (frame_len != frame::bytes_for(start, size)) {
+        return Err(Refusal::Room);
     }
+    if frame::start_refused(start) {
+        return Err(Refusal::Frame);
+    }
+    if prbs::seed_refused(register) {
+        return Err(Refusal::Seed);
+    }
+    Ok(())
 }

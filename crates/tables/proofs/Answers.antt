@@ -7,11 +7,9 @@ use lib.ListN.{length}
 use Rattle.g9932.proofs.Accepted.{accepted_tables}
 use Rattle.g9932.proofs.Search.{first_no}
 use Rattle.g9932.proofs.Verdicts.{test_none, found_none, number_none, and_refused, and_accepted}
-use Rattle.g9932.specs.Answers.{verdict_of}
 use Rattle.g9932.specs.Bits.{first}
-use Rattle.g9932.specs.Refusals.{accepted, size_test, tone_test, twice_test, table_verdict, list_verdict}
+use Rattle.g9932.specs.Refusals.{number_of, place_of, refused, accepted, size_test, tone_test, twice_test, table_verdict, list_verdict}
 use Rattle.g9932.specs.Sizes.{tables}
-use Rattle.g9932.specs.declared.Checked.TheVariants.{Refused}
 use Rattle.g9932.specs.declared.Mode.TheVariants.{Uncoded}
 use Rattle.g9932.specs.declared.Mode.{Mode}
 use Rattle.g9932.specs.declared.Refusal.{Refusal}
@@ -35,6 +33,6 @@ lists_pass b g t {l} e =
     record { size = a.table_most; below = a.tones_below; once = lists_once b g t e; bits_most = a.bits_most; stray_bits = a.stray_bits }
 
 module _ (m : Mode) (b g t : List ℕ) where
-  pub lists_refused : (x : Refusal) → verdict_of (Refused x) ≡ list_verdict b g t → verdict_of (Refused x) ≡ table_verdict (tables m b g t)
+  pub lists_refused : (x : Refusal) → refused (number_of x) (place_of x) ≡ list_verdict b g t → refused (number_of x) (place_of x) ≡ table_verdict (tables m b g t)
   unfolding table_verdict
   lists_refused x e = and_refused x _ e

@@ -1,6 +1,8 @@
 -- Laws of the tones: those from a place on, and counts over all tones by the bit table.
-use Prim.Native.Nat.{ℕ, zero, suc, ◌+◌, ◌<◌}
-use mathlib.Core.Bool.{Bool, false}
+use Prim.Native.Nat.{ℕ, zero, suc, ◌+◌, ◌<◌, ◌≤◌}
+use native.Mathlib.Omega.{arith}
+use mir.Val.{bool_byte}
+use mathlib.Core.Bool.{Bool, true, false}
 use mathlib.Core.List.{List, [], ◌∷◌, map}
 use mathlib.Core.Path.{◌≡◌, refl, sym, ap, ap₂, ◌∙◌}
 use lib.Seq.{drop-cons}
@@ -13,12 +15,18 @@ use Rattle.g9932.proofs.Members.{sum_members}
 use Rattle.tables.specs.Counted.{ListsPass}
 
 -- a list from place i on, where there is an entry
-pub drop_some : (l : List ℕ) (i : ℕ) → i < length l → drop i l ≡ get_or l i 0 ∷ drop (i + 1) l
-drop_some l i h = rw (add-one, drop-cons l i 0)
+pub drop_some : {A : Type 0} (l : List A) (i : ℕ) (a : A) → i < length l → drop i l ≡ get_or l i a ∷ drop (i + 1) l
+drop_some l i a h = rw (add-one, drop-cons l i a)
 
 -- the tones from place i on, with the value that was read
 pub tones_next : (t : List ℕ) (i : ℕ) {k : ℕ} → k ≡ entry t i → i < length t → drop i t ≡ k ∷ drop (i + 1) t
-tones_next t i x h = drop_some t i h ∙ ap (λ (w : ℕ). w ∷ drop (i + 1) t) (sym x)
+tones_next t i x h = drop_some t i 0 h ∙ ap (λ (w : ℕ). w ∷ drop (i + 1) t) (sym x)
+
+-- a test as a number to count with
+pub test_weight : (b : Bool) → (bool_byte b ≡ weight b) × (bool_byte b ≤ 1)
+unfolding weight
+test_weight true = (refl, omega arith)
+test_weight false = (refl, omega arith)
 
 -- ---- over all tones, and over the bit table
 

@@ -1,12 +1,12 @@
 -- Laws of the checks: one scan for three tests, and refusals 1 to 6 from what the searches find.
+use Rattle.std.specs.Prelude.{None, Some}
 use Prim.Native.Nat.{ℕ, ◌<◌}
 use mathlib.Core.Bool.{Bool, true, false, ◌||◌}
 use mathlib.Core.List.{List}
-use mathlib.Core.Path.{◌≡◌, refl, sym}
+use mathlib.Core.Path.{◌≡◌, refl}
 use lib.ListN.{length}
 use Rattle.g9932.specs.Bits.{first}
 use Rattle.g9932.specs.Refusals.{Verdict, refused, accepted, size_test, tone_test, twice_test, bits_test, stray_test, gain_test, index_verdict, list_verdict}
-use Rattle.g9932.specs.declared.Found.TheVariants.{At, Nothing}
 use Rattle.g9932.proofs.Identities.{or-false}
 use Rattle.g9932.proofs.Search.{first_no, first_all}
 use Rattle.g9932.proofs.Verdicts.{test_here, test_past, found_here, found_past}
@@ -15,14 +15,10 @@ use Rattle.tables.proofs.Scans.{any_nothing}
 
 -- where neither of two tests holds anywhere
 module _ (p q : ℕ → Bool) (n : ℕ) where
-  or_nothing : first (λ k. p k || q k) n ≡ Nothing → (first p n ≡ Nothing) × (first q n ≡ Nothing)
+  or_nothing : first (λ k. p k || q k) n ≡ None → (first p n ≡ None) × (first q n ≡ None)
   or_nothing e =
       let f : (k : ℕ) → k < n → p k || q k ≡ false = first_no (λ k. p k || q k) n e in
       (first_all p n (λ k l. (or-false (p k) (q k) (f k l)).0), first_all q n (λ k l. (or-false (p k) (q k) (f k l)).1))
-
--- a test of what was read is that of what stands there
-pub test_at : (test : Bool → ℕ → ℕ → Bool) {mark in_t r : Bool} {x y bits gain : ℕ} → r ≡ test mark x y → mark ≡ in_t → x ≡ bits → y ≡ gain → test in_t bits gain ≡ r
-test_at test e m p q = sym (rw (m, p, q) at e)
 
 -- each refusal, from the tests that it comes after and the search that finds it: 1 to 3, and what is left to the indices,
 module _ (b g t : List ℕ) where
@@ -31,16 +27,16 @@ module _ (b g t : List ℕ) where
   refused_size e = test_here 1 _ e
 
   module _ (sized : size_test (length b) (length g) (length t) ≡ false) where
-    pub refused_tone : {k : ℕ} → first (tone_test (length b) t) (length t) ≡ At k → refused 2 k ≡ list_verdict b g t
+    pub refused_tone : {k : ℕ} → first (tone_test (length b) t) (length t) ≡ Some k → refused 2 k ≡ list_verdict b g t
     unfolding list_verdict
     refused_tone e = test_past 1 sized (found_here 2 _ e)
 
-    module _ (tones : first (tone_test (length b) t) (length t) ≡ Nothing) where
-      pub refused_twice : {k : ℕ} → first (twice_test t) (length t) ≡ At k → refused 3 k ≡ list_verdict b g t
+    module _ (tones : first (tone_test (length b) t) (length t) ≡ None) where
+      pub refused_twice : {k : ℕ} → first (twice_test t) (length t) ≡ Some k → refused 3 k ≡ list_verdict b g t
       unfolding list_verdict
       refused_twice e = test_past 1 sized (found_past 2 tones (found_here 3 _ e))
 
-      pub past_tones : {x : Verdict} → first (twice_test t) (length t) ≡ Nothing → x ≡ index_verdict b g t → x ≡ list_verdict b g t
+      pub past_tones : {x : Verdict} → first (twice_test t) (length t) ≡ None → x ≡ index_verdict b g t → x ≡ list_verdict b g t
       unfolding list_verdict
       past_tones n q = test_past 1 sized (found_past 2 tones (found_past 3 n q))
 

@@ -1,4 +1,5 @@
 pub mod Scans
+pub mod Searches
 pub mod Faults
 pub mod Marks
 pub mod Counting

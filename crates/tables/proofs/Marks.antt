@@ -1,5 +1,6 @@
 -- Laws of the marks: after a pass over the first i tones the array is true at the tones passed, and nowhere else; and as many
 -- marks as tones say that no tone comes twice.
+use Rattle.std.specs.Prelude.{None}
 use Prim.Native.Nat.{ℕ, zero, suc, ◌+◌, ◌<◌, ◌≤◌}
 use mathlib.Core.Bool.{Bool, true, false, ◌||◌, or-true, or-false, or_assoc}
 use mathlib.Core.List.{List, [], ◌∷◌, ◌++◌}
@@ -13,7 +14,6 @@ use lib.Seq.{take-suc, get_or-set_same, get_or-set_other}
 use Rattle.g9932.specs.Bits.{weight, first}
 use Rattle.g9932.specs.Sizes.{entry, most_tones}
 use Rattle.g9932.specs.Refusals.{tone_test, member, twice_test}
-use Rattle.g9932.specs.declared.Found.TheVariants.{Nothing}
 use Rattle.g9932.proofs.Identities.{or-false as or_false_parts}
 use Rattle.g9932.proofs.Search.{first_no, first_all}
 use Rattle.tables.specs.Checks.{Below, marked, trues, Marks}
@@ -108,7 +108,7 @@ fresh (x ∷ t) seen w e (suc k) h =
     (g.0, rw g.1 f.1)
 
 -- where 2 applies to no place, every tone is below 4,096
-pub tones_below_lem : (t : List ℕ) {g : ℕ} → g ≤ most_tones → first (tone_test g t) (length t) ≡ Nothing → Below most_tones t
+pub tones_below_lem : (t : List ℕ) {g : ℕ} → g ≤ most_tones → first (tone_test g t) (length t) ≡ None → Below most_tones t
 tones_below_lem t {g} top e k l = omega (arith, leb-false g (entry t k) (first_no (tone_test g t) (length t) e k l))
 
 -- marking all of t, from no mark
@@ -129,7 +129,7 @@ module _ (t : List ℕ) (seen : List Bool) (none : seen ≡ replicate most_tones
       ∙ ap (λ (z : Bool). z || member k t) (ap (λ (l : List Bool). get_or l k false) none ∙ get_or-replicate most_tones k false false h)
 
   -- as many marks as tones say that 3 applies to no place
-  pub none_twice : trues after ≡ length t → Nothing ≡ first (twice_test t) (length t)
+  pub none_twice : trues after ≡ length t → None ≡ first (twice_test t) (length t)
   none_twice e =
       let n = ap trues none ∙ trues_none most_tones in
       sym (first_all (twice_test t) (length t) (λ k l. (fresh t seen within (omega (arith, e, ap trues m)) k l).1))

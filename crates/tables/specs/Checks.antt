@@ -3,8 +3,6 @@ use Rattle.std.specs.Prelude.{ℕ, zero, suc, ◌+◌, ◌<◌, Bool, true, fals
 use Rattle.g9932.specs.Bits.{weight}
 use Rattle.g9932.specs.Sizes.{entry, most_tones}
 use Rattle.g9932.specs.Refusals.{member, stray_by, gain_by}
-use Rattle.tables.specs.declared.lists.Rule.{Rule}
-use Rattle.tables.specs.declared.lists.Rule.TheVariants.{Bits, Stray, Gain}
 
 -- a test holds at some k below n
 unfoldable pub any_below : (ℕ → Bool) → ℕ → Bool
@@ -17,15 +15,6 @@ index_by in_t bits gain = ltb 15 bits || (stray_by in_t bits gain || gain_by bit
 
 abbrev pub index_fault : List ℕ → List ℕ → List ℕ → ℕ → Bool
 index_fault b g t k = index_by (member k t) (entry b k) (entry g k)
-
--- 4, 5 or 6, looked for by itself
-abbrev pub rule_by : Rule → Bool → ℕ → ℕ → Bool
-rule_by Bits in_t bits gain = ltb 15 bits
-rule_by Stray in_t bits gain = stray_by in_t bits gain
-rule_by Gain in_t bits gain = gain_by bits gain
-
-abbrev pub rule_test : Rule → List ℕ → List ℕ → List ℕ → ℕ → Bool
-rule_test rule b g t k = rule_by rule (member k t) (entry b k) (entry g k)
 
 -- every tone is below n
 abbrev pub Below : ℕ → List ℕ → Type 0

@@ -5,7 +5,7 @@ use mathlib.Core.List.{List, [], ◌∷◌, ◌++◌, map}
 use mathlib.Core.Path.{◌≡◌, refl, sym, ◌∙◌}
 use native.Mathlib.Nat.{zero-add, add-zero}
 use native.Mathlib.Omega.{arith}
-use borrow.Author.Tests.{ltb-false, eqb-true, ne_eqb, not-false}
+use borrow.Author.Tests.{le-ltb, ltb-false, eqb-true, ne_eqb, not-false}
 use lib.Dec.{ltb, eqb}
 use lib.ListN.{length, length-append}
 use Rattle.g9932.specs.Bits.{weight}
@@ -14,10 +14,9 @@ use Rattle.g9932.specs.Order.{sum, count}
 use Rattle.g9932.proofs.Counts.{count_append}
 use Rattle.g9932.proofs.Identities.{or-false}
 use Rattle.g9932.proofs.Words.{weight_le}
-use Rattle.tally.specs.PairReport.{Entry, read_as, refused_with, wrong_in, is_wrong, is_refused, most_symbols, first_refused, figures_of, entry_test, with_entry}
+use Rattle.tally.specs.PairReport.{Entry, read_as, refused_with, wrong_in, is_wrong, is_refused, most_symbols, first_refused, figures_of, entry_test, most_figure, raised, with_entry}
 use Rattle.tally.specs.Calls.{ByteEntry}
 use Rattle.tally.specs.Words.{Every}
-use Rattle.tally.proofs.Entries.{raised_fits}
 use Rattle.tally.proofs.WrongBits.{wrong_most}
 
 -- ---- an entry that can be accepted: of bytes, and 11 does not apply
@@ -69,6 +68,10 @@ first_more k (read_as s r ∷ es) e h =
     let p : suc k + length es ≡ k + suc (length es) = omega arith in
     rw p at (first_more (suc k) es e (omega arith))
 first_more k (refused_with s n ∷ es) e h = rw (ne_eqb k most_symbols (λ x. omega arith), and-false)
+
+-- a figure that fits
+raised_fits : (figure by : ℕ) → figure + by ≤ most_figure → figure + by ≡ raised figure by
+raised_fits figure by h = rw (le-ltb most_figure (figure + by) h) refl
 
 -- no figure comes to the most that 32 bits hold
 pub figures_more : (es : List Entry) (e : Entry) → Every Sound es → Sound e → length es < most_symbols

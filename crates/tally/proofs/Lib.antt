@@ -1,5 +1,5 @@
--- `Theorems` is the page of theorems, and `Answers` to `TurnedWrong` are its parts. `Entries` and `Rows` are what the code needs beside
--- them: of one entry, and of wrong bits that are counted a row at a time.
+-- `Theorems` is the page of theorems, and `Answers` to `TurnedWrong` are its parts. `Rows` is what the code needs beside
+-- them, of wrong bits that are counted a row at a time.
 pub mod Theorems
 pub mod Answers
 pub mod WrongBits
@@ -7,5 +7,4 @@ pub mod Figures
 pub mod Meaning
 pub mod CallLaws
 pub mod TurnedWrong
-pub mod Entries
 pub mod Rows

@@ -3,7 +3,7 @@ use Prim.Native.Nat.{ℕ, zero, suc, ◌+◌, ◌*◌, ◌≤◌, ◌<◌}
 use mathlib.Core.Bool.{Bool, true, false}
 use mathlib.Core.List.{List, [], ◌∷◌}
 use mathlib.Core.Path.{◌≡◌, refl, sym, ap, ◌∙◌}
-use native.Mathlib.Nat.{suc-mul, add-zero, add-suc}
+use native.Mathlib.Nat.{suc-mul, add-zero}
 use native.Mathlib.Omega.{arith}
 use borrow.Author.Tests.{ltb-true, ltb-false}
 use lib.Bits.{bit_xor}
@@ -90,18 +90,19 @@ module _ {s r : List ℕ} {row : ℕ} {lanes : List ℕ} where
 
   pub part_more : {j v : ℕ} → Part s r row j lanes → length r ≡ length s → lane_count * row + j < length s → j < lane_count
       → v ≡ ones (bit_xor (get_or s (lane_count * row + j) 0) (get_or r (lane_count * row + j) 0)) → v ≤ 8
-      → Part s r row (suc j) (set lanes j (get_or lanes j 0 + v))
+      → Part s r row (j + 1) (set lanes j (get_or lanes j 0 + v))
   part_more {j} {v} p e h k o most =
       let other : (i : ℕ) → j < i → get_or (set lanes j (get_or lanes j 0 + v)) i 0 ≡ get_or lanes i 0 =
       λ i n. get_or-set_other lanes j i (get_or lanes j 0 + v) 0 (λ q. omega (arith, q)) in
+      let next : suc (lane_count * row + j) ≡ lane_count * row + (j + 1) = omega arith in
       record {
         length_is = length-set lanes j (get_or lanes j 0 + v) ∙ p.length_is;
         unused = λ i n. other i (omega arith) ∙ p.unused i n;
         small = set_most lanes j (get_or lanes j 0 + v) (8 * row + 8) (omega (arith, p.ahead j (omega arith))) p.small;
-        ahead = λ i n. omega (arith, other i n, p.ahead i (omega arith));
+        ahead = λ i n. omega (arith, other i (omega arith), p.ahead i (omega arith));
         total =
             sum_set lanes j v (omega (arith, p.length_is)) ∙ rw (p.total, o) (sym (wrong_suc s r (lane_count * row + j) h e))
-            ∙ ap (λ (n : ℕ). wrong_bits (take n s) (take n r)) (sym (add-suc (lane_count * row) j));
+            ∙ ap (λ (n : ℕ). wrong_bits (take n s) (take n r)) next;
       }
 
   -- the row is at its end, or the frame is

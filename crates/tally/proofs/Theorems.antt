@@ -1,5 +1,6 @@
 -- What is promised of the pair report (request R-12), over its definitions. That the code gives what they say is the `ensures` of each
 -- operation. Each proof cites the part that shows it. The words are those of specs/PairReport.antt, Calls.antt and Words.antt.
+use Rattle.std.specs.Prelude.{None}
 use Prim.Native.Nat.{ℕ, ◌+◌, ◌*◌, ◌%◌, ◌^◌, ◌≤◌, ◌<◌}
 use mathlib.Core.Bool.{true, false}
 use mathlib.Core.List.{List, [], ◌∷◌, ◌++◌}
@@ -10,7 +11,6 @@ use lib.ListN.{length, take}
 use Rattle.g9932.specs.Order.{count}
 use Rattle.g9932.specs.Sizes.{Tables}
 use Rattle.g9932.specs.Symbol.{first_monitored}
-use Rattle.g9932.specs.declared.Found.TheVariants.{Nothing}
 use Rattle.g9932.specs.declared.Mode.TheVariants.{Coded}
 use Rattle.guarantees.specs.Words.{AcceptedFrame, Ready, non_zero}
 use Rattle.tally.specs.PairReport.{Entry, read_as, is_wrong, is_refused, figures_of, entry_test, with_entry, tallied, new_tally}
@@ -83,7 +83,7 @@ wrong_frame = WrongBits.wrong_frame
 -- Coded, where no tone is monitored and N is even, a written symbol that is turned by half a turn is read, and read wrong: the wrong bits
 -- show what no refusal does.
 pub turned_wrong : (T : Tables) (r start : ℕ) (xs ys : List ℤ) (f₀ : List ℕ) → Ready T r start xs ys f₀ → T.mode ≡ Coded
-    → first_monitored T ≡ Nothing → non_zero T % 2 ≡ 0 → (f : List ℕ) → AcceptedFrame T start f
+    → first_monitored T ≡ None → non_zero T % 2 ≡ 0 → (f : List ℕ) → AcceptedFrame T start f
     → ((turned_read T r start xs ys f₀ f).report.verdict.number ≡ 0) × (is_wrong (read_as f (turned_read T r start xs ys f₀ f).frame) ≡ true)
 turned_wrong = TurnedWrong.turned_wrong
 

@@ -1,4 +1,5 @@
 -- A turned symbol that is read is read wrong: the two frames are accepted, so they have the same length, and they differ.
+use Rattle.std.specs.Prelude.{None}
 use Prim.Native.Nat.{ℕ, ◌%◌}
 use mathlib.Core.Bool.{true}
 use mathlib.Core.List.{List}
@@ -6,7 +7,6 @@ use mathlib.Core.Path.{◌≡◌, sym, ◌∙◌}
 use lib.IntN.{ℤ}
 use Rattle.g9932.specs.Sizes.{Tables}
 use Rattle.g9932.specs.Symbol.{size_of, first_monitored}
-use Rattle.g9932.specs.declared.Found.TheVariants.{Nothing}
 use Rattle.g9932.specs.declared.Mode.TheVariants.{Coded}
 use Rattle.g9932.proofs.Packed.{frame_length_lem}
 use Rattle.guarantees.specs.Words.{AcceptedFrame, Ready, non_zero}
@@ -16,7 +16,7 @@ use Rattle.tally.specs.Words.{turned_read}
 use Rattle.tally.proofs.WrongBits.{wrong_frame}
 
 pub turned_wrong : (T : Tables) (r start : ℕ) (xs ys : List ℤ) (f₀ : List ℕ) → Ready T r start xs ys f₀ → T.mode ≡ Coded
-    → first_monitored T ≡ Nothing → non_zero T % 2 ≡ 0 → (f : List ℕ) → AcceptedFrame T start f
+    → first_monitored T ≡ None → non_zero T % 2 ≡ 0 → (f : List ℕ) → AcceptedFrame T start f
     → ((turned_read T r start xs ys f₀ f).report.verdict.number ≡ 0) × (is_wrong (read_as f (turned_read T r start xs ys f₀ f).frame) ≡ true)
 turned_wrong T r start xs ys f₀ ready coded none even f ok =
     let h = (half-turn T r start xs ys f₀ ready coded f ok).1 (none, even) in

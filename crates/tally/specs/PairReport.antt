@@ -1,5 +1,5 @@
 -- Request R-12: the pair report, a tally over symbols. A symbol is given as the frame sent and either the frame read or a refusal number.
-use Rattle.std.specs.Prelude.{ℕ, suc, ◌+◌, Bool, true, false, cond, not, ◌&&◌, ◌||◌, List, [], ◌∷◌, map, ltb, leb, eqb, length}
+use Rattle.std.specs.Prelude.{Result, Ok, Err, ℕ, suc, ◌+◌, Bool, true, false, cond, not, ◌&&◌, ◌||◌, List, [], ◌∷◌, map, ltb, leb, eqb, length}
 use Rattle.std.specs.Int.Bits.{bit_xor}
 use Rattle.std.specs.Int.Count.{ones}
 use Rattle.g9932.specs.Bits.{weight}
@@ -7,8 +7,7 @@ use Rattle.g9932.specs.Sizes.{most_bytes}
 use Rattle.g9932.specs.Order.{sum, count}
 use Rattle.g9932.specs.Refusals.{number_of, place_of, Verdict, accepted, refuse_if}
 use Rattle.tally.specs.declared.Tally.{Tally}
-use Rattle.tally.specs.declared.Tallied.{Tallied}
-use Rattle.tally.specs.declared.Tallied.TheVariants as T
+use Rattle.tally.specs.declared.Uncounted.{Uncounted}
 
 -- ---- what is given
 
@@ -107,9 +106,9 @@ told_as v after before = record { number = v.number; place = v.place; tally = co
 unfoldable pub tallied : Tally → Entry → Told
 tallied t e = told_as (tally_verdict t e) (with_entry t e) t
 
-abbrev pub told_of : Tallied → Told
-told_of (T.Counted t) = record { number = 0; place = 0; tally = t }
-told_of (T.Refused t x) = record { number = number_of x; place = place_of x; tally = t }
+abbrev pub told_of : Result Tally Uncounted → Told
+told_of (Ok t) = record { number = 0; place = 0; tally = t }
+told_of (Err u) = record { number = number_of u.refusal; place = place_of u.refusal; tally = u.tally }
 
 -- a new tally, which is as reset
 abbrev pub new_tally : Tally

@@ -3,20 +3,16 @@
 
 pub mod wrong_bits;
 
-ghost use Rattle.std.specs.Prelude.{◌≡◌, ◌<◌};
-ghost use Rattle.tally.specs.PairReport.{read_as, refused_with, most_symbols, full_test, raised, first_after, with_symbol, tallied, told_of, new_tally};
-ghost use Rattle.tally.specs.declared.Tallied.TheVariants as T;
+ghost use Rattle.std.specs.Prelude.{◌≡◌, ◌<◌, Err};
+ghost use Rattle.tally.specs.PairReport.{read_as, refused_with, most_symbols, full_test, first_after, with_symbol, tallied, told_of, new_tally};
 
 use g9932::Refusal;
 
 // The bytes of the longest frame.
 const MOST_BYTES: usize = 7681;
 
-// As many symbols as a tally holds; as the number of the first refused symbol it says that none was refused.
+// As many symbols as a tally holds. As the number of the first refused symbol it says that none was: C sees the field, a u32.
 const MOST_SYMBOLS: u32 = 65535;
-
-// The most that a figure holds.
-const MOST_FIGURE: u32 = 4294967295;
 
 // The report of a pair: symbols given, symbols refused, frames read wrong, wrong bits, and the number of the first refused symbol.
 #[repr(C)]
@@ -29,21 +25,11 @@ pub struct Tally {
     pub first_refused: u32,
 }
 
-// The answer to an entry: the tally with it, or a refusal and the tally as it came.
+// An entry that is refused: the tally as it came, and the refusal.
 #[derive(Clone, Copy)]
-pub enum Tallied {
-    Counted(Tally),
-    Refused { tally: Tally, refusal: Refusal },
-}
-
-// A figure raised; one that would not fit becomes the most that it holds.
-fn raise(figure: u32, by: u32) -> u32
-    ensures { result ≡ raised figure by }
-{
-    if by > MOST_FIGURE - figure {
-        return MOST_FIGURE;
-    }
-    figure + by
+pub struct Uncounted {
+    pub tally: Tally,
+    pub refusal: Refusal,
 }
 
 impl Tally {
@@ -61,29 +47,31 @@ impl Tally {
     }
 
     // A symbol that was read: the frame that was sent, and the one that was read.
-    pub fn read(self, sent: &[u8], read: &[u8]) -> Tallied
+    #[tactic(auto, using(std::proofs::lemmas::Bool::Decides::nat_tests), unfolding(crate::specs::PairReport::tallied, crate::specs::PairReport::tally_verdict, g9932::specs::Refusals::refuse_if))]
+    pub fn read(self, sent: &[u8], read: &[u8]) -> Result<Self, Uncounted>
         ensures { told_of result ≡ tallied self (read_as sent.now read.now) }
     {
         if self.is_full() {
-            return self.refuse(Refusal::Full);
+            return Err(self.uncounted(Refusal::Full));
         }
         if sent.len() != read.len() || sent.len() > MOST_BYTES {
-            return self.refuse(Refusal::Frame);
+            return Err(self.uncounted(Refusal::Frame));
         }
-        Tallied::Counted(self.with_symbol(false, wrong_bits::wrong_bits(sent, read)))
+        Ok(self.with_symbol(false, wrong_bits::wrong_bits(sent, read)))
     }
 
-    // A symbol that was refused: the frame that was sent, and the refusal's number.
-    pub fn refused(self, sent: &[u8], refusal: u32) -> Tallied
+    // A symbol that was refused: the frame that was sent, and the refusal's number, which a C caller may make up.
+    #[tactic(auto, using(std::proofs::lemmas::Bool::Decides::nat_tests), unfolding(crate::specs::PairReport::tallied, crate::specs::PairReport::tally_verdict, g9932::specs::Refusals::refuse_if))]
+    pub fn refused(self, sent: &[u8], refusal: u32) -> Result<Self, Uncounted>
         ensures { told_of result ≡ tallied self (refused_with sent.now refusal) }
     {
         if self.is_full() {
-            return self.refuse(Refusal::Full);
+            return Err(self.uncounted(Refusal::Full));
         }
         if sent.len() > MOST_BYTES || refusal == 0 {
-            return self.refuse(Refusal::Frame);
+            return Err(self.uncounted(Refusal::Frame));
         }
-        Tallied::Counted(self.with_symbol(true, 0))
+        Ok(self.with_symbol(true, 0))
     }
 
     // Whether FULL (22) applies.
@@ -94,25 +82,26 @@ impl Tally {
     }
 
     // A refused entry, with the tally as it came.
-    fn refuse(self, refusal: Refusal) -> Tallied
-        ensures { result ≡ T.Refused self refusal }
+    fn uncounted(self, refusal: Refusal) -> Uncounted
+        ensures { result ≡ record { tally = self; refusal = refusal } }
     {
-        Tallied::Refused {
+        Uncounted {
             tally: self,
             refusal,
         }
     }
 
-    // One symbol more, refused or not, that has so many wrong bits.
+    // One symbol more, refused or not, that has so many wrong bits. A figure that would not fit becomes the most that it holds.
+    #[tactic(auto, using(std::proofs::lemmas::Bool::Decides::nat_tests), unfolding(g9932::specs::Bits::weight))]
     fn with_symbol(self, refused: bool, wrong: u32) -> Self
         requires { self.symbols < most_symbols }
         ensures { result ≡ with_symbol self refused wrong }
     {
         Self {
             symbols: self.symbols + 1,
-            refused: raise(self.refused, refused as u32),
-            wrong_frames: raise(self.wrong_frames, (wrong > 0) as u32),
-            wrong_bits: raise(self.wrong_bits, wrong),
+            refused: self.refused.saturating_add(u32::from(refused)),
+            wrong_frames: self.wrong_frames.saturating_add(u32::from(wrong > 0)),
+            wrong_bits: self.wrong_bits.saturating_add(wrong),
             first_refused: self.first_after(refused),
         }
     }

@@ -13,56 +13,51 @@ const LANES: usize = 256;
 
 // The wrong bits of a byte: the ones in the exclusive-or.
 fn wrong_in_byte(sent: u8, read: u8) -> u8
-    ensures { (result ≡ ones (bit_xor sent read)) × (result ≤ 8) }
+    ensures counted { result ≡ ones (bit_xor sent read) }
+    ensures most { result ≤ 8 }
 {
-    u8::count_ones(sent ^ read) as u8
-}
-
-// The bytes of a row where so many are left.
-fn row_length(left: usize) -> usize
-    ensures { (result ≤ left) × (result ≤ lane_count) × (result < lane_count → result ≡ left) }
-{
-    if left < LANES { left } else { LANES }
+    (sent ^ read).count_ones() as u8
 }
 
 // Adds the wrong bits of a row to the lanes.
 fn add_row(lanes: &mut [u8], sent: &[u8], read: &[u8], row: usize)
-    requires { (lane_count * row < length sent.now) × (length sent.now ≤ most_bytes) × (length read.now ≡ length sent.now) × Rows sent.now read.now row lanes.old }
+    requires row_in { lane_count * row < length sent.now }
+    requires frame { length sent.now ≤ most_bytes }
+    requires same_length { length read.now ≡ length sent.now }
+    requires counted { Rows sent.now read.now row lanes.old }
     ensures { Rows sent.now read.now (row + 1) lanes.new }
 {
     let at = LANES * row;
-    let end = row_length(sent.len() - at);
-    let mut j = 0;
-    while j < end {
-        lanes[j] = lanes[j] + wrong_in_byte(sent[at + j], read[at + j]);
-        j += 1;
+    let end = (sent.len() - at).min(LANES);
+    for j in 0..end {
+        lanes[j] += wrong_in_byte(sent[at + j], read[at + j]);
     }
 }
 
 // The sum of the lanes that are used.
 fn sum_lanes(lanes: &[u8], used: usize) -> u32
-    requires { (used ≤ length lanes.now) × (used ≤ lane_count) × AtMost 248 lanes.now × ((j : ℕ) → used ≤ j → get_or lanes.now j 0 ≡ 0) }
+    requires within { used ≤ length lanes.now }
+    requires row { used ≤ lane_count }
+    requires small { AtMost 248 lanes.now }
+    requires unused { (j : ℕ) → used ≤ j → get_or lanes.now j 0 ≡ 0 }
     ensures { result ≡ sum lanes.now }
 {
     let mut total: u16 = 0;
-    let mut j = 0;
-    while j < used {
-        total = total + lanes[j] as u16;
-        j += 1;
+    for &lane in &lanes[..used] {
+        total += u16::from(lane);
     }
-    total as u32
+    u32::from(total)
 }
 
 // The wrong bits of a frame. Called by proved code only.
 pub fn wrong_bits(sent: &[u8], read: &[u8]) -> u32
-    requires { (length sent.now ≤ most_bytes) × (length read.now ≡ length sent.now) }
+    requires frame { length sent.now ≤ most_bytes }
+    requires same_length { length read.now ≡ length sent.now }
     ensures { result ≡ wrong_bits sent.now read.now }
 {
     let mut lanes = [0u8; LANES];
-    let mut row = 0;
-    while LANES * row < sent.len() {
+    for row in 0..sent.len().div_ceil(LANES) {
         add_row(&mut lanes, sent, read, row);
-        row += 1;
     }
-    sum_lanes(&lanes, row_length(sent.len()))
+    sum_lanes(&lanes, sent.len().min(LANES))
 }

@@ -13,6 +13,7 @@ use Rattle.g9932.specs.Order.{pair, in_twos}
 use Rattle.g9932.specs.Sizes.{unpack, most_bytes}
 use Rattle.g9932.specs.Trellis.{taken, sent_bits, zero_state}
 use Rattle.trellis.specs.Coding.{coded_word, first_coder, CodesPair, CodeNeeds, CodesFrom, CodesFrame, FrameNeeds}
+use Rattle.trellis.specs.declared.Coder.{Coder}
 use Rattle.trellis.specs.declared.PairCode.{PairCode}
 use Rattle.trellis.proofs.CodeLoop.{encode_step}
 use Rattle.trellis.proofs.Entries.{whole_pairs, padded_pairs, not_forced, padded_taken}
@@ -45,11 +46,11 @@ module _ (frame : List ℕ) (start : ℕ) (es labels : List ℕ) (needs : FrameN
         let b = needs.bits in
         (rw hy a.0, rw hy a.1, omega arith, needs.small)
 
-    module _ (p : PairCode) (first : CodesPair (first_coder start) false (pair 0 y) frame p) where
+    module _ (p : PairCode Coder) (first : CodesPair (first_coder start) false (pair 0 y) frame p) where
       here : 0 < length labels
       here = omega (arith, needs.enough, same)
 
-      pub odd_needs : CodeNeeds p.coder es 1 frame (set labels 0 p.w)
+      pub odd_needs : CodeNeeds p.next es 1 frame (set labels 0 p.w)
       odd_needs =
           let t = padded_taken es y needs.enough odd hy in
           record {
@@ -63,7 +64,7 @@ module _ (frame : List ℕ) (start : ℕ) (es labels : List ℕ) (needs : FrameN
             within = within_set es labels 0 p.w here (λ k h. absurd (omega arith)) (rw (← hy) first.w_small);
           }
 
-      pub odd_coded : (after : List ℕ) → CodesFrom p.coder es 1 frame (set labels 0 p.w) after → CodesFrame frame start es after
+      pub odd_coded : (after : List ℕ) → CodesFrom p.next es 1 frame (set labels 0 p.w) after → CodesFrame frame start es after
       unfolding bits
       odd_coded after g =
           let f : List Bool = drop start (unpack frame) in

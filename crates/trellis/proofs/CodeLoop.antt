@@ -1,6 +1,7 @@
 -- The loop that codes pair by pair: what is sent and what is still to code make the whole.
 use mathlib.Core.Path.{◌≡◌, refl, sym, ap, ◌∙◌}
-use mathlib.Core.Bool.{Bool}
+use mathlib.Core.Bool.{Bool, true, false}
+use borrow.Author.Tests.{lt-ltb, le-ltb}
 use mathlib.Core.List.{List, [], ◌∷◌, ◌++◌, append_assoc, append-nil}
 use Prim.Native.Nat.{ℕ, ◌+◌, ◌-◌, ◌≤◌, ◌<◌}
 use native.Mathlib.Nat.{lt_of_lt_of_le}
@@ -39,6 +40,11 @@ pub record CodesUpTo (c k : Coder) (es frame labels after : List ℕ) (from i : 
 pub going_start : {c : Coder} {es frame labels : List ℕ} {from : ℕ} → CodeNeeds c es from frame labels → CodesUpTo c c es frame labels labels from from
 going_start r = record { kept = refl; needs = r; whole = refl }
 
+-- the entry, told otherwise
+pub going_to : {c k : Coder} {es frame labels₀ labels : List ℕ} {from i j : ℕ} → CodesUpTo c k es frame labels₀ labels from i → i ≡ j
+    → CodesUpTo c k es frame labels₀ labels from j
+going_to g e = rw e at g
+
 pub going_end : {c k : Coder} {es frame labels₀ labels : List ℕ} {from i : ℕ} → CodesUpTo c k es frame labels₀ labels from i → length es ≤ i + 1
     → CodesFrom c es from frame labels₀ labels
 unfolding encode_pairs
@@ -69,6 +75,16 @@ pub record AtPair (c k : Coder) (es frame labels₀ labels : List ℕ) (from i x
   pub is_y : y ≡ get_or es (i + 1) 0
   pub is_forced : forced ≡ ltb (length es - i) 6
 
+module _ {c k : Coder} {es frame labels₀ labels : List ℕ} {from i x y : ℕ} (g : CodesUpTo c k es frame labels₀ labels from i) (is_x : x ≡ get_or es i 0) (is_y : y ≡ get_or es (i + 1) 0) where
+  -- it is not one of the last two
+  pub free_pair : i + 6 ≤ length es → AtPair c k es frame labels₀ labels from i x y false
+  free_pair h = record { up_to = g; more = omega arith; is_x = is_x; is_y = is_y; is_forced = sym (le-ltb (length es - i) 6 (omega arith)) }
+
+  -- it is
+  pub forced_pair : i < length es → length es ≤ i + 5 → AtPair c k es frame labels₀ labels from i x y true
+  forced_pair h last =
+      record { up_to = g; more = omega (arith, g.needs.even); is_x = is_x; is_y = is_y; is_forced = sym (lt-ltb (length es - i) 6 (omega arith)) }
+
 module _ {c k : Coder} {es frame labels₀ labels : List ℕ} {from i x y : ℕ} {forced : Bool} (h : AtPair c k es frame labels₀ labels from i x y forced) where
   cut : in_twos (drop i es) ≡ pair x y ∷ in_twos (drop (i + 2) es)
   cut = cut_pair es i x y h.more h.is_x h.is_y
@@ -83,11 +99,11 @@ module _ {c k : Coder} {es frame labels₀ labels : List ℕ} {from i x y : ℕ}
       record { x_range = (at_wide.0, at_wide.1); y_range = (at_wide.2, at_wide.3); bits = rw (is_forced_lem es i h.more h.is_forced) (omega (arith, b)); small = r.small }
 
   -- the labels fit their places
-  pub labels_fit_lem : {p : PairCode} → CodesPair k forced (pair x y) frame p → (p.v < 65536) × (p.w < 65536)
+  pub labels_fit_lem : {p : PairCode Coder} → CodesPair k forced (pair x y) frame p → (p.v < 65536) × (p.w < 65536)
   labels_fit_lem q = (lt_of_lt_of_le q.v_small (pow_mono {j = 16} (omega (arith, at_wide))), lt_of_lt_of_le q.w_small (pow_mono {j = 16} (omega (arith, at_wide))))
 
   -- one pair more
-  pub going_step : {p : PairCode} → CodesPair k forced (pair x y) frame p → CodesUpTo c p.coder es frame labels₀ (set (set labels i p.v) (i + 1) p.w) from (i + 2)
+  pub going_step : {p : PairCode Coder} → CodesPair k forced (pair x y) frame p → CodesUpTo c p.next es frame labels₀ (set (set labels i p.v) (i + 1) p.w) from (i + 2)
   going_step {p} q =
       let r = h.up_to.needs in
       let f : List Bool = drop k.at (unpack frame) in

@@ -2,13 +2,12 @@
 use mathlib.Core.Path.{◌≡◌, refl, sym, ap, ◌∙◌}
 use mathlib.Core.Bool.{Bool, true, false}
 use mathlib.Core.List.{List, [], ◌∷◌}
-use Prim.Native.Nat.{ℕ, ◌+◌, ◌-◌, ◌%◌, ◌^◌, ◌≤◌, ◌<◌}
+use Prim.Native.Nat.{ℕ, ◌+◌, ◌-◌, ◌%◌, ◌≤◌, ◌<◌}
 use native.Mathlib.Omega.{arith}
 use borrow.Author.Tests.{lt-ltb, le-ltb, ltb-true, ltb-false, eq-eqb, ne_eqb}
 use lib.Dec.{ltb}
 use lib.ListN.{length, drop, get_or, length-drop}
 use lib.Seq.{drop-cons}
-use Rattle.g9932.specs.Sizes.{most_tones}
 use Rattle.g9932.specs.Order.{Wide, pair, in_twos, pairs_of}
 use Rattle.g9932.specs.Trellis.{last_two, taken, taken_total}
 use Rattle.g9932.proofs.Formed.{last_two_length, three_pairs}
@@ -59,22 +58,3 @@ not_forced es enough odd = sym (three_pairs (drop 1 es) (simp length-drop (omega
 pub padded_taken : (es : List ℕ) (y : ℕ) → 4 ≤ length es → length es % 2 ≡ 1 → y ≡ get_or es 0 0
     → taken_total (pairs_of es) ≡ taken false (pair 0 y) + taken_total (in_twos (drop 1 es))
 padded_taken es y enough odd hy = rw (padded_pairs es y enough odd hy, ← (not_forced es enough odd))
-
--- ---- a place among the entries, as the loops ask for it
-
-pub record PairInside (i n : ℕ) : Type 0 where
-  pub here : i < n
-  pub next : i + 1 < 2 ^ 64
-  pub after : i + 2 < 2 ^ 64
-  pub less : n - (i + 2) < n - i
-
-pub pair_inside : {i n : ℕ} → i + 1 < n → n ≤ most_tones → PairInside i n
-pair_inside h m = record { here = omega arith; next = omega arith; after = omega arith; less = omega arith }
-
--- a free pair has two pairs after it
-pub record FreeInside (i n : ℕ) : Type 0 where
-  pub more : i + 1 < n
-  pub six : 6 ≤ n - i
-
-pub free_inside : {i n : ℕ} → i + 5 < n → FreeInside i n
-free_inside h = record { more = omega arith; six = omega arith }

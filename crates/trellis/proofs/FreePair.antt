@@ -14,10 +14,11 @@ use Rattle.g9932.specs.Trellis.{taken, low_bits, next_state}
 use Rattle.g9932.specs.declared.LowBits.{LowBits}
 use Rattle.g9932.specs.declared.TrellisState.{TrellisState}
 use Rattle.trellis.specs.Coding.{label_number, CodesPair}
-use Rattle.trellis.specs.Steps.{state_at, step_number, coder_at}
+use Rattle.trellis.specs.Steps.{state_at, step_number}
+use Rattle.trellis.specs.Pairs.{coder_at}
 use Rattle.trellis.proofs.Numbers.{inputs_of}
 use Rattle.trellis.proofs.OnePair.{got_pair}
-use Rattle.trellis.proofs.Steps.{same_odd, same_half, same_quarter, state_back, step_v, step_w, step_next}
+use Rattle.trellis.proofs.StepNumbers.{same_odd, same_half, same_quarter, state_back, step_v, step_w, step_next}
 
 -- the bits that the pair takes, and those of the word
 module _ (word x y : ℕ) (hx : 2 ≤ x) (hy : 2 ≤ y) where
@@ -48,7 +49,7 @@ module _ (l : List ℕ) (state at x y word t : ℕ) (hx : 2 ≤ x) (kx : x ≤ 1
     (room : at + taken false (pair x y) ≤ 8 * length l) (ahead : Ahead word (drop at (unpack l)))
     (step : t ≡ step_number (state_at state) (odd word) (odd (word / 2)) (odd (word / 4))) where
   pub free_coded : (v w : ℕ) → v ≡ t % 4 + 4 * (word / 8 % 2 ^ (x - 2)) → w ≡ t / 4 % 4 + 4 * (word / 2 ^ (x + 1) % 2 ^ (y - 2))
-      → CodesPair (coder_at state at) false (pair x y) l (record { v = v; w = w; coder = coder_at (t / 16) (at + (x + y - 1)) })
+      → CodesPair (coder_at state at) false (pair x y) l (record { v = v; w = w; next = coder_at (t / 16) (at + (x + y - 1)) })
   unfolding inputs_of
   free_coded v w hv hw =
       let s : TrellisState = state_at state in

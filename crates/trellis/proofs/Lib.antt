@@ -2,6 +2,6 @@ pub mod Numbers
 pub mod OnePair
 pub mod Entries
 pub mod CodeLoop
-pub mod Steps
+pub mod StepNumbers
 pub mod FreePair
 pub mod CodeAll

@@ -2,16 +2,28 @@
 use mathlib.Core.Path.{◌≡◌, refl, sym, ap, ◌∙◌}
 use mathlib.Core.Bool.{Bool, true, false}
 use mathlib.Core.List.{List, [], ◌∷◌}
-use Prim.Native.Nat.{ℕ, suc, ◌-◌, ◌/◌, ◌%◌, ◌^◌}
+use Prim.Native.Nat.{ℕ, suc, ◌-◌, ◌*◌, ◌/◌, ◌%◌, ◌^◌, ◌<◌}
+use lib.Pow.{shl_exact}
 use native.Mathlib.Nat.{add-zero}
 use native.Mathlib.Omega.{arith}
 use lib.ListN.{take, drop, get_or}
 use lib.Seq.{get_or-drop}
-use Rattle.g9932.specs.Bits.{◌⊕◌, bit, odd, num}
+use Rattle.g9932.specs.Bits.{◌⊕◌, bit, odd, num, weight}
+use Rattle.std.specs.Int.{from_bool}
 use Rattle.g9932.specs.Trellis.{Word, word_of, low_bits_of}
 use Rattle.g9932.specs.declared.TrellisState.{TrellisState}
 use Rattle.g9932.proofs.Words.{odd_weight, num_take, num_drop}
 use Rattle.trellis.specs.Coding.{label_number}
+
+-- a bit as a number, as the code has it
+pub weight_from : (b : Bool) → from_bool b ≡ weight b
+unfolding weight
+weight_from true = refl
+weight_from false = refl
+
+-- 2 to the k, as the code shifts it
+pub one_shifted : (k : ℕ) → k < 32 → 1 * 2 ^ k % 4294967296 ≡ 2 ^ k
+one_shifted k h = shl_exact 1 k 32 (omega arith) (omega arith) ∙ (omega arith)
 
 pub lowest : (l : List Bool) → bit l 0 ≡ odd (num l)
 unfolding num odd

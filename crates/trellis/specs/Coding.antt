@@ -24,9 +24,9 @@ pub record CodePairNeeds (c : Coder) (forced : Bool) (p : Pair) (frame : List �
   pub small : length frame ≤ most_bytes
 
 -- the bits of v, then of w, are the pair's sent bits
-pub record CodesPair (c : Coder) (forced : Bool) (p : Pair) (frame : List ℕ) (r : PairCode) : Type 0 where
-  pub state : r.coder.state ≡ next_of c.state (coded_word c forced p frame)
-  pub at : r.coder.at ≡ c.at + taken forced p
+pub record CodesPair (c : Coder) (forced : Bool) (p : Pair) (frame : List ℕ) (r : PairCode Coder) : Type 0 where
+  pub state : r.next.state ≡ next_of c.state (coded_word c forced p frame)
+  pub at : r.next.at ≡ c.at + taken forced p
   pub sends : bits p.x r.v ++ bits p.y r.w ≡ sent_bits p.x (coded_word c forced p frame)
   pub v_small : r.v < 2 ^ p.x
   pub w_small : r.w < 2 ^ p.y

@@ -1,14 +1,9 @@
--- The free pairs: the state as a number, and the table of the encoder's steps.
-use Rattle.std.specs.Prelude.{Bool, false, List, ◌≡◌, ℕ, ◌+◌, ◌-◌, ◌*◌, ◌/◌, ◌%◌, ◌<◌}
+-- The state as a number, and the table of the encoder's steps.
+use Rattle.std.specs.Prelude.{Bool, List, ℕ, ◌+◌, ◌*◌, ◌/◌}
 use Rattle.g9932.specs.Bits.{weight, odd, values_from}
-use Rattle.g9932.specs.Order.{pair}
 use Rattle.g9932.specs.Trellis.{low_bits, next_state}
 use Rattle.g9932.specs.declared.LowBits.{LowBits}
 use Rattle.g9932.specs.declared.TrellisState.{TrellisState}
-use Rattle.trellis.specs.Coding.{CodesPair}
-use Rattle.trellis.specs.declared.Coder.{Coder}
-use Rattle.trellis.specs.declared.pairs.FreePair.{FreePair}
-use Rattle.trellis.specs.declared.pairs.NumberStep.{NumberStep}
 
 -- a state (S3, S2, S1, S0) as a number, and the state of a number
 unfoldable pub state_number : TrellisState → ℕ
@@ -30,19 +25,3 @@ step_at k = step_number (state_at (k / 8)) (odd k) (odd (k / 2)) (odd (k / 4))
 
 unfoldable pub step_list : List ℕ
 step_list = values_from step_at 0 128
-
--- the coder whose state has a number
-abbrev pub coder_at : ℕ → ℕ → Coder
-coder_at state at = record { state = state_at state; at = at }
-
--- what a step hands back, by its number
-pub record StepsBy (t : ℕ) (r : NumberStep) : Type 0 where
-  pub next_is : r.next.0 ≡ t / 16
-  pub v_is : r.v ≡ t % 4
-  pub w_is : r.w ≡ t / 4 % 4
-  pub small : t < 256
-
--- a free pair coded
-pub record CodesFreePair (state at x y : ℕ) (frame : List ℕ) (r : FreePair) : Type 0 where
-  pub small : r.state.0 < 16
-  pub codes : CodesPair (coder_at state at) false (pair x y) frame (record { v = r.v; w = r.w; coder = coder_at r.state.0 (at + (x + y - 1)) })

@@ -1,37 +1,52 @@
 -- `constellation::read_point` meets its contract: the test of refusal 16, then the label, or 13.
+use Rattle.std.specs.Prelude.{Option, None, Some}
+use Rattle.std.specs.Option.{option_map}
+use mathlib.Core.Bool.{Bool}
+use Rattle.g9932.specs.Answers.{OneTone, tone_done, tone_refused, label_found}
+use mathlib.Core.List.{List}
+use mathlib.Core.Logic.{inl, inr}
+use mathlib.Core.Path.{◌≡◌, refl, sym, ap, ◌∙◌}
+use Prim.Native.Nat.{ℕ}
 use native.Mathlib.Omega.{arith}
-use mathlib.Core.Bool.{true, false}
-use mathlib.Core.Path.{◌≡◌, sym, ap, ◌∙◌}
-use mir.Syntax.{w16}
-use mir.ValLaws.{to_z-of_z}
+use Rattle.g9932.specs.Bits.{num}
+use Rattle.g9932.specs.Points.{label_of}
 use Rattle.g9932.specs.Sizes.{point}
-use Rattle.g9932.specs.Points.{label_of, is_label}
-use Rattle.g9932.specs.Answers.{tone_done}
 use Rattle.g9932.proofs.OneTone.{read_below, read_above, read_counted}
-use Rattle.constellation.specs.Reading.{FoundLabelIs}
-use Rattle.constellation.proofs.Reading.{label_found_lem, label_none}
+use Rattle.constellation.specs.Layouts.{carries}
+use Rattle.constellation.proofs.DemapByLayout.{is_layout}
 use Rattle.constellation.proofs.read_point.Goals as goal
-use Rattle.constellation.proofs.read_point.Goals.{After-label_of-s}
+use Rattle.constellation.proofs.read_point.Goals.{After-label_by}
 
-sought : (c : After-label_of-s) → FoundLabelIs c.label_of-s.result (label_of c.args.bits (point c.args.x c.args.y))
-sought c =
-    rw (to_z-of_z w16 c.args.x c.ranges.x, to_z-of_z w16 c.args.y c.ranges.y) at c.label_of-s.ensures
+-- the label that is found, as a number
+found : (c : After-label_by) → c.label_by.result ≡ option_map num (label_of c.args.bits (point c.args.p.x c.args.p.y))
+found c =
+    c.label_by.ensures.sought c.args.bits (omega arith) (omega arith) c.layout_of.ensures
+
+-- the answer that a label, or none, makes
+abbrev answer : Option ℕ → OneTone ℕ
+answer (Some l) = tone_done l
+answer None = tone_refused 13
+
+answered : (o : Option (List Bool)) → answer (option_map num o) ≡ label_found o
+answered (Some v) = refl
+answered None = refl
 
 pub returns-then-bits-lt1 : goal.returns-then-bits-lt1
-returns-then-bits-lt1 c = let a = c.args in sym (read_below a.bits (point a.x a.y) c.if-bits-lt1.true)
+returns-then-bits-lt1 c =
+    let p = point c.args.p.x c.args.p.y in
+    elim c.then-bits-lt1.either [ inl h ↦ sym (read_below c.args.bits p h) | inr h ↦ sym (read_above c.args.bits p h.1) ]
 
-pub returns-then-bits-gt15 : goal.returns-then-bits-gt15
-returns-then-bits-gt15 c = let a = c.args in sym (read_above a.bits (point a.x a.y) c.if-bits-gt15.true)
+pub label_by-requires : goal.label_by-requires
+label_by-requires c = is_layout c.layout_of.result (carries c.args.bits (omega arith) (omega arith) c.layout_of.ensures)
 
-pub returns-then-s : goal.returns-then-s
-returns-then-s c =
-    let a = c.args in
-    let r = sought (goal.at.returns-then-s c).After-label_of-s in
-    let e : is_label (label_of a.bits (point a.x a.y)) ≡ true = sym r.found ∙ c.if-s.true in
-    rw (read_counted a.bits (point a.x a.y) (omega arith) (omega arith), label_found_lem (label_of a.bits (point a.x a.y)) e) (ap tone_done (r.label e))
+pub returns-in-Some : goal.returns-in-Some
+returns-in-Some c =
+    let p = point c.args.p.x c.args.p.y in
+    let e = ap answer (sym c.in-Some.is ∙ found (goal.at.returns-in-Some c).After-label_by) in
+    ap tone_done c.from.ensures ∙ e ∙ answered (label_of c.args.bits p) ∙ sym (read_counted c.args.bits p (omega arith) (omega arith))
 
-pub returns : goal.returns
-returns c =
-    let a = c.args in
-    let e : is_label (label_of a.bits (point a.x a.y)) ≡ false = sym (sought (goal.at.returns c).After-label_of-s).found ∙ c.if-s.false in
-    rw (read_counted a.bits (point a.x a.y) (omega arith) (omega arith), label_none (label_of a.bits (point a.x a.y)) e)
+pub returns-in-None : goal.returns-in-None
+returns-in-None c =
+    let p = point c.args.p.x c.args.p.y in
+    let e = ap answer (sym c.in-None.is ∙ found (goal.at.returns-in-None c).After-label_by) in
+    e ∙ answered (label_of c.args.bits p) ∙ sym (read_counted c.args.bits p (omega arith) (omega arith))

@@ -21,10 +21,10 @@ pub returns : goal.returns
 returns c =
     let e = c.sides_of-x.ensures in
     let f = c.sides_of-y.ensures in
-    let c0 = c.cheaper.ensures in
-    let c1 = c.cheaper-2.ensures in
-    let c2 = c.cheaper-3.ensures in
-    let c3 = c.cheaper-4.ensures in
+    let c0 = c.min.ensures in
+    let c1 = c.min-2.ensures in
+    let c2 = c.min-3.ensures in
+    let c3 = c.min-4.ensures in
     record {
       costs = λ b lb mb shape p at. cross_costs b _ _ _ c.sides_of-x.result c.sides_of-y.result lb mb shape e f p at c.if-h.false _ c0 c1 c2 c3;
       small = record {

@@ -8,7 +8,7 @@ returns c =
     let h = c.shape_of.ensures in
     let o = c.coset_costs.ensures in
     record {
-      tone = λ b lb mb e p s. tone_least (o.costs b lb mb (h.shaped b lb mb e) p s.raised);
-      one = λ e p s. one_costs (o.costs 2 (omega arith) (omega arith) (h.one e) p s.raised);
+      tone = λ b lb mb e p s. tone_least (o.costs b lb mb (h.shaped b lb mb e) p s);
+      one = λ e p s. one_costs (o.costs 2 (omega arith) (omega arith) (h.one e) p s);
       small = o.small;
     }

@@ -13,11 +13,11 @@ pub returns : goal.returns
 returns c =
     let fx = to_z-of_z w16 c.coordinate_at.result (raised_fits c.coordinate_at.result (2 * c.nearest-n.result.u + 1) c.coordinate_at.ensures (omega (arith, c.nearest-n.ensures.u_small))) in
     let fy = to_z-of_z w16 c.coordinate_at-2.result (raised_fits c.coordinate_at-2.result (2 * c.nearest-n.result.w + 1) c.coordinate_at-2.ensures (omega (arith, c.nearest-n.ensures.w_small))) in
-    let e1 : c.args.low / 2 ≡ weight (odd (c.args.low / 2)) = omega (arith, weight_odd (c.args.low / 2), c.requires.2) in
+    let e1 : c.args.low / 2 ≡ weight (odd (c.args.low / 2)) = omega (arith, weight_odd (c.args.low / 2), c.requires.1) in
     let e0 : c.args.low % 2 ≡ weight (odd c.args.low) = omega (arith, weight_odd c.args.low) in
     rw (fx, fy) (record {
       tone =
           λ b lb mb e p s.
-          label_nearest (c.nearest-n.ensures.nearest b lb mb (c.shape_of.ensures.shaped b lb mb e) (odd (c.args.low / 2)) (odd c.args.low) e1 e0 p s.raised)
+          label_nearest (c.nearest-n.ensures.nearest b lb mb (c.shape_of.ensures.shaped b lb mb e) (odd (c.args.low / 2)) (odd c.args.low) e1 e0 p s)
           c.coordinate_at.result c.coordinate_at-2.result c.coordinate_at.ensures c.coordinate_at-2.ensures;
     })

@@ -4,8 +4,8 @@ use mathlib.Core.Path.{sym, ◌∙◌}
 use native.Mathlib.Omega.{arith}
 use Rattle.decisions.proofs.label_points.Goals as goal
 
-pub demap_all-all_on-requires : goal.demap_all-all_on-requires
-demap_all-all_on-requires c =
+pub demap_all-requires : goal.demap_all-requires
+demap_all-requires c =
     let s = c.requires.0 in
     let p = c.nearest_points.ensures in
     let n = p.xs_length ∙ s.lows_length in
@@ -23,4 +23,4 @@ pub returns : goal.returns
 returns c =
     let s = c.requires.0 in
     let p = c.nearest_points.ensures in
-    labels_are_lem s.places.layouts_length (p.xs_length ∙ s.lows_length) p c.demap_all-all_on.ensures c.put_labels.ensures
+    labels_are_lem s.places.layouts_length (p.xs_length ∙ s.lows_length) p c.demap_all.ensures c.put_labels.ensures

@@ -1,7 +1,6 @@
 -- `decisions::select_pairs` meets its contract. The invariant: the metrics are the least costs of the pairs from j on, and the survivors of
--- these pairs give them. The measure is j.
+-- these pairs give them.
 use Prim.Native.Nat.{◌-◌, ◌+◌, ◌*◌, ◌/◌, ◌%◌, ◌≤◌}
-use mathlib.Core.Path.{◌≡◌}
 use mathlib.Core.List.{List}
 use lib.ListN.{length, drop}
 use Rattle.cosets.specs.Meters.{Meter}
@@ -9,8 +8,4 @@ use Rattle.decisions.specs.Deciding.{lone_in, MeterCosts, Selected}
 use Rattle.decisions.proofs.select_pairs.Given as goal
 
 abbrev pub invariant-loop-j : goal.invariant-loop-j
-invariant-loop-j l = (length l.places % 2 ≤ l.j) × (l.j ≤ (length l.places + 1) / 2) × (length l.survivors ≡ length l.initial.survivors)
-    × ((ms : List Meter) → MeterCosts ms l.shared_from.0 l.places l.k0 l.k1 l.k2 l.k3 → Selected (drop (2 * l.j - lone_in l.places) ms) l.j l.survivors l.metric)
-
-abbrev pub decreases-loop-j : goal.decreases-loop-j
-decreases-loop-j l = l.j
+invariant-loop-j l = (length l.places % 2 ≤ l.j) × (l.j ≤ (length l.places + 1) / 2) × ((ms : List Meter) → MeterCosts ms l.shared_from.0 l.places l.costs → Selected (drop (2 * l.j - lone_in l.places) ms) l.j l.survivors l.metric)

@@ -4,5 +4,4 @@ use Rattle.frame.proofs.BitsAhead.{ahead_law}
 use Rattle.frame.proofs.ahead_inside.Goals as goal
 
 pub returns : goal.returns
-returns c = let a = c.args in
-    rw c.bit_in_byte.ensures (ahead_law a.bytes.now a.at 64 c.word64.result (omega arith) c.word64.ensures)
+returns c = ahead_law c.args.bytes.now c.args.at 64 c.word64.result (omega arith) c.word64.ensures

@@ -4,5 +4,4 @@ use Rattle.frame.proofs.BitsAhead.{ahead_law}
 use Rattle.frame.proofs.ahead_near_end.Goals as goal
 
 pub returns : goal.returns
-returns c = let a = c.args in
-    rw c.bit_in_byte.ensures (ahead_law a.bytes.now a.at 40 c.word40.result (omega arith) c.word40.ensures)
+returns c = ahead_law c.args.bytes.now c.args.at 40 c.word40.result (omega arith) c.word40.ensures

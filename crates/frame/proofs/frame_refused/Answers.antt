@@ -17,10 +17,10 @@ returns-then-frame-bytes_for c = let a = c.args in
 pub returns-then-get-ne0 : goal.returns-then-get-ne0
 returns-then-get-ne0 c = let a = c.args in
     before_refused a.start a.l a.frame.now (sym c.start_refused.ensures ∙ c.if-start_refused.false)
-    (c.if-frame-bytes_for.false ∙ c.bytes_for.ensures) c.get.ensures c.if-get-ne0.true
+    (c.if-frame-bytes_for.false ∙ c.bytes_for.ensures) (rw c.from.ensures at c.get.ensures) c.if-get-ne0.true
 
 pub returns : goal.returns
 returns c = let a = c.args in
     after_refused a.start a.l a.frame.now (sym c.start_refused.ensures ∙ c.if-start_refused.false)
-    (c.if-frame-bytes_for.false ∙ c.bytes_for.ensures) c.get.ensures c.if-get-ne0.false
-    _ _ c.byte_at.result (omega arith) (omega arith) c.byte_at.ensures
+    (c.if-frame-bytes_for.false ∙ c.bytes_for.ensures) (rw c.from.ensures at c.get.ensures) c.if-get-ne0.false
+    _ _ c.byte_at.result (omega arith) (omega arith) c.byte_at.ensures c.byte_at.type_inv

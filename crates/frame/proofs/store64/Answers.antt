@@ -1,14 +1,21 @@
--- `frame::store64` meets its contract: eight stores, each the next byte of the word.
-use Rattle.frame.proofs.Stores.{stored64}
-use Rattle.std.proofs.Common.{rules}
+-- `frame::store64` meets its contract: the eight bytes of the word.
+use native.Mathlib.Omega.{arith}
+use native.Mathlib.Nat.{div-one}
+use mathlib.Core.Path.{◌≡◌, refl, ◌∙◌}
+use Prim.Native.Nat.{◌+◌}
+use lib.ListN.{length}
+use Rattle.std.proofs.lemmas.Slice.{take-put_mid}
+use Rattle.g9932.specs.Bits.{bits}
+use Rattle.g9932.specs.Sizes.{unpack}
+use Rattle.g9932.proofs.Packed.{unpack_append}
+use Rattle.frame.proofs.Stores.{bytes_bits}
 use Rattle.frame.proofs.store64.Goals as goal
 
 pub returns : goal.returns
-returns c = let low8 = c.low8 in
-    let low82 = c.low8-2 in
-    let low83 = c.low8-3 in
-    let low84 = c.low8-4 in
-    let low85 = c.low8-5 in
-    let low86 = c.low8-6 in
-    stored64 c.args.bytes.now c.args.i c.args.w _ _ _ _ _ _ _ _ (search rules) low8.ensures low82.ensures low83.ensures
-    low84.ensures low85.ensures low86.ensures c.low8-7.ensures c.low8-8.ensures
+returns c =
+    let a = c.args in
+    let eight = c.copy_from_slice.new.self in
+    let is = c.copy_from_slice.ensures.after ∙ c.to_le_bytes.ensures in
+    let n : length eight ≡ 8 = rw is refl in
+    let b : unpack eight ≡ bits 64 a.w = rw is (rw div-one at (bytes_bits 0 8 a.w)) in
+    rw (take-put_mid a.i _ a.bytes.now eight (a.i + 8) (omega arith) (omega arith), unpack_append, b) refl

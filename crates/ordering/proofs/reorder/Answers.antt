@@ -1,35 +1,34 @@
 -- `ordering::reorder` meets its contract: a lent buffer is written only where neither 1 to 8 nor 10 refuses.
-use mathlib.Core.Path.{sym, ap, ◌∙◌}
-use borrow.Author.Tests.{eq-eqb, ne_eqb}
-use native.Mathlib.Omega.{arith}
+use Rattle.std.proofs.Common.{◌≡◌, true, ◌||◌, length, arith}
+use Rattle.std.proofs.lemmas.Bool.{eq-eqb, ne_eqb}
 use Rattle.g9932.proofs.Accepted.{accepted_tables}
-use Rattle.g9932.specs.Sizes.{tables}
+use Rattle.g9932.proofs.Verdicts.{number_none, passed_on}
+use Rattle.g9932.specs.Sizes.{tables_of}
 use Rattle.ordering.proofs.Answers.{reorder_refused, room_refused, reordered}
-use Rattle.g9932.proofs.Verdicts.{number_none}
-use Rattle.tables.specs.Modes.{sized_verdict}
 use Rattle.ordering.proofs.reorder.Goals as goal
+use Rattle.ordering.proofs.reorder.Goals.{then-tones_out-t-via-then-tones_out-t, then-tones_out-t-via-else-tones_out-t+then-bits_out-t}
+use Rattle.g9932.specs.Refusals.{room_test}
 
-pub returns-then-tones_out-tones : goal.returns-then-tones_out-tones
-returns-then-tones_out-tones c =
-    let e = ap sized_verdict (sym c.in-Frame.is) ∙ c.size_tables-s.ensures.answer in
-    room_refused _ _ _ e (rw (ne_eqb _ _ c.if-tones_out-tones.true))
+pub returns-in_err-frame : goal.returns-in_err-frame
+returns-in_err-frame c =
+    rw (passed_on c.from_residual.result c.from_residual.ensures.1) (reorder_refused _ _ _ _ c.in_err-frame.ensures.answer)
 
-pub returns-then-bits_out-tones : goal.returns-then-bits_out-tones
-returns-then-bits_out-tones c =
-    let e = ap sized_verdict (sym c.in-Frame.is) ∙ c.size_tables-s.ensures.answer in
-    room_refused _ _ _ e (rw (eq-eqb _ _ c.if-tones_out-tones.false, ne_eqb _ _ c.if-bits_out-tones.true))
+pub returns-then-tones_out-t : goal.returns-then-tones_out-t
+returns-then-tones_out-t c =
+    let n = length c.args.t.tones.now in
+    let wrong : room_test (length c.args.tones_out.now) n || room_test (length c.args.bits_out.now) n ≡ true =
+    elim c.then-tones_out-t.branch [
+      | then-tones_out-t-via-then-tones_out-t w ↦ rw (ne_eqb _ _ w.if-tones_out-t.true)
+      | then-tones_out-t-via-else-tones_out-t+then-bits_out-t w ↦ rw (eq-eqb _ _ w.if-tones_out-t.false, ne_eqb _ _ w.if-bits_out-t.true)
+    ] in
+    room_refused _ _ _ c.in_ok-frame.ensures.answer wrong
 
 pub write_order-requires : goal.write_order-requires
 write_order-requires c =
-    let e = c.in-Frame.is in
-    let h = rw e at c.size_tables-s.ensures.shares in
-    let k = accepted_tables (tables c.args.mode c.args.bits.now c.args.gains.now c.args.tones.now) (number_none (ap sized_verdict (sym e) ∙ c.size_tables-s.ensures.answer)) in
-    record { fits = record { tones_fit = omega (arith, c.if-tones_out-tones.false); bits_fit = omega (arith, c.if-bits_out-tones.false) }; below = k.tones_below; entries_are = h.0; sharers_are = h.1; even = h.2 }
+    let h = c.in_ok-frame.ensures.shares in
+    let k = accepted_tables (tables_of c.args.mode c.args.t) (number_none c.in_ok-frame.ensures.answer) in
+    record { fits = record { tones_fit = omega arith; bits_fit = omega arith }; below = k.tones_below; entries_are = h.0; sharers_are = h.1; even = h.2 }
 
-pub returns-in-Refused : goal.returns-in-Refused
-returns-in-Refused c = reorder_refused _ _ _ _ (ap sized_verdict (sym c.in-Refused.is) ∙ c.size_tables-s.ensures.answer)
-
-pub returns-else-bits_out-tones : goal.returns-else-bits_out-tones
-returns-else-bits_out-tones c =
-    let e = ap sized_verdict (sym c.in-Frame.is) ∙ c.size_tables-s.ensures.answer in
-    reordered _ _ _ e (omega (arith, c.if-tones_out-tones.false)) (omega (arith, c.if-bits_out-tones.false)) c.write_order.auto.reordered_tones c.write_order.auto.reordered_bits c.write_order.ensures
+pub returns : goal.returns
+returns c =
+    reordered _ _ _ c.in_ok-frame.ensures.answer c.if-tones_out-t.false c.if-bits_out-t.false c.write_order.auto.reordered_tones c.write_order.auto.reordered_bits c.write_order.ensures

@@ -22,8 +22,8 @@ loop-g-preserved c =
     ∙ ap (λ m. group_at m c.args.edges.now c.loop-g.g) c.reached-from.ensures in
     let gi : GroupIs c.args.old.now c.args.edges.now c.args.late c.loop-g.g r =
     subst (GroupIs c.args.old.now c.args.edges.now c.args.late c.loop-g.g) (sym e) (group_reached c.args.old.now c.args.edges.now c.requires.1 c.requires.2 c.args.late c.loop-g.g (omega arith)) in
-    let s1 = stored_more c.loop-g.invariant.1 (8 * (c.loop-g.g / 2) + c.loop-g.g) r.a c.store.new.new c.store.new.survivors (omega arith) room gi.is_a c.store.ensures.0 c.store.ensures.1 in
+    let s1 = stored_more c.loop-g.invariant (8 * (c.loop-g.g / 2) + c.loop-g.g) r.a c.store.new.new c.store.new.survivors (omega arith) room gi.is_a c.store.ensures.0 c.store.ensures.1 in
     let s2 = stored_more s1 (8 * (1 - c.loop-g.g / 2) + c.loop-g.g) r.b c.store-in-loop-g.new.new c.store-in-loop-g.new.survivors (omega arith) room gi.is_b c.store-in-loop-g.ensures.0 c.store-in-loop-g.ensures.1 in
     let s3 = stored_more s2 (8 * (c.loop-g.g / 2) + 4 + c.loop-g.g) r.c c.store-in-loop-g-2.new.new c.store-in-loop-g-2.new.survivors (omega arith) room gi.is_c c.store-in-loop-g-2.ensures.0 c.store-in-loop-g-2.ensures.1 in
     let s4 = stored_more s3 (8 * (1 - c.loop-g.g / 2) + 4 + c.loop-g.g) r.d c.store-in-loop-g-3.new.new c.store-in-loop-g-3.new.survivors (omega arith) room gi.is_d c.store-in-loop-g-3.ensures.0 c.store-in-loop-g-3.ensures.1 in
-    (omega arith, stored_group {g = c.loop-g.g} (omega arith) s4)
+    stored_group {g = c.loop-g.g} (omega arith) s4

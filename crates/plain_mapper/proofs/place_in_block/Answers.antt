@@ -4,37 +4,36 @@ use Rattle.g9932.specs.Bits.{first}
 use Rattle.plain_mapper.proofs.Signed.{is_number, other_number}
 use Rattle.plain_mapper.proofs.place_in_block.Goals as goal
 
-pub returns-then-up-eq0 : goal.returns-then-up-eq0
+pub returns-in-0-eq0 : goal.returns-in-0-eq0
 unfolding first
-returns-then-up-eq0 c =
-    rw (is_number c.args.right 0 c.ranges.right c.if-right-eq0.true, is_number c.args.up 0 c.ranges.up c.if-up-eq0.true)
+returns-in-0-eq0 c = let w = c.in-0-eq0 in rw (is_number c.args.right 0 c.ranges.right w.is-0, is_number c.args.up 0 c.ranges.up w.is-1)
 
-pub returns-then-up-eq2 : goal.returns-then-up-eq2
+pub returns-in-0-eq2 : goal.returns-in-0-eq2
 unfolding first
-returns-then-up-eq2 c =
-    rw (is_number c.args.right 0 c.ranges.right c.if-right-eq0.true, is_number c.args.up 2 c.ranges.up c.if-up-eq2.true)
+returns-in-0-eq2 c = let w = c.in-0-eq2 in rw (is_number c.args.right 0 c.ranges.right w.is-0, is_number c.args.up 2 c.ranges.up w.is-1)
 
-pub returns-then-right-eq0 : goal.returns-then-right-eq0
+pub returns-in-2-eq0 : goal.returns-in-2-eq0
 unfolding first
-returns-then-right-eq0 c =
-    rw (is_number c.args.right 0 c.ranges.right c.if-right-eq0.true, other_number (pos 0) c.args.up c.if-up-eq0.false, other_number (pos 2) c.args.up c.if-up-eq2.false)
+returns-in-2-eq0 c = let w = c.in-2-eq0 in rw (is_number c.args.right 2 c.ranges.right w.is-0, is_number c.args.up 0 c.ranges.up w.is-1)
 
-pub returns-then-up-eq0-2 : goal.returns-then-up-eq0-2
+pub returns-in-2-eq2 : goal.returns-in-2-eq2
 unfolding first
-returns-then-up-eq0-2 c =
-    rw (is_number c.args.right 2 c.ranges.right c.if-right-eq2.true, is_number c.args.up 0 c.ranges.up c.if-up-eq0-2.true)
+returns-in-2-eq2 c = let w = c.in-2-eq2 in rw (is_number c.args.right 2 c.ranges.right w.is-0, is_number c.args.up 2 c.ranges.up w.is-1)
 
-pub returns-then-up-eq2-2 : goal.returns-then-up-eq2-2
+pub returns-in_default : goal.returns-in_default
 unfolding first
-returns-then-up-eq2-2 c =
-    rw (is_number c.args.right 2 c.ranges.right c.if-right-eq2.true, is_number c.args.up 2 c.ranges.up c.if-up-eq2-2.true)
+returns-in_default c =
+    let w = c.in_default in
+    rw (is_number c.args.right 0 c.ranges.right w.is-0, other_number (pos 0) c.args.up w.is-1.0.1, other_number (pos 2) c.args.up w.is-1.1)
 
-pub returns-else-up-eq2-2 : goal.returns-else-up-eq2-2
+pub returns-in_default-2 : goal.returns-in_default-2
 unfolding first
-returns-else-up-eq2-2 c =
-    rw (is_number c.args.right 2 c.ranges.right c.if-right-eq2.true, other_number (pos 0) c.args.up c.if-up-eq0-2.false, other_number (pos 2) c.args.up c.if-up-eq2-2.false)
+returns-in_default-2 c =
+    let w = c.in_default in
+    rw (is_number c.args.right 2 c.ranges.right w.is-0, other_number (pos 0) c.args.up w.is-1.0.1, other_number (pos 2) c.args.up w.is-1.1)
 
-pub returns-else-right-eq2 : goal.returns-else-right-eq2
+pub returns-in_default-3 : goal.returns-in_default-3
 unfolding first
-returns-else-right-eq2 c =
-    rw (other_number (pos 0) c.args.right c.if-right-eq0.false, other_number (pos 2) c.args.right c.if-right-eq2.false)
+returns-in_default-3 c =
+    let w = c.in_default.is-0 in
+    rw (other_number (pos 0) c.args.right w.0.1, other_number (pos 2) c.args.right w.1)

@@ -1,13 +1,15 @@
-use Prim.Native.Nat.{◌*◌, ◌-◌, ◌/◌, ◌%◌}
-use mathlib.Core.Path.{◌∙◌}
+use Prim.Native.Nat.{◌+◌, ◌*◌, ◌%◌}
 use native.Mathlib.Omega.{arith}
+use mathlib.Core.Path.{ap, ◌∙◌}
+use Rattle.g9932.specs.Filler.{after_draws}
 use Rattle.prbs.proofs.Draws.{draws_on}
 use Rattle.prbs.proofs.after_tones.Goals as goal
 
-pub loop-left-init : goal.loop-left-init
-loop-left-init c = let a = c.args in
-    rw c.after_nines-next.ensures (draws_on (18 * (a.tones / 9)) (2 * (a.tones % 9)) (2 * a.tones) a.register (omega arith))
+pub loop-preserved : goal.loop-preserved
+loop-preserved c = let l = c.loop in
+    c.after_several-next.ensures ∙ ap (after_draws 18) l.invariant ∙ draws_on (18 * l.counter) 18 (18 * (l.counter + 1)) c.args.register (omega arith)
 
-pub loop-left-preserved : goal.loop-left-preserved
-loop-left-preserved c = let l = c.loop-left in
-    rw c.filler_label-next.ensures.register (draws_on 2 (2 * (l.left - 1)) (2 * l.left) l.next (omega arith) ∙ l.invariant)
+pub returns : goal.returns
+returns c = let l = c.loop in
+    let rest = 2 * (c.args.tones % 9) in
+    c.after_several.ensures ∙ ap (after_draws rest) l.invariant ∙ draws_on (18 * l.counter) rest (2 * c.args.tones) c.args.register (omega arith)

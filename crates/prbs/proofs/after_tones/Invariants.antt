@@ -1,12 +1,8 @@
--- `prbs::after_tones` meets its contract. The invariant: the draws of the tones that are left lead to the same register. The measure is how
--- many are left.
+-- `prbs::after_tones` meets its contract. The invariant: so often nine tones have drawn.
 use Prim.Native.Nat.{◌*◌}
 use mathlib.Core.Path.{◌≡◌}
 use Rattle.g9932.specs.Filler.{after_draws}
 use Rattle.prbs.proofs.after_tones.Given as goal
 
-abbrev pub invariant-loop-left : goal.invariant-loop-left
-invariant-loop-left l = after_draws (2 * l.left) l.next ≡ after_draws (2 * l.tones) l.register
-
-abbrev pub decreases-loop-left : goal.decreases-loop-left
-decreases-loop-left l = l.left
+abbrev pub invariant-loop : goal.invariant-loop
+invariant-loop l = l.next ≡ after_draws (18 * l.counter) l.register

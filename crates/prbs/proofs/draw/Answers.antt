@@ -12,4 +12,4 @@ returns-then-seed_refused c = let e = sym c.seed_refused.ensures ∙ c.if-seed_r
 pub returns : goal.returns
 unfolding draw_of draw_answer
 returns c = let e = sym c.seed_refused.ensures ∙ c.if-seed_refused.false in
-    rw (e, c.next_bit-d.ensures)
+    rw (e, c.next_bit.ensures)

@@ -1,50 +1,25 @@
 -- `symbol::encode` meets its contract: refused by the tables or the other inputs, or the symbol written by the plan.
-use Rattle.symbol.proofs.WholeSymbol.{symbol_needs, encode_refused, encode_written}
-use Rattle.symbol.proofs.PlannedInputs.{passed}
-use mathlib.Core.Path.{refl}
-use lib.ListN.{replicate}
+use mathlib.Core.Path.{sym}
+use Rattle.symbol.proofs.Answers.{encode_unchanged}
+use Rattle.symbol.proofs.PlannedInputs.{tones_fit, labels_fit}
+use Rattle.symbol.proofs.WholeSymbol.{symbol_needs, encode_written}
+use Rattle.g9932.specs.Answers.{encode_verdict}
 use Rattle.symbol.proofs.encode.Goals as goal
+
+pub slice_bounds-labels-end : goal.slice_bounds-labels-end
+slice_bounds-labels-end c = tones_fit c.in-Ok.ensures
+
+pub slice_bounds-write_symbol-end : goal.slice_bounds-write_symbol-end
+slice_bounds-write_symbol-end c = sym (labels_fit c.in-Ok.ensures)
 
 pub write_symbol-register-requires : goal.write_symbol-register-requires
 write_symbol-register-requires c =
-    symbol_needs
-    (record {
-      layouts_length = c.plan_tables-planned.auto.layouts;
-      entries_length = c.plan_tables-planned.auto.entries;
-      places_length = c.plan_tables-planned.auto.places;
-      drawing_length = c.plan_tables-planned.auto.drawing;
-    })
-    (replicate 4096 0)
-    refl
-    c.args.start
-    c.args.register
-    (passed
-    c.plan_tables-planned.ensures
-    c.check_inputs-checked.ensures
-    c.in-Lists.is)
+    symbol_needs (labels_fit c.in-Ok.ensures) c.args.start c.args.register c.in-Ok.ensures
 
-pub returns-in-Refused : goal.returns-in-Refused
-returns-in-Refused c =
-    encode_refused
-    c.plan_tables-planned.ensures.answer
-    c.check_inputs-checked.ensures
-    c.in-Refused.is
+pub returns-in-Err : goal.returns-in-Err
+unfolding encode_verdict
+returns-in-Err c = encode_unchanged _ _ _ _ _ _ _ c.in-Err.ensures.answer
 
-pub returns-in-Lists : goal.returns-in-Lists
-returns-in-Lists c =
-    encode_written
-    (record {
-      layouts_length = c.plan_tables-planned.auto.layouts;
-      entries_length = c.plan_tables-planned.auto.entries;
-      places_length = c.plan_tables-planned.auto.places;
-      drawing_length = c.plan_tables-planned.auto.drawing;
-    })
-    (replicate 4096 0)
-    refl
-    c.args.start
-    c.args.register
-    (passed
-    c.plan_tables-planned.ensures
-    c.check_inputs-checked.ensures
-    c.in-Lists.is)
-    c.write_symbol-register.ensures
+pub returns-in-Ok : goal.returns-in-Ok
+returns-in-Ok c =
+    encode_written (labels_fit c.in-Ok.ensures) c.args.start c.args.register c.in-Ok.ensures c.write_symbol-register.ensures

@@ -1,52 +1,23 @@
 -- `symbol::read` meets its contract: refused by the tables or the other inputs, or the symbol read by the plan.
-use Rattle.symbol.proofs.WholeSymbol.{read_needs, read_refused, read_done}
-use Rattle.symbol.proofs.PlannedInputs.{passed}
-use mathlib.Core.Path.{refl}
-use lib.ListN.{replicate}
+use mathlib.Core.Path.{refl, sym}
+use Rattle.symbol.proofs.Answers.{read_unchanged}
+use Rattle.symbol.proofs.PlannedInputs.{tones_fit, labels_fit}
+use Rattle.symbol.proofs.WholeSymbol.{read_needs, read_done}
 use Rattle.symbol.proofs.read.Goals as goal
+
+pub slice_bounds-labels-end : goal.slice_bounds-labels-end
+slice_bounds-labels-end c = tones_fit c.in-Ok.ensures
+
+pub slice_bounds-read_symbol-end : goal.slice_bounds-read_symbol-end
+slice_bounds-read_symbol-end c = sym (labels_fit c.in-Ok.ensures)
 
 pub read_symbol-requires : goal.read_symbol-requires
 read_symbol-requires c =
-    read_needs
-    (record {
-      layouts_length = c.plan_tables-planned.auto.layouts;
-      entries_length = c.plan_tables-planned.auto.entries;
-      places_length = c.plan_tables-planned.auto.places;
-      drawing_length = c.plan_tables-planned.auto.drawing;
-    })
-    (replicate 4096 0)
-    refl
-    c.args.register
-    c.args.start
-    refl
-    (passed
-    c.plan_tables-planned.ensures
-    c.check_inputs-checked.ensures
-    c.in-Lists.is)
+    read_needs (labels_fit c.in-Ok.ensures) c.args.register c.args.start refl c.in-Ok.ensures
 
-pub returns-in-Refused : goal.returns-in-Refused
-returns-in-Refused c =
-    read_refused
-    c.plan_tables-planned.ensures.answer
-    c.check_inputs-checked.ensures
-    c.in-Refused.is
+pub returns-in-Err : goal.returns-in-Err
+returns-in-Err c = read_unchanged _ _ _ _ _ _ _ c.in-Err.ensures.answer
 
-pub returns-in-Lists : goal.returns-in-Lists
-returns-in-Lists c =
-    read_done
-    (record {
-      layouts_length = c.plan_tables-planned.auto.layouts;
-      entries_length = c.plan_tables-planned.auto.entries;
-      places_length = c.plan_tables-planned.auto.places;
-      drawing_length = c.plan_tables-planned.auto.drawing;
-    })
-    (replicate 4096 0)
-    refl
-    c.args.register
-    c.args.start
-    refl
-    (passed
-    c.plan_tables-planned.ensures
-    c.check_inputs-checked.ensures
-    c.in-Lists.is)
-    c.read_symbol.ensures
+pub returns-in-Ok : goal.returns-in-Ok
+returns-in-Ok c =
+    read_done (labels_fit c.in-Ok.ensures) c.args.register c.args.start refl c.in-Ok.ensures c.read_symbol.ensures

@@ -11,7 +11,7 @@ pub returns : goal.returns
 returns c =
     let a = c.args in
     let m = c.requires in
-    let e = drop_of_length-le a.bits.now {i = c.loop-i.i} (omega arith) in
+    let e = drop_of_length-le a.bits.now {i = c.loop-b.b-index} (omega arith) in
     let e0 = ap sum e in
     let e1 = ap (count (ltb 0)) e in
     let e2 = ap (count is_one) e in

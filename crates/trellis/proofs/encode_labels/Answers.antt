@@ -7,5 +7,5 @@ use Rattle.trellis.proofs.encode_labels.Goals as goal
 
 pub returns-then-entries-eq1 : goal.returns-then-entries-eq1
 returns-then-entries-eq1 c =
-    odd_coded c.args.frame.now c.args.start c.args.entries.now (labels_at c.args.places.now c.args.labels.now) c.requires.0 (placed_length c.requires.1) c.entry.result c.if-entries-eq1.true c.entry.ensures c.code_first-first.result c.code_first-first.ensures
-    (labels_at c.args.places.now c.code_from.new.labels) (rw c.put_entry.ensures at c.code_from.ensures)
+    odd_coded c.args.frame.now c.args.start c.args.entries.bits.now (labels_at c.args.entries.places.now c.args.labels.now) c.requires.0 (placed_length c.requires.1) c.entry.result c.if-entries-eq1.true c.entry.ensures c.code_first-first.result c.code_first-first.ensures
+    (labels_at c.args.entries.places.now c.code_from.new.labels) (rw c.put_entry.ensures at c.code_from.ensures)

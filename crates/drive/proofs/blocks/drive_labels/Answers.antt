@@ -1,10 +1,8 @@
 use native.Mathlib.Omega.{arith}
-use Prim.Native.Nat.{◌-◌}
-use mathlib.Core.Path.{refl, ap, ◌∙◌}
+use mathlib.Core.Path.{refl, ap}
 use lib.Ieee.{Float}
 use lib.ListN.{length}
-use lib.Seq.{length_front}
-use Rattle.drive.proofs.BlockNumbers.{driven_start, driven_end, block_needs, block_step}
+use Rattle.drive.proofs.BlockNumbers.{driven_start, driven_end, block_needs, block_step, driven_to}
 use Rattle.drive.proofs.Sizes.{zero_is}
 use Rattle.drive.proofs.blocks.drive_labels.Goals as goal
 
@@ -18,13 +16,20 @@ drive_block-peak-requires c =
 
 pub loop-i-preserved : goal.loop-i-preserved
 loop-i-preserved c =
-    let n = c.block_end-end.result - c.loop-i.i in
-    block_step c.point_table-table.ensures c.requires c.loop-i.invariant c.block_end-end.ensures
-    c.drive_block-peak.auto.xs c.drive_block-peak.auto.ys
-    (length_front c.loop-i.entries c.drive_block-peak.new.entries n c.drive_block-peak.auto.entries ∙ c.loop-i.invariant.entries_length)
-    (length_front c.loop-i.points_x c.drive_block-peak.new.points_x n c.drive_block-peak.auto.points_x ∙ c.loop-i.invariant.points_x_length)
-    (length_front c.loop-i.points_y c.drive_block-peak.new.points_y n c.drive_block-peak.auto.points_y ∙ c.loop-i.invariant.points_y_length)
-    c.drive_block-peak.ensures
+    let new = c.drive_block-peak.new in
+    let same = c.drive_block-peak.auto in
+    let e = c.block_end-end.ensures in
+    driven_to (e.whole (omega arith))
+    (block_step c.point_table-table.ensures c.requires c.loop-i.invariant e new.entries new.points_x new.points_y same.xs same.ys same.entries same.points_x same.points_y c.drive_block-peak.ensures)
 
 pub returns : goal.returns
 returns c = driven_end c.requires c.loop-i.invariant (omega arith)
+
+pub returns-2 : goal.returns-2
+returns-2 c =
+    let new = c.drive_block-peak.new in
+    let same = c.drive_block-peak.auto in
+    let e = c.block_end-end.ensures in
+    driven_end c.requires
+    (block_step c.point_table-table.ensures c.requires c.loop-i.invariant e new.entries new.points_x new.points_y same.xs same.ys same.entries same.points_x same.points_y c.drive_block-peak.ensures)
+    (grind (arith, e.whole))

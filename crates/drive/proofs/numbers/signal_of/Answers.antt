@@ -5,13 +5,13 @@ use Rattle.g9932.specs.declared.Signal.TheVariants.{Driven}
 use Rattle.drive.proofs.numbers.signal_of.Goals as goal
 
 pub int_to_float-result : goal.int_to_float-result
-int_to_float-result c = whole_floats c.args.gain c.args.x c.requires.gain_most c.requires.x_most
+int_to_float-result c = whole_floats c.args.gain c.args.p.x c.requires.gain_most c.requires.x_most
 
 pub int_to_float-result-2 : goal.int_to_float-result-2
-int_to_float-result-2 c = whole_floats c.args.gain c.args.y c.requires.gain_most c.requires.y_most
+int_to_float-result-2 c = whole_floats c.args.gain c.args.p.y c.requires.gain_most c.requires.y_most
 
 pub returns : goal.returns
 returns c =
-    let x = number_is c.args.gain c.args.x c.requires.gain_most c.requires.x_most in
-    let y = number_is c.args.gain c.args.y c.requires.gain_most c.requires.y_most in
-    rw (driven_told c.args.gain c.args.x c.requires.gain_most c.requires.x_most c.args.y c.if-across-eq0.false) (ap₂ Driven x y)
+    let x = number_is c.args.gain c.args.p.x c.requires.gain_most c.requires.x_most in
+    let y = number_is c.args.gain c.args.p.y c.requires.gain_most c.requires.y_most in
+    rw (driven_told c.args.gain c.args.p.x c.requires.gain_most c.requires.x_most c.args.p.y c.if-across-eq0.false) (ap₂ Driven x y)

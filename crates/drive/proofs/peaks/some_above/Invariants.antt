@@ -1,12 +1,6 @@
--- `drive::peaks::some_above` meets its contract. The invariant: where none is told, no number before place i is larger. The measure is the
--- places left.
-use Prim.Native.Nat.{◌-◌}
-use lib.ListN.{length}
+-- `drive::peaks::some_above` meets its contract. The invariant: where none is told, no number before place i is larger.
 use Rattle.drive.proofs.Carrying.{ToldTo}
 use Rattle.drive.proofs.peaks.some_above.Given as goal
 
 abbrev pub invariant-loop-i : goal.invariant-loop-i
 invariant-loop-i l = ToldTo l.xs l.ys l.size l.above l.i
-
-abbrev pub decreases-loop-i : goal.decreases-loop-i
-decreases-loop-i l = length l.xs - l.i

@@ -3,4 +3,4 @@ use Rattle.frame.proofs.Stores.{finish_law}
 use Rattle.frame.proofs.BitWriter.finish.Goals as goal
 
 pub returns : goal.returns
-returns c = finish_law c.args.self c.args.bytes.now c.low8.result c.requires.0 c.requires.1 c.low8.ensures
+returns c = finish_law c.args.self c.args.bytes.now c.requires.0 c.requires.1

@@ -5,4 +5,4 @@ use Rattle.frame.proofs.BitWriter.put.Goals as goal
 pub returns : goal.returns
 returns c = let a = c.args in
     let q = c.requires in
-    put_law a.self a.n a.value q.0 q.1 q.3 a.bytes.now c.store64.new.bytes q.2 c.store64.ensures
+    rw c.from.ensures (put_law a.self a.n a.value q.0 q.1 q.3 a.bytes.now c.store64.new.bytes q.2 (rw c.from.ensures at c.store64.ensures))

@@ -1,7 +1,6 @@
--- `mapper::points::find_entries` meets its contract. The invariant: each entry before i is found. The measure is the entries left.
-use Prim.Native.Nat.{ℕ, ◌-◌}
+-- `mapper::points::find_entries` meets its contract. The invariant: each entry before i is found.
+use Prim.Native.Nat.{ℕ}
 use mathlib.Core.List.{List}
-use lib.ListN.{length}
 use Rattle.constellation.specs.Stored.{EntryOf}
 use Rattle.g9932.specs.Sizes.{entry}
 use Rattle.mapper.proofs.BlockLoops.{Making}
@@ -12,6 +11,3 @@ found layouts labels j e = EntryOf (entry layouts j) (entry labels j) e
 
 abbrev pub invariant-loop-i : goal.invariant-loop-i
 invariant-loop-i l = Making (found l.layouts l.labels) l.initial.entries l.entries l.i
-
-abbrev pub decreases-loop-i : goal.decreases-loop-i
-decreases-loop-i l = length l.initial.entries - l.i

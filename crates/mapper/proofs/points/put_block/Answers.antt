@@ -5,7 +5,7 @@ use Rattle.mapper.proofs.BlockLoops.{Ruled, still_needs, none_stored}
 use Rattle.mapper.proofs.points.put_block.Goals as goal
 use Rattle.mapper.proofs.points.put_block.Goals.{Joined-stored-xs, else-stored-xs, then-stored-xs}
 
-ruled : (c : Joined-stored-xs) → Ruled c.args.layouts.now c.args.labels.now c.count_stored-stored.result c.args.xs.now c.args.ys.now c.if-stored-xs.xs c.if-stored-xs.ys
+ruled : (c : Joined-stored-xs) → Ruled c.args.layouts.now c.args.labels.now c.from-stored.result c.args.xs.now c.args.ys.now c.if-stored-xs.xs c.if-stored-xs.ys
 ruled c =
     elim c.if-stored-xs.branch [
       | then-stored-xs w ↦ record { xs_length = rw w.xs-is w.put_by_rule.auto.xs; ys_length = rw w.ys-is w.put_by_rule.auto.ys; points = λ h. rw (w.xs-is, w.ys-is) w.put_by_rule.ensures }
@@ -18,4 +18,4 @@ put_from_table-requires c =
 
 pub returns-else-stored-gt0 : goal.returns-else-stored-gt0
 returns-else-stored-gt0 c =
-    none_stored c.requires.0 (ruled (goal.at.returns-else-stored-gt0 c).Joined-stored-xs) c.count_stored-stored.ensures (omega arith)
+    none_stored c.requires.0 (ruled (goal.at.returns-else-stored-gt0 c).Joined-stored-xs) (rw (← c.from-stored.ensures) at c.count_stored.ensures) (omega arith)

@@ -1,7 +1,6 @@
--- `mapper::points::put_by_rule` meets its contract. The invariant: each place before i has its point. The measure is the places left.
-use Prim.Native.Nat.{ℕ, ◌-◌}
+-- `mapper::points::put_by_rule` meets its contract. The invariant: each place before i has its point.
+use Prim.Native.Nat.{ℕ}
 use mathlib.Core.List.{List}
-use lib.ListN.{length}
 use Rattle.constellation.specs.MapByLayout.{MapsByRule}
 use Rattle.g9932.specs.Sizes.{entry, Point}
 use Rattle.mapper.proofs.PointLoop.{Putting}
@@ -12,6 +11,3 @@ ruled layouts labels j p = MapsByRule (entry layouts j) (entry labels j) p
 
 abbrev pub invariant-loop-i : goal.invariant-loop-i
 invariant-loop-i l = Putting (ruled l.layouts l.labels) l.initial.xs l.initial.ys l.xs l.ys l.i
-
-abbrev pub decreases-loop-i : goal.decreases-loop-i
-decreases-loop-i l = length l.initial.xs - l.i

@@ -1,11 +1,6 @@
--- `mapper::points::put_points` meets its contract. The invariant: each place before i has its point. The measure is the places left.
-use Prim.Native.Nat.{◌-◌}
-use lib.ListN.{length}
+-- `mapper::points::put_points` meets its contract. The invariant: each place before i has its point.
 use Rattle.mapper.proofs.BlockLoops.{Covered}
 use Rattle.mapper.proofs.points.put_points.Given as goal
 
 abbrev pub invariant-loop-i : goal.invariant-loop-i
 invariant-loop-i l = Covered l.layouts l.labels l.initial.xs l.initial.ys l.xs l.ys l.entries l.i
-
-abbrev pub decreases-loop-i : goal.decreases-loop-i
-decreases-loop-i l = length l.initial.xs - l.i

@@ -1,13 +1,10 @@
--- `mapper::points::put_stored` meets its contract. The invariant: each place before i has its point, and the others are as they came. The
--- measure is the places left.
-use Prim.Native.Nat.{ℕ, ◌-◌}
+-- `mapper::points::put_stored` meets its contract. The invariant: each place before i has its point, and the others are as they came.
+use Prim.Native.Nat.{ℕ}
 use mathlib.Core.List.{List}
 use mathlib.Core.Path.{◌≡◌}
 use lib.IntN.{ℤ}
-use lib.ListN.{length}
 use Rattle.constellation.specs.Stored.{stored_or}
-use Rattle.g9932.specs.Sizes.{entry, Point}
-use Rattle.mapper.specs.Reading.{point_at}
+use Rattle.g9932.specs.Sizes.{entry, Point, point_at}
 use Rattle.mapper.proofs.PointLoop.{Putting}
 use Rattle.mapper.proofs.points.put_stored.Given as goal
 
@@ -16,6 +13,3 @@ over layouts entries xs ys j p = p ≡ stored_or (entry layouts j) (entry entrie
 
 abbrev pub invariant-loop-i : goal.invariant-loop-i
 invariant-loop-i l = Putting (over l.layouts l.entries l.initial.xs l.initial.ys) l.initial.xs l.initial.ys l.xs l.ys l.i
-
-abbrev pub decreases-loop-i : goal.decreases-loop-i
-decreases-loop-i l = length l.initial.xs - l.i

@@ -8,3 +8,8 @@ loop-i-preserved c =
 
 pub returns : goal.returns
 returns c = split_end c.loop-i.invariant (omega arith)
+
+pub returns-2 : goal.returns-2
+returns-2 c =
+    let g = split_step c.loop-i.labels c.loop-i.i (omega arith) c.loop-i.invariant in
+    split_end g (omega (arith, g.labels_length))

@@ -1,13 +1,7 @@
--- `mapper::write::split_shared` meets its contract. The invariant: the labels before i, and those from i on split, are what is asked. The
--- measure is the places left.
-use Prim.Native.Nat.{◌-◌}
-use lib.ListN.{length}
+-- `mapper::write::split_shared` meets its contract. The invariant: the labels before i, and those from i on split, are what is asked.
 use Rattle.mapper.specs.Writing.{split_ones}
 use Rattle.mapper.proofs.SharedLabels.{Changing}
 use Rattle.mapper.proofs.write.split_shared.Given as goal
 
 abbrev pub invariant-loop-i : goal.invariant-loop-i
 invariant-loop-i l = Changing split_ones l.initial.i l.initial.labels l.labels l.i
-
-abbrev pub decreases-loop-i : goal.decreases-loop-i
-decreases-loop-i l = length l.initial.labels - l.i

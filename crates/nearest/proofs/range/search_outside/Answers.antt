@@ -9,12 +9,12 @@ use Rattle.nearest.proofs.range.search_outside.Goals as goal
 use Rattle.nearest.proofs.range.search_outside.Goals.{After-is_outside-in-loop-i}
 
 -- what the code tests is the rule's test
-tested : (c : After-is_outside-in-loop-i) → c.is_outside.result || c.is_outside-in-loop-i.result ≡ range_test (points c.args.xs.now c.args.ys.now) c.loop-i.i
+tested : (c : After-is_outside-in-loop-i) → c.is_outside.result || c.is_outside-in-loop-i.result ≡ range_test (points c.args.points.xs.now c.args.points.ys.now) c.loop-i.i
 tested c =
     let i = c.loop-i.i in
     let x = c.is_outside.ensures in
     let y = c.is_outside-in-loop-i.ensures in
-    range_tested c.args.xs.now c.args.ys.now i (omega arith) c.requires x y (record { sfits = c.is_outside-arg-1.given }) (record { sfits = c.is_outside-arg-in-loop-i-1.given })
+    range_tested c.args.points.xs.now c.args.points.ys.now i (omega arith) c.requires x y (record { sfits = c.is_outside-arg-1.given }) (record { sfits = c.is_outside-arg-in-loop-i-1.given })
 
 pub loop-i-init : goal.loop-i-init
 loop-i-init c = (omega arith, first_none _)

@@ -11,6 +11,6 @@ overflow_sub-zeros c =
     let b = c.args.bits.now in
     let t = c.args.tones.now in
     let e = c.in-Coded.is in
-    let n : c.args.entries ≡ loaded b t - ones b t / 2 = rw e at c.requires.entries_are in
-    let o : c.args.sharers ≡ ones b t = rw e at c.requires.sharers_are in
+    let n : c.args.frame.entries ≡ loaded b t - ones b t / 2 = rw e at c.requires.entries_are in
+    let o : c.args.frame.sharers ≡ ones b t = rw e at c.requires.sharers_are in
     omega (arith, n, (entries_fit_lem b t (rw (sym o) c.requires.even)).within)

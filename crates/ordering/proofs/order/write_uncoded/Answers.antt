@@ -17,6 +17,6 @@ returns c =
     let r = c.requires.fits in
     let d = drop_of_length-le t {i = c.loop-i.i} (omega arith) in
     record {
-      tones = ap (take (length t)) (sym (ap (sets c.loop-i.reordered_tones c.loop-i.i) d) ∙ c.loop-i.invariant.3) ∙ take_sets c.args.reordered_tones.now t (length t) refl r.tones_fit;
-      bits = ap (take (length t)) (sym (ap (λ (s : List ℕ). sets c.loop-i.reordered_bits c.loop-i.i (bits_of b s)) d) ∙ c.loop-i.invariant.4) ∙ take_sets c.args.reordered_bits.now (bits_of b t) (length t) (length-map t (entry b)) r.bits_fit;
+      tones = ap (take (length t)) (sym (ap (sets c.loop-i.reordered_tones c.loop-i.i) d) ∙ c.loop-i.invariant.tones) ∙ take_sets c.args.reordered_tones.now t (length t) refl r.tones_fit;
+      bits = ap (take (length t)) (sym (ap (λ (s : List ℕ). sets c.loop-i.reordered_bits c.loop-i.i (bits_of b s)) d) ∙ c.loop-i.invariant.bits) ∙ take_sets c.args.reordered_bits.now (bits_of b t) (length t) (length-map t (entry b)) r.bits_fit;
     }

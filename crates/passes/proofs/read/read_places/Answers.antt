@@ -4,21 +4,21 @@ use Rattle.passes.proofs.ReadPlaces.{demap_needs, check_needs, off_found, filler
 use mathlib.Core.Path.{◌∙◌}
 use Rattle.passes.proofs.read.read_places.Goals as goal
 
-pub demap_points-offgrid-requires : goal.demap_points-offgrid-requires
-demap_points-offgrid-requires c = demap_needs c.requires.4
+pub demap_points-requires : goal.demap_points-requires
+demap_points-requires c = demap_needs c.requires.4
 
-pub returns-in-At : goal.returns-in-At
-returns-in-At c =
-    λ cs from es ps w. off_found w c.demap_points-offgrid.ensures c.in-At.is _
+pub returns-in-Some : goal.returns-in-Some
+returns-in-Some c =
+    λ cs from es ps w. off_found w c.demap_points.ensures c.in-Some.is _
 
 pub check_filler-f-requires : goal.check_filler-f-requires
 check_filler-f-requires c =
-    check_needs c.requires.4 c.demap_points-offgrid.new.labels (c.demap_points-offgrid.ensures.labels_length ∙ c.requires.4.xs_length)
+    check_needs c.requires.4 c.demap_points.new.labels (c.demap_points.ensures.labels_length ∙ c.requires.4.xs_length)
 
-pub returns-in-At-monitor : goal.returns-in-At-monitor
-returns-in-At-monitor c =
-    λ cs from es ps w. filler_found w c.demap_points-offgrid.ensures c.in_default.is c.check_filler-f.ensures c.in-At-monitor.is
+pub returns-in-Some-monitor : goal.returns-in-Some-monitor
+returns-in-Some-monitor c =
+    λ cs from es ps w. filler_found w c.demap_points.ensures c.in_default.is c.check_filler-f.ensures c.in-Some-monitor.is
 
 pub returns : goal.returns
 returns c =
-    λ cs from es ps w. none_found w c.demap_points-offgrid.ensures c.in_default.is c.check_filler-f.ensures c.in_default-monitor.is
+    λ cs from es ps w. none_found w c.demap_points.ensures c.in_default.is c.check_filler-f.ensures c.in_default-monitor.is

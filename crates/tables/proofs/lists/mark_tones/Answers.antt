@@ -1,14 +1,11 @@
-use native.Mathlib.Omega.{arith}
-use lib.ListN.{drop_of_length-le}
+use Rattle.std.proofs.Common.{arith}
+use Rattle.std.proofs.Math.ListN.{drop_of_length-le}
 use Rattle.tables.proofs.Counting.{tones_next}
 use Rattle.tables.proofs.Marks.{marked_step, marked_done}
 use Rattle.tables.proofs.lists.mark_tones.Goals as goal
 
-pub loop-i-preserved : goal.loop-i-preserved
-loop-i-preserved c =
-    let l = c.loop-i in
-    let tones = c.args.tones.now in
-    (omega arith, rw c.mark.ensures (marked_step l.seen (tones_next tones l.i c.tone_at.ensures (omega arith)) l.invariant.1))
+pub loop-tone-preserved : goal.loop-tone-preserved
+loop-tone-preserved c = marked_step c.loop-tone.seen (tones_next c.args.tones.now c.loop-tone.tone-index c.from.ensures (omega arith)) c.loop-tone.invariant
 
 pub returns : goal.returns
-returns c = marked_done c.loop-i.seen (drop_of_length-le c.args.tones.now {i = c.loop-i.i} (omega arith)) c.loop-i.invariant.1
+returns c = marked_done c.loop-tone.seen (drop_of_length-le c.args.tones.now {i = c.loop-tone.tone-index} (omega arith)) c.loop-tone.invariant

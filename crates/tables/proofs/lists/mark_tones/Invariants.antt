@@ -1,13 +1,7 @@
--- `tables::lists::mark_tones` meets its contract. The invariant: marking what is left of t gives what marking all of it gives. The
--- measure is what is left of t.
-use mathlib.Core.Path.{◌≡◌}
-use Prim.Native.Nat.{◌-◌, ◌≤◌}
-use lib.ListN.{length, drop}
+-- `tables::lists::mark_tones` meets its contract. The invariant: marking what is left of t gives what marking all of it gives.
+use Rattle.std.proofs.Common.{◌≡◌, drop}
 use Rattle.tables.specs.Checks.{marked}
 use Rattle.tables.proofs.lists.mark_tones.Given as goal
 
-abbrev pub invariant-loop-i : goal.invariant-loop-i
-invariant-loop-i l = (l.i ≤ length l.tones) × (marked l.seen (drop l.i l.tones) ≡ marked l.initial.seen l.tones)
-
-abbrev pub decreases-loop-i : goal.decreases-loop-i
-decreases-loop-i l = length l.tones - l.i
+abbrev pub invariant-loop-tone : goal.invariant-loop-tone
+invariant-loop-tone l = marked l.seen (drop l.tone-index l.tones) ≡ marked l.initial.seen l.tones

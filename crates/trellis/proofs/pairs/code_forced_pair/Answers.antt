@@ -1,6 +1,6 @@
 -- `trellis::pairs::code_forced_pair` meets its contract: the bits got are u3 upward, and the pair's labels are v and w.
 use Rattle.trellis.proofs.OnePair.{got_high, got_pair}
-use Rattle.trellis.proofs.Numbers.{Inputs, inputs_of}
+use Rattle.trellis.proofs.Numbers.{Inputs, inputs_of, one_shifted}
 use Rattle.g9932.specs.Bits.{odd}
 use mathlib.Core.Path.{refl, ◌∙◌}
 use mathlib.Core.Bool.{true}
@@ -29,5 +29,5 @@ returns c =
     let i : Inputs = inputs_of true c.args.c.state c.get-f.result in
     let p =
     got_pair true c.args.c.state c.args.x c.args.y c.args.frame.now c.args.c.at _ c.get-f.result i c.requires.x_range.0 c.requires.y_range.0 c.requires.bits refl c.get-f.ensures refl
-    c.forced_step-t.result.low c.label.result c.label-2.result c.forced_step-t.ensures.1 (c.label.ensures ∙ rw c.lowest.ensures) c.label-2.ensures in
+    c.forced_step-t.result.low c.label.result c.label-2.result c.forced_step-t.ensures.1 (rw (one_shifted (c.args.x - 2) (omega (arith, c.requires.x_range))) at c.label.ensures) c.label-2.ensures in
     record { state = c.forced_step-t.ensures.0 ∙ p.next; at = refl; sends = p.sends; v_small = p.v_small; w_small = p.w_small }

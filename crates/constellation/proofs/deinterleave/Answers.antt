@@ -1,6 +1,0 @@
--- `constellation::deinterleave` meets its contract: four steps on the list of its bits.
-use Rattle.constellation.proofs.Halves.{deinterleave_law}
-use Rattle.constellation.proofs.deinterleave.Goals as goal
-
-pub returns : goal.returns
-returns c = deinterleave_law c.args.word c.requires

@@ -1,0 +1,18 @@
+-- Costs by place: four lists, one for each coset.
+use Rattle.std.specs.Prelude.{ℕ, ◌≡◌}
+use Rattle.cosets.specs.declared.Costs.{Costs}
+use Rattle.g9932.specs.Sizes.{entry}
+use Rattle.decisions.specs.declared.cost_lists.CostLists.{CostLists}
+
+abbrev pub costs_of : CostLists → ℕ → Costs
+costs_of ks i = record { c0 = entry ks.c0 i; c1 = entry ks.c1 i; c2 = entry ks.c2 i; c3 = entry ks.c3 i }
+
+-- the costs of place i are put, and no others change
+pub record PutsCosts (ks : CostLists) (i : ℕ) (r : Costs) (after : CostLists) : Type 0 where
+  pub here : costs_of after i ≡ r
+  pub others : (j : ℕ) → (j ≡ i → ⊥) → costs_of after j ≡ costs_of ks j
+
+-- the cost c is put at place i over that of the first coset, and no other place changes
+pub record PutsLeast (ks : CostLists) (i c : ℕ) (after : CostLists) : Type 0 where
+  pub here : entry after.c0 i ≡ c
+  pub others : (j : ℕ) → (j ≡ i → ⊥) → costs_of after j ≡ costs_of ks j
