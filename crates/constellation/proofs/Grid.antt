@@ -8,7 +8,7 @@ use native.Mathlib.Omega.{arith}
 use borrow.Author.Tests.{eqb-true, eq-eqb, eqb-false, ltb-true, ltb-false, le-ltb, not-false}
 use lib.Arith.{digits_lt}
 use lib.Dec.{eqb, ltb}
-use lib.Pow.{pow_pos, pow-add, shr-shr, split, high, low, mod-pow-add}
+use lib.Pow.{pow_pos, pow-add, shr-shr, shr_lt, split, high, low, mod-pow-add}
 use Rattle.g9932.specs.Bits.{or_at, first}
 use Rattle.g9932.specs.Trellis.{same}
 use Rattle.g9932.proofs.Identities.{same→eq}
@@ -123,6 +123,41 @@ word_grid b l h = go (ltb b 4) refl
         six_rest b (label_word b l) k ∙ ap (λ (w : ℕ). w / 2 ^ rest b) (word_form b l k) ∙ high (4 * top_four q + q % 4) (rest b) r in
         some_first _ _ q i (eq-eqb _ _ (sym e))
 
+pub six_lt : (k w : ℕ) → w < 2 ^ (4 + 2 * k) → top_six k w < 64
+six_lt k w h = shr_lt 6 (2 * k) (rw (pow-add 2 6 (2 * k)) (omega (arith, pow-add 2 4 (2 * k))))
+
+-- ---- a table of the grid, a bit for each top six
+
+abbrev held : ℕ → ℕ → Bool
+held table s = eqb (table / 2 ^ s % 2) 1
+
 -- two tests of numbers agree below n, by a test of all of them
 pub bit_rule : (f g : ℕ → Bool) (n : ℕ) → first (λ k. not (same (f k) (g k))) n ≡ None → (k : ℕ) → k < n → f k ≡ g k
 bit_rule f g n e k h = same→eq (f k) (g k) (not-false (same (f k) (g k)) (first_no (λ k. not (same (f k) (g k))) n e k h))
+
+-- b from 4, by the number of top fives
+pub grid_table : (table n : ℕ) → first (λ s. not (same (held table s) (is_at (first (λ q. eqb (4 * top_four q + q % 4) s) n)))) 64 ≡ None
+    → (b s : ℕ) → 4 ≤ b → cond (eqb (b % 2) 0) 16 32 ≡ n → s < 64 → held table s ≡ in_grid b s
+unfolding in_grid
+grid_table table n test b s h e k =
+    rw (le-ltb b 4 h, e) (bit_rule (held table) (λ s. is_at (first (λ q. eqb (4 * top_four q + q % 4) s) n)) 64 test s k)
+
+-- b up to 3
+pub small_table : (table b : ℕ) → first (λ i. not (same (held table (4 * i)) (in_grid b (4 * i)))) 16 ≡ None
+    → (s : ℕ) → s < 64 → s % 4 ≡ 0 → held table s ≡ in_grid b s
+small_table table b test s h e =
+    let n : 4 * (s / 4) ≡ s = omega arith in
+    rw n at (bit_rule (λ i. held table (4 * i)) (λ i. in_grid b (4 * i)) 16 test (s / 4) (omega arith))
+
+-- an even b, from either side of 4
+pub even_table : (table : ℕ) → first (λ s. not (same (held table s) (is_at (first (λ q. eqb (4 * top_four q + q % 4) s) 16)))) 64 ≡ None
+    → first (λ i. not (same (held table (4 * i)) (in_grid 2 (4 * i)))) 16 ≡ None
+    → (b s : ℕ) → 1 ≤ b → b % 2 ≡ 0 → s < 64 → (b < 4 → s % 4 ≡ 0) → held table s ≡ in_grid b s
+even_table table large small b s h e k z = go (ltb b 4) refl
+  where
+    go : (c : Bool) → ltb b 4 ≡ c → held table s ≡ in_grid b s
+    go true c =
+        let l = ltb-true b 4 c in
+        let two : b ≡ 2 = omega arith in
+        rw two (small_table table 2 small s k (z l))
+    go false c = grid_table table 16 large b s (ltb-false b 4 c) (rw (eq-eqb (b % 2) 0 e)) k

@@ -7,10 +7,11 @@ use mathlib.Core.Path.{◌≡◌, refl, sym, ap, ◌∙◌}
 use native.Mathlib.Nat.{mod-eq_of_lt, mul_comm, mul_assoc, one-mul, pow-suc}
 use native.Mathlib.Omega.{arith}
 use lib.Bits.{bit_and, bit_or, and_step, or_step, and_zero_r, or_zero_r}
-use lib.ListN.{length, drop, replicate}
+use lib.ListN.{length, take, drop, replicate}
 use lib.Pow.{shl_exact}
 use Rattle.g9932.specs.Bits.{weight, num, odd, bits}
-use Rattle.g9932.proofs.Words.{half_weight, weight_le, num_bits, num_append, num_drop}
+use Rattle.g9932.proofs.Lists.{map_take}
+use Rattle.g9932.proofs.Words.{half_weight, weight_le, num_bits, num_append, num_take, num_drop}
 
 pub data Slot : Type 0 where
   gap : Slot
@@ -112,6 +113,9 @@ unfolding num weight
 gaps_worth zero = refl
 gaps_worth (suc k) = omega (arith, gaps_worth k)
 
+shl_worth : (k : ℕ) (l : List Slot) → worth l * 2 ^ k % 2 ^ 32 ≡ worth (take 32 (gaps k ++ l))
+shl_worth k l = sym (ap num (map_take value 32 (gaps k ++ l)) ∙ num_take 32 (map value (gaps k ++ l)) ∙ ap (λ (n : ℕ). n % 2 ^ 32) (up_worth k l))
+
 pub shl_one : (k : ℕ) → k < 32 → 1 * 2 ^ k % 2 ^ 32 ≡ 2 ^ k
 shl_one k h = shl_exact {a = 1} 1 k 32 (omega arith) (omega arith) ∙ one-mul (2 ^ k)
 
@@ -120,8 +124,14 @@ shl_one k h = shl_exact {a = 1} 1 k 32 (omega arith) (omega arith) ∙ one-mul (
 abbrev pub squeeze : ℕ → ℕ → ℕ → ℕ
 squeeze k m n = bit_and (bit_or n (n / 2 ^ k)) m
 
+abbrev pub stretch : ℕ → ℕ → ℕ → ℕ
+stretch k m n = bit_and (bit_or n (n * 2 ^ k % 2 ^ 32)) m
+
 abbrev pub squeezed : ℕ → ℕ → List Slot → List Slot
 squeezed k m l = masked (bits 32 m) (either l (drop k l))
+
+abbrev pub stretched : ℕ → ℕ → List Slot → List Slot
+stretched k m l = masked (bits 32 m) (either l (take 32 (gaps k ++ l)))
 
 and_mask : (m : ℕ) (l : List Slot) → m < 2 ^ 32 → bit_and (worth l) m ≡ worth (masked (bits 32 m) l)
 and_mask m l h = ap (bit_and (worth l)) (sym (num_bits 32 m ∙ mod-eq_of_lt h)) ∙ and_worth l (bits 32 m)
@@ -136,6 +146,10 @@ mask_held m {n} {l} h e = record { is = rw e.is (and_mask m l h) }
 pub squeeze_held : (k m : ℕ) {n : ℕ} {l : List Slot} → m < 2 ^ 32 → Held n l → Held (squeeze k m n) (squeezed k m l)
 squeeze_held k m {n} {l} h e =
     record { is = rw (e.is, shr_worth k l, or_worth l (drop k l)) (and_mask m (either l (drop k l)) h) }
+
+pub stretch_held : (k m : ℕ) {n : ℕ} {l : List Slot} → m < 2 ^ 32 → Held n l → Held (stretch k m n) (stretched k m l)
+stretch_held k m {n} {l} h e =
+    record { is = rw (e.is, shl_worth k l, or_worth l (take 32 (gaps k ++ l))) (and_mask m (either l (take 32 (gaps k ++ l))) h) }
 
 -- ---- what holds of n unknown bits holds of the n bits of a number
 

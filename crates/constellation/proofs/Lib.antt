@@ -6,6 +6,7 @@ pub mod Tops
 pub mod Signed
 pub mod Grid
 pub mod Reading
+pub mod OnePoint
 pub mod Layouts
 pub mod MapByLayout
 pub mod Spread

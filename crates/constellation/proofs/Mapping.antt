@@ -20,7 +20,7 @@ use Rattle.g9932.proofs.Search.{first_no}
 use Rattle.g9932.proofs.Coordinates.{three, five, coords, axis_bits_pos, coords_length}
 use Rattle.g9932.proofs.Constellations.{point_coords}
 use Rattle.constellation.proofs.Lanes.{twice}
-use Rattle.constellation.proofs.Sizes.{own_bits_lem, word_lt}
+use Rattle.constellation.proofs.Sizes.{own_bits_lem, word_lt, bits_lt, half_le}
 use Rattle.constellation.specs.Widened.{plain_pairs, top_five, top_four, widened_label, label_word, x_bits, y_bits, coordinate_of, sign_weight}
 
 -- two functions of numbers agree below n, by a test of all of them
@@ -185,3 +185,16 @@ point_word b l h k s =
     let p : point_of b (bits b l) ≡ point (twos_complement (true ∷ (coords (bits b l)).xs)) (twos_complement (true ∷ (coords (bits b l)).ys)) =
     rw (length_bits b l) at (point_coords (bits b l)) in
     p ∙ ap₂ point (x ∙ ap (coordinate_of (sign_weight (plain_pairs b))) (sym own.0)) (y ∙ ap (coordinate_of (sign_weight (plain_pairs b))) (sym own.1))
+
+-- both parts of a label's word, from one number
+pub record Parts (b l both : ℕ) : Type 0 where
+  pub x : both / 65536 ≡ x_bits (label_word b l)
+  pub y : both % 65536 ≡ y_bits (label_word b l)
+  pub x_small : both / 65536 < 256
+  pub y_small : both % 65536 < 256
+
+pub parts_law : (b l both : ℕ) → 1 ≤ b → b ≤ 15 → l < 2 ^ b → both ≡ 65536 * x_bits (label_word b l) + y_bits (label_word b l) → Parts b l both
+parts_law b l both h k s e =
+    let u = bits_lt (plain_pairs b) (label_word b l) (omega arith) (word_lt b l h s) in
+    let m = half_le (plain_pairs b) (omega arith) in
+    record { x = omega arith; y = omega arith; x_small = omega arith; y_small = omega arith }

@@ -1,19 +1,20 @@
 -- Reading a point: the bits of its coordinates leave one label, and the point is its own if the word and the coordinates are in the grid.
 use Rattle.std.specs.Prelude.{Option, None, Some}
 use Rattle.std.specs.Option.{option_map}
-use Prim.Native.Nat.{ℕ, ◌*◌, ◌%◌, ◌^◌, ◌≤◌, ◌<◌}
+use Prim.Native.Nat.{ℕ, zero, suc, ◌+◌, ◌*◌, ◌%◌, ◌^◌, ◌≤◌, ◌<◌}
 use mathlib.Core.Bool.{Bool, true, false, cond, false≢true}
-use mathlib.Core.List.{List}
+use mathlib.Core.List.{List, [], ◌∷◌}
 use mathlib.Core.Path.{◌≡◌, refl, sym, ap, ap₂, ◌∙◌}
-use native.Mathlib.Nat.{mod-eq_of_lt}
+use native.Mathlib.Nat.{pow-suc, mod-eq_of_lt}
 use native.Mathlib.Omega.{arith}
 use borrow.Author.Tests.{ltb-true}
 use lib.Dec.{ltb}
 use lib.IntN.{ℤ}
+use lib.Pow.{pow_pos}
 use Rattle.g9932.specs.Bits.{num, bits}
 use Rattle.g9932.specs.Sizes.{Point, point}
 use Rattle.g9932.specs.Points.{point_of, label_of, is_label, label_bits}
-use Rattle.g9932.proofs.Words.{bits_num, num_bits, num_lt, length_bits}
+use Rattle.g9932.proofs.Words.{bits_num, num_bits, num_lt, length_bits, weight_le}
 use Rattle.g9932.proofs.Labels.{label_point, label_back}
 use Rattle.constellation.specs.Widened.{plain_pairs, mapping_label, label_word, x_bits, y_bits, interleaved, sign_weight, coordinate_of}
 use Rattle.constellation.specs.Reading.{NarrowedWord, own_label, top_six, in_grid}
@@ -22,6 +23,30 @@ use Rattle.constellation.proofs.Grid.{grid_word, word_grid}
 use Rattle.constellation.proofs.Halves.{interleaved_apart, deinterleave_interleaved}
 use Rattle.constellation.proofs.Mapping.{point_word}
 use Rattle.constellation.proofs.Sizes.{label_lt, word_lt, word_16, bits_lt, half_le}
+
+-- ---- the word of two coordinates' bits
+
+interleaved_lt : (m : ℕ) (xs ys : List Bool) → num xs < 2 ^ m → num ys < 2 ^ m → num (interleaved xs ys) < 2 ^ (2 * m)
+unfolding num
+interleaved_lt m [] ys hx hy = pow_pos (2 * m)
+interleaved_lt m (x ∷ xs) [] hx hy = pow_pos (2 * m)
+interleaved_lt zero (x ∷ xs) (y ∷ ys) hx hy =
+    let r = interleaved_lt zero xs ys (omega arith) (omega arith) in
+    omega arith
+interleaved_lt (suc m) (x ∷ xs) (y ∷ ys) hx hy =
+    let e : 2 * suc m ≡ suc (suc (2 * m)) = omega arith in
+    let p = pow-suc 2 m in
+    let r = interleaved_lt m xs ys (omega arith) (omega arith) in
+    rw e (omega (arith, pow-suc 2 (suc (2 * m)), pow-suc 2 (2 * m), weight_le x, weight_le y))
+
+pub interleaved_word : (k x y : ℕ) → k ≤ 6 → x < sign_weight k → y < sign_weight k → num (interleaved (bits 8 x) (bits 8 y)) < 2 ^ (4 + 2 * k)
+interleaved_word k x y h hx hy =
+    let e : 2 * suc (suc k) ≡ 4 + 2 * k = omega arith in
+    let p : sign_weight k ≡ 2 ^ suc (suc k) = omega (arith, pow-suc 2 (suc k), pow-suc 2 k) in
+    let l = half_le k h in
+    let nx : num (bits 8 x) ≡ x = num_bits 8 x ∙ mod-eq_of_lt (omega arith) in
+    let ny : num (bits 8 y) ≡ y = num_bits 8 y ∙ mod-eq_of_lt (omega arith) in
+    rw e at (interleaved_lt (suc (suc k)) (bits 8 x) (bits 8 y) (omega arith) (omega arith))
 
 -- ---- the label back from its mapping label
 

@@ -23,7 +23,7 @@ pub fn raised(z: i16) -> u16
 }
 
 // The bits of a coordinate whose sign bit has the weight 4 · m. One that is not on the axis gets bits, too, of another coordinate.
-fn axis_bits(m: u16, z: i16) -> u16
+pub(super) fn axis_bits(m: u16, z: i16) -> u16
     requires { Power m }
     ensures { BitsOf (4 * m) z result }
 {

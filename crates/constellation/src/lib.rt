@@ -4,6 +4,7 @@
 pub mod demap;
 pub mod map;
 pub mod points;
+pub mod single;
 pub mod stored;
 
 ghost use Rattle.std.specs.Prelude.{◌≡◌, cond, ◌*◌, ◌^◌, ◌<◌, ◌≤◌, eqb};
@@ -12,7 +13,7 @@ ghost use Rattle.g9932.specs.Sizes.{point};
 ghost use Rattle.g9932.specs.Points.{point_of};
 ghost use Rattle.g9932.specs.Answers.{map_label, read_point, mapped_of, labelled_of};
 ghost use Rattle.constellation.specs.Widened.{coordinate_of};
-ghost use Rattle.constellation.specs.Layouts.{silent_layout, layout_of, layout_list};
+ghost use Rattle.constellation.specs.Layouts.{silent_layout, layout_list};
 
 use g9932::{Place, Point, Refusal};
 
@@ -52,16 +53,8 @@ fn coordinate_of(m: u16, bits: u16) -> i16
     (2 * bits + 1) as i16 - (4 * m) as i16
 }
 
-// The layout of the constellation of b bits. The bounds of b and of a label are clauses here and below, not types: whoever maps or reads
-// tests them first, in one line.
-fn layout_of(b: u8) -> u16
-    requires { (1 ≤ b) × (b ≤ 15) }
-    ensures { result ≡ layout_of b }
-{
-    layout_table()[usize::from(b)]
-}
-
-// The point of a label of 1 to 8 bits, from the table.
+// The point of a label of 1 to 8 bits, from the table. The bounds of b and of a label are clauses here and below, not types: whoever maps
+// or reads tests them first, in one line.
 fn point_from_table(b: u8, label: u32) -> Point
     requires { (1 ≤ b) × (b ≤ 8) × (label < 2 ^ b) }
     ensures { point result.x result.y ≡ point_of b (lowest_bits b label) }
@@ -78,7 +71,7 @@ pub fn point_of(b: u8, label: u32) -> Point
     if b < 9 {
         return point_from_table(b, label);
     }
-    map::point_by(layout_of(b), label as u16)
+    single::point_by_rule(b, label)
 }
 
 // Maps one label: refusal 16.
@@ -98,8 +91,8 @@ pub fn read_point(bits: u8, p: Point) -> Result<u32, Refusal>
     if bits < 1 || 15 < bits {
         return Err(Refusal::Label);
     }
-    match demap::label_by(layout_of(bits), p) {
-        Some(label) => Ok(u32::from(label)),
+    match single::label_of(bits, p) {
+        Some(label) => Ok(label),
         None => Err(Refusal::Offgrid(Place(0))),
     }
 }

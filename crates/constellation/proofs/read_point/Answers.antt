@@ -12,15 +12,7 @@ use Rattle.g9932.specs.Bits.{num}
 use Rattle.g9932.specs.Points.{label_of}
 use Rattle.g9932.specs.Sizes.{point}
 use Rattle.g9932.proofs.OneTone.{read_below, read_above, read_counted}
-use Rattle.constellation.specs.Layouts.{carries}
-use Rattle.constellation.proofs.DemapByLayout.{is_layout}
 use Rattle.constellation.proofs.read_point.Goals as goal
-use Rattle.constellation.proofs.read_point.Goals.{After-label_by}
-
--- the label that is found, as a number
-found : (c : After-label_by) → c.label_by.result ≡ option_map num (label_of c.args.bits (point c.args.p.x c.args.p.y))
-found c =
-    c.label_by.ensures.sought c.args.bits (omega arith) (omega arith) c.layout_of.ensures
 
 -- the answer that a label, or none, makes
 abbrev answer : Option ℕ → OneTone ℕ
@@ -36,17 +28,14 @@ returns-then-bits-lt1 c =
     let p = point c.args.p.x c.args.p.y in
     elim c.then-bits-lt1.either [ inl h ↦ sym (read_below c.args.bits p h) | inr h ↦ sym (read_above c.args.bits p h.1) ]
 
-pub label_by-requires : goal.label_by-requires
-label_by-requires c = is_layout c.layout_of.result (carries c.args.bits (omega arith) (omega arith) c.layout_of.ensures)
-
 pub returns-in-Some : goal.returns-in-Some
 returns-in-Some c =
     let p = point c.args.p.x c.args.p.y in
-    let e = ap answer (sym c.in-Some.is ∙ found (goal.at.returns-in-Some c).After-label_by) in
-    ap tone_done c.from.ensures ∙ e ∙ answered (label_of c.args.bits p) ∙ sym (read_counted c.args.bits p (omega arith) (omega arith))
+    let e = ap answer (sym c.in-Some.is ∙ c.label_of.ensures) in
+    e ∙ answered (label_of c.args.bits p) ∙ sym (read_counted c.args.bits p (omega arith) (omega arith))
 
 pub returns-in-None : goal.returns-in-None
 returns-in-None c =
     let p = point c.args.p.x c.args.p.y in
-    let e = ap answer (sym c.in-None.is ∙ found (goal.at.returns-in-None c).After-label_by) in
+    let e = ap answer (sym c.in-None.is ∙ c.label_of.ensures) in
     e ∙ answered (label_of c.args.bits p) ∙ sym (read_counted c.args.bits p (omega arith) (omega arith))
