@@ -16,7 +16,7 @@ ghost use Rattle.cosets.specs.Meters.{CostsBy, PointBy, LabelOf, shared_costs, L
 
 use constellation::pick;
 use g9932::Point;
-use given::{Received, Shape};
+pub use given::{Received, Shape};
 
 // The layouts of 1 bit and of 3 bits: see specs/Layouts of constellation.
 const ONE: u16 = 0x8140;
