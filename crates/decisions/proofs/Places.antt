@@ -26,7 +26,7 @@ use Rattle.cosets.specs.declared.Costs.{Costs}
 use Rattle.cosets.specs.declared.given.Received.{Received}
 use Rattle.g9932.specs.Sizes.{entry, Point, point, origin, point_at}
 use Rattle.mapper.specs.Reading.{LabelIs, Off, DemapsAll}
-use Rattle.decisions.specs.CostLists.{costs_of, PutsCosts, PutsLeast}
+use Rattle.decisions.specs.CostLists.{costs_of, KeptFrom, PutsCosts, PutsLeast, CosetsKept}
 use Rattle.decisions.specs.declared.cost_lists.CostLists.{CostLists}
 use Rattle.decisions.specs.Deciding.{PlaceCosts, Costed, PlacePoint, PlacePoints, PutsLabels, PlaceLabels, LeastAt, LeastPlaces, total_at}
 
@@ -42,6 +42,10 @@ module _ {layouts : List ℕ} {q : List Point} {ks : CostLists} {i : ℕ} (old :
         costs = below_more (λ j. PlaceCosts (entry layouts j) (get_or q j origin) (costs_of after j)) i
             (λ j l. rw (p.others j (λ e. omega (arith, e))) (old.costs j l)) (rw p.here c);
       }
+
+-- what is put at a place leaves the costs behind it
+pub kept_more : (ks : CostLists) {mid after : CostLists} {i : ℕ} {r : Costs} → KeptFrom ks i mid → PutsCosts mid i r after → KeptFrom ks (i + 1) after
+kept_more ks old p = λ j l. p.others j (λ e. omega (arith, e)) ∙ old j (omega arith)
 
 -- ---- labels
 
@@ -132,6 +136,9 @@ module _ {layouts : List ℕ} {ks : CostLists} {lows : List ℕ} {mid : CostList
 
       first_of : Costs → ℕ
       first_of r = r.c0
+
+pub cosets_again : {ks mid after : CostLists} → CosetsKept ks mid → CosetsKept mid after → CosetsKept ks after
+cosets_again k l = record { c1_is = l.c1_is ∙ k.c1_is; c2_is = l.c2_is ∙ k.c2_is; c3_is = l.c3_is ∙ k.c3_is }
 
 pub total_more : (costs ps : List ℕ) (k n p c : ℕ) → k < length ps → p ≡ entry ps k → c ≡ entry costs p → n + total_at costs (drop k ps) ≡ total_at costs ps → n + c + total_at costs (drop (k + 1) ps) ≡ total_at costs ps
 total_more costs ps k n p c h at is old =

@@ -20,7 +20,7 @@ pub struct CostLists {
 impl CostLists {
     ghost use Rattle.std.specs.Prelude.{◌≡◌, ◌<◌};
     ghost use Rattle.cosets.specs.Nearest.{SmallCosts};
-    ghost use Rattle.decisions.specs.CostLists.{costs_of, PutsCosts, PutsLeast};
+    ghost use Rattle.decisions.specs.CostLists.{costs_of, PutsCosts, PutsLeast, CosetsKept};
 
     pub fn new() -> Self {
         CostLists {
@@ -57,10 +57,11 @@ impl CostLists {
         self.c3[i] = costs.c3;
     }
 
-    // Puts what the nearest label of a place costs, over the cost of its first coset.
+    // Puts what the nearest label of a place costs, over the cost of its first coset. Every other cost stays.
     pub(crate) fn put_least(&mut self, p: Place, cost: u32)
         requires { (p.0 < MOST_TONES) × (cost ≤ 8388608) }
-        ensures { PutsLeast self.old p.0 cost self.new }
+        ensures least { PutsLeast self.old p.0 cost self.new }
+        ensures cosets { CosetsKept self.old self.new }
     {
         let i = p.0;
         self.c0[i] = cost;

@@ -8,6 +8,7 @@ mod cost_lists;
 ghost use Rattle.std.specs.Prelude.{List, ◌≡◌, ◌<◌, length, drop};
 ghost use Rattle.cosets.specs.Meters.{Meter};
 ghost use Rattle.g9932.specs.Sizes.{points_of, most_tones};
+ghost use Rattle.decisions.specs.CostLists.{CosetsKept, KeptFrom};
 ghost use Rattle.decisions.specs.Deciding.{PlaceNeeds, Costed, entry_costs, EntryNeeds, lone_in, pair_meters, MeterCosts, PathNeeds, Selected, LeastPath, TraceNeeds, StateBefore, LowTraced, PointNeeds, PlacePoints, PutNeeds, PutsLabels, LabelNeeds, PlaceLabels, LeastNeeds, LeastPlaces, PlacesBelow, total_at, ToneNeeds, LeastLows};
 
 use cosets::Costs;
@@ -16,10 +17,11 @@ use frame::by_place::{place_at, put_label};
 use g9932::{MOST_TONES, Place, Points};
 use trellis::{StateNumber, Steps};
 
-// What the labels of every place cost, by coset.
+// What the labels of every place cost, by coset. Costs behind the places stay.
 pub fn cost_places(layouts: &[u16], points: Points, costs: &mut CostLists)
     requires { PlaceNeeds layouts.now points.xs.now points.ys.now }
-    ensures { Costed layouts.now (points_of points.entry) costs.new (length points.entry.xs.now) }
+    ensures costs { Costed layouts.now (points_of points.entry) costs.new (length points.entry.xs.now) }
+    ensures behind { KeptFrom costs.old (length points.entry.xs.now) costs.new }
 {
     for i in 0..points.xs.len() {
         let p = cosets::raise_point(points.at(Place(i)));
@@ -117,7 +119,8 @@ pub fn trace_low(places: &[u16], survivors: &[u8], labels: &mut [u16])
 // The two lowest bits of every place's nearest label, where any are free, and what it costs over its first coset's cost.
 fn least_places(layouts: &[u16], costs: &mut CostLists, labels: &mut [u16])
     requires { LeastNeeds layouts.now labels.old }
-    ensures { LeastPlaces layouts.now costs.old labels.new costs.new (length layouts.now) }
+    ensures least { LeastPlaces layouts.now costs.old labels.new costs.new (length layouts.now) }
+    ensures cosets { CosetsKept costs.old costs.new }
 {
     for i in 0..layouts.len() {
         let c = cosets::least_coset(layouts[i], costs.at(Place(i)));
@@ -138,11 +141,13 @@ fn total_at(places: &[u16], costs: &CostLists) -> u64
     total
 }
 
-// The two lowest bits of every place's nearest label, where any are free, and the total of what those of the entries cost. The first
-// coset's list does not keep its costs.
+// The two lowest bits of every place's nearest label, where any are free, and the total of what those of the entries cost. At the places
+// the first coset's list does not keep its costs; all others stay.
 pub fn least_low(layouts: &[u16], places: &[u16], costs: &mut CostLists, labels: &mut [u16]) -> u64
     requires { ToneNeeds layouts.now places.now labels.old }
-    ensures { LeastLows layouts.now places.now costs.old labels.new result }
+    ensures lows { LeastLows layouts.now places.now costs.old labels.new result }
+    ensures cosets { CosetsKept costs.old costs.new }
+    ensures behind { KeptFrom costs.old (length layouts.now) costs.new }
 {
     least_places(layouts, costs, labels);
     total_at(places, costs)
