@@ -1,6 +1,6 @@
 -- Points to labels by place, and these to a frame.
 use Rattle.std.specs.Prelude.{Option, None, Some, Result, Ok, Err, ⊤}
-use Rattle.std.specs.Prelude.{ℕ, ◌+◌, ◌*◌, ◌^◌, ◌≤◌, ◌<◌, Bool, List, map, ◌≡◌, ℤ, length}
+use Rattle.std.specs.Prelude.{ℕ, ◌+◌, ◌*◌, ◌^◌, ◌≤◌, ◌<◌, Bool, List, map, ◌≡◌, ℤ, length, take}
 use Rattle.frame.specs.Labels.{bits_of_labels, Within, labels_at, Placed}
 use Rattle.frame.specs.Written.{Framed}
 use Rattle.g9932.specs.Answers.{on_done, report_of, report_by, break_in, frame_in, places_verdict, points_verdict}
@@ -117,13 +117,15 @@ pub record ReadSymbolSupposes (T : Tables) (m : Mode) (from size : ℕ) (es ps d
   pub whole : (q : List Point) (r : ℕ) → (places_verdict (classes_of T) q r).number ≡ 0 → length q ≡ length (classes_of T)
       → break_in (reading_in T q) ≡ None → length (frame_in (reading_in T q)) ≡ size_of T
 
--- the same, by the plan as it is lent
+-- the same, by the plan as it is lent; a label for each place stands first in its list
 abbrev pub ReadSymbolBy : Tables → Plan → List ℤ → List ℤ → List ℕ → List ℕ → List ℕ → ℕ → Type 0
 ReadSymbolBy T p xs ys labels held f start =
-    ReadSymbolSupposes T p.mode p.shared_from.0 p.size p.entries.bits.now p.entries.places.now p.drawing.now p.layouts.now xs ys labels held f start
+    ReadSymbolSupposes T p.mode p.shared_from.0 p.size p.entries.bits.now p.entries.places.now p.drawing.now p.layouts.now xs ys (take (length p.layouts.now) labels) held f start
 
-abbrev pub ReadSymbolNeeds : Plan → List ℤ → List ℤ → List ℕ → List ℕ → List ℕ → ℕ → Type 0
-ReadSymbolNeeds p xs ys labels held f start = (T : Tables) × ReadSymbolBy T p xs ys labels held f start
+pub record ReadSymbolNeeds (p : Plan) (xs ys : List ℤ) (labels held f : List ℕ) (start : ℕ) : Type 0 where
+  pub labels_fit : length p.layouts.now ≤ length labels
+  pub tables : Tables
+  pub planned : ReadSymbolBy tables p xs ys labels held f start
 
 pub record ReadsPoints (T : Tables) (q : List Point) (r : ℕ) (before : List ℕ) (start : ℕ) (a : Result Done Refused) (after : List ℕ) : Type 0 where
   pub answer : report_of a ≡ report_by (points_verdict T q r) r (register_after r (classes_of T))

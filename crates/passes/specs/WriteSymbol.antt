@@ -1,5 +1,5 @@
 -- A frame to labels by place, and these to points.
-use Rattle.std.specs.Prelude.{ℕ, Bool, List, map, ◌≡◌, ℤ, length, take, drop}
+use Rattle.std.specs.Prelude.{ℕ, ◌≤◌, Bool, List, map, ◌≡◌, ℤ, length, take, drop}
 use Rattle.frame.specs.Labels.{bits_of_labels, Within, labels_at, Placed}
 use Rattle.g9932.specs.Filler.{register_after}
 use Rattle.g9932.specs.Order.{sum, pairs_of}
@@ -66,12 +66,15 @@ pub record WriteSymbolSupposes (T : Tables) (m : Mode) (from : ℕ) (f : List �
   pub xs_length : length xs ≡ length (classes_of T)
   pub ys_length : length ys ≡ length (classes_of T)
 
--- the same, by the plan as it is lent
+-- the same, by the plan as it is lent; a label for each place stands first in its list
 abbrev pub WriteSymbolBy : Tables → Plan → List ℕ → ℕ → List ℕ → List ℤ → List ℤ → Type 0
-WriteSymbolBy T p f start labels xs ys = WriteSymbolSupposes T p.mode p.shared_from.0 f start p.entries.bits.now p.entries.places.now p.drawing.now p.layouts.now labels xs ys
+WriteSymbolBy T p f start labels xs ys =
+    WriteSymbolSupposes T p.mode p.shared_from.0 f start p.entries.bits.now p.entries.places.now p.drawing.now p.layouts.now (take (length p.layouts.now) labels) xs ys
 
-abbrev pub WriteSymbolNeeds : Plan → List ℕ → ℕ → List ℕ → List ℤ → List ℤ → Type 0
-WriteSymbolNeeds p f start labels xs ys = (T : Tables) × WriteSymbolBy T p f start labels xs ys
+pub record WriteSymbolNeeds (p : Plan) (f : List ℕ) (start : ℕ) (labels : List ℕ) (xs ys : List ℤ) : Type 0 where
+  pub labels_fit : length p.layouts.now ≤ length labels
+  pub tables : Tables
+  pub planned : WriteSymbolBy tables p f start labels xs ys
 
 -- whatever tables they are
 abbrev pub WritesAnySymbol : Plan → List ℕ → ℕ → List ℕ → List ℤ → List ℤ → ℕ → ℕ → List ℤ → List ℤ → Type 0

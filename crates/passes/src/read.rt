@@ -66,8 +66,8 @@ fn read_frame(plan: Plan, start: u8, labels: &mut [u16], held: &mut [u8]) -> Res
     frame_of_labels(plan, start, labels, held)
 }
 
-// Refusals 13 to 15 of the points of a symbol, by the plan of its tables; or else writes the frame. The labels and what is held are
-// working memory: the frame is held there until it is known to be whole. Called by proved code only.
+// Refusals 13 to 15 of the points of a symbol, by the plan of its tables; or else writes the frame. The labels, one for each place or more,
+// and what is held are working memory: the frame is held there until it is known to be whole. Called by proved code only.
 pub fn read_symbol(
     plan: Plan,
     points: Points,
@@ -80,6 +80,7 @@ pub fn read_symbol(
     requires { ReadSymbolNeeds plan points.xs.now points.ys.now labels.old held.old frame.old start }
     ensures { ReadsAnySymbol plan.entry points.entry.xs.now points.entry.ys.now labels.old held.old frame.old start register result frame.new }
 {
+    let labels = &mut labels[..plan.layouts.len()];
     match read_places(plan, points, register, labels) {
         Err(refusal) => Err(Refused { refusal, register }),
         Ok(after) => match read_frame(plan, start, labels, held) {

@@ -32,8 +32,8 @@ fn write_points(
     after
 }
 
-// The symbol of an accepted frame, by the plan of its tables, and the register after the draws. The labels are working memory. Called by
-// proved code only.
+// The symbol of an accepted frame, by the plan of its tables, and the register after the draws. The labels, one for each place or more, are
+// working memory. Called by proved code only.
 pub fn write_symbol(
     plan: Plan,
     frame: &[u8],
@@ -46,6 +46,7 @@ pub fn write_symbol(
     requires { WriteSymbolNeeds plan frame.now start labels.old xs.old ys.old }
     ensures { WritesAnySymbol plan.entry frame.now start labels.old xs.old ys.old register result xs.new ys.new }
 {
+    let labels = &mut labels[..plan.layouts.len()];
     label_frame(plan, frame, usize::from(start), labels);
     write_points(plan, register, labels, xs, ys)
 }

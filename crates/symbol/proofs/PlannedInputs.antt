@@ -1,7 +1,6 @@
 -- The plan of the tables after the other inputs are checked: refused by the tables, refused by the inputs, or the plan of accepted tables.
 use Prim.Native.Nat.{ℕ, ◌≤◌}
-use lib.ListN.{length, take, replicate, length-replicate}
-use lib.Seq.{length-take-le}
+use lib.ListN.{length, replicate, length-replicate}
 use mathlib.Core.Path.{◌≡◌, ap, ◌∙◌}
 use Rattle.std.specs.Prelude.{Ok, Err}
 use Rattle.g9932.proofs.Verdicts.{number_none, and_refused, and_accepted, and_none}
@@ -38,5 +37,5 @@ module _ {T : Tables} {v : ℕ → Verdict} {p : Plan} (h : PlansFor T v (Ok p))
   pub tones_fit : length T.tones ≤ most_tones
   tones_fit = tones_most_lem T accepts
 
-  pub labels_fit : length (take (length T.tones) (replicate {A = ℕ} most_tones 0)) ≡ length T.tones
-  labels_fit = length-take-le (length T.tones) (replicate most_tones 0) (rw length-replicate tones_fit)
+  pub labels_fit : length T.tones ≤ length (replicate {A = ℕ} most_tones 0)
+  labels_fit = rw length-replicate tones_fit

@@ -3,9 +3,10 @@ use Rattle.std.specs.Prelude.{None, Result, Ok}
 use Prim.Native.Nat.{ℕ, ◌≤◌}
 use mathlib.Core.Bool.{false}
 use mathlib.Core.List.{List}
-use mathlib.Core.Path.{◌≡◌, refl, sym, ◌∙◌}
+use mathlib.Core.Path.{◌≡◌, refl, sym, ap, ◌∙◌}
 use lib.IntN.{ℤ}
-use lib.ListN.{length}
+use lib.ListN.{length, take, length-map}
+use lib.Seq.{length-take-le}
 use Rattle.g9932.proofs.Accepted.{accepted_tables}
 use Rattle.g9932.proofs.Formed.{formed_ok}
 use Rattle.g9932.proofs.Pairs.{length_read}
@@ -94,15 +95,27 @@ module _ (T : Tables) (ok : (table_verdict T).number ≡ 0) (p : Plan) (is : Pla
 
 -- ---- from the plan, where nothing is refused
 
-module _ {T : Tables} {p : Plan} {labels : List ℕ} (n : length labels ≡ length T.tones) where
+-- a layout for each tone
+layouts_count : (T : Tables) (p : Plan) → PlanIs T p → length p.layouts.now ≡ length T.tones
+layouts_count T p is = ap length is.layouts_are ∙ length-map (classes_of T) _ ∙ length_classes T
+
+-- a label for each tone, where there is room
+module _ {T : Tables} {p : Plan} (labels : List ℕ) (room : length T.tones ≤ length labels) (is : PlanIs T p) where
+  fit : length p.layouts.now ≤ length labels
+  fit = rw (layouts_count T p is) room
+
+  cut : length (take (length p.layouts.now) labels) ≡ length T.tones
+  cut = length-take-le (length p.layouts.now) labels fit ∙ layouts_count T p is
+
+module _ {T : Tables} {p : Plan} (labels : List ℕ) (room : length T.tones ≤ length labels) where
   module _ (start r : ℕ) {f : List ℕ} {xs ys : List ℤ} (h : PlansFor T (λ size. encode_inputs start size (length T.tones) (length xs) (length ys) f r) (Ok p)) where
     symbol_by : WriteSymbolBy T p f start labels xs ys
     symbol_by =
         let z = inputs_encoded start (size_of T) (length T.tones) (length xs) (length ys) f r (inputs_pass h) in
-        rw h.made.mode_is (symbol_of T (accepts h) p h.made start f labels xs ys z.1 n z.0.0 z.0.1)
+        rw h.made.mode_is (symbol_of T (accepts h) p h.made start f _ xs ys z.1 (cut labels room h.made) z.0.0 z.0.1)
 
     pub symbol_needs : WriteSymbolNeeds p f start labels xs ys
-    symbol_needs = (T, symbol_by)
+    symbol_needs = record { labels_fit = fit labels room h.made; tables = T; planned = symbol_by }
 
     pub encode_written : {after : ℕ} {xs_after ys_after : List ℤ} → WritesAnySymbol p f start labels xs ys r after xs_after ys_after
         → Encodes T start f r xs ys (Ok (done p.size after)) xs_after ys_after
@@ -114,10 +127,10 @@ module _ {T : Tables} {p : Plan} {labels : List ℕ} (n : length labels ≡ leng
     read_by : ReadSymbolBy T p xs ys labels held f start
     read_by =
         let z = inputs_read start (size_of T) (length T.tones) (length xs) (length ys) (length f) r (inputs_pass h) in
-        rw h.made.mode_is (read_of T (accepts h) p h.made p.size start z.1 xs ys labels held f n z.0.0.0 z.0.0.1 nh h.made.size_is z.0.1)
+        rw h.made.mode_is (read_of T (accepts h) p h.made p.size start z.1 xs ys _ held f (cut labels room h.made) z.0.0.0 z.0.0.1 nh h.made.size_is z.0.1)
 
     pub read_needs : ReadSymbolNeeds p xs ys labels held f start
-    read_needs = (T, read_by)
+    read_needs = record { labels_fit = fit labels room h.made; tables = T; planned = read_by }
 
     pub read_done : {answer : Result Done Refused} {after : List ℕ} → ReadsAnySymbol p xs ys labels held f start r answer after → Reads T xs ys r start f answer after
     read_done reads = read_points T xs ys r start f (number_none h.answer) _ _ (reads T read_by)

@@ -49,7 +49,6 @@ pub fn encode(
 {
     let mut room = Room::new();
     let mut labels = [0u16; MOST_TONES];
-    let n = t.tones.len();
     let planned = plan_encoding(
         mode,
         t,
@@ -64,7 +63,7 @@ pub fn encode(
         Err(refusal) => Err(Refused { refusal, register }),
         Ok(plan) => {
             let size = plan.size;
-            let register = write_symbol(plan, frame, start, register, &mut labels[..n], xs, ys);
+            let register = write_symbol(plan, frame, start, register, &mut labels, xs, ys);
             Ok(Done { size, register })
         }
     }
@@ -104,20 +103,9 @@ pub fn read(
     let mut room = Room::new();
     let mut labels = [0u16; MOST_TONES];
     let mut held = [0u8; MOST_HELD];
-    let n = t.tones.len();
     let frame_len = frame.len();
     match plan_reading(mode, t, points, frame_len, start, register, &mut room) {
         Err(refusal) => Err(Refused { refusal, register }),
-        Ok(plan) => {
-            read_symbol(
-                plan,
-                points,
-                register,
-                &mut labels[..n],
-                &mut held,
-                frame,
-                start,
-            )
-        }
+        Ok(plan) => read_symbol(plan, points, register, &mut labels, &mut held, frame, start),
     }
 }

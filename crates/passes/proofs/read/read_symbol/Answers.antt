@@ -13,7 +13,7 @@ returns-in-Err c =
 
 pub read_frame-requires : goal.read_frame-requires
 read_frame-requires c =
-    (_, _, _, _, frame_of c.requires.1 c.read_places.ensures c.in-Ok.is)
+    (_, _, _, _, frame_of c.requires.planned c.read_places.ensures c.in-Ok.is)
 
 pub returns-in-Err-read_frame : goal.returns-in-Err-read_frame
 returns-in-Err-read_frame c =

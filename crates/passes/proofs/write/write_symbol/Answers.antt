@@ -5,7 +5,7 @@ use Rattle.passes.proofs.write.write_symbol.Goals as goal
 
 pub write_points-requires : goal.write_points-requires
 write_points-requires c =
-    (_, _, _, _, points_of c.requires.1 c.label_frame.auto.labels (rw c.from.ensures at c.label_frame.ensures))
+    (_, _, _, _, points_of c.requires.planned c.label_frame.auto.labels (rw c.from.ensures at c.label_frame.ensures))
 
 pub returns : goal.returns
 returns c =
