@@ -1,11 +1,18 @@
 -- Costs by place: four lists, one for each coset.
-use Rattle.std.specs.Prelude.{ℕ, ◌≤◌, ◌≡◌}
+use Rattle.std.specs.Prelude.{ℕ, ◌≤◌, ◌≡◌, replicate}
 use Rattle.cosets.specs.declared.Costs.{Costs}
-use Rattle.g9932.specs.Sizes.{entry}
+use Rattle.g9932.specs.Sizes.{entry, most_tones}
 use Rattle.decisions.specs.declared.cost_lists.CostLists.{CostLists}
 
 abbrev pub costs_of : CostLists → ℕ → Costs
 costs_of ks i = record { c0 = entry ks.c0 i; c1 = entry ks.c1 i; c2 = entry ks.c2 i; c3 = entry ks.c3 i }
+
+-- no cost stands there yet
+pub record EmptyCosts (ks : CostLists) : Type 0 where
+  pub c0_is : ks.c0 ≡ replicate most_tones 0
+  pub c1_is : ks.c1 ≡ replicate most_tones 0
+  pub c2_is : ks.c2 ≡ replicate most_tones 0
+  pub c3_is : ks.c3 ≡ replicate most_tones 0
 
 -- the costs from place n on stay
 abbrev pub KeptFrom : CostLists → ℕ → CostLists → Type 0

@@ -20,9 +20,11 @@ pub struct CostLists {
 impl CostLists {
     ghost use Rattle.std.specs.Prelude.{◌≡◌, ◌<◌};
     ghost use Rattle.cosets.specs.Nearest.{SmallCosts};
-    ghost use Rattle.decisions.specs.CostLists.{costs_of, PutsCosts, PutsLeast, CosetsKept};
+    ghost use Rattle.decisions.specs.CostLists.{costs_of, EmptyCosts, PutsCosts, PutsLeast, CosetsKept};
 
-    pub fn new() -> Self {
+    pub fn new() -> Self
+        ensures { EmptyCosts result }
+    {
         CostLists {
             c0: [0; MOST_TONES],
             c1: [0; MOST_TONES],

@@ -1,12 +1,19 @@
--- `decisions::cost_lists::CostLists::new` meets its contract: zeros are small.
-use Prim.Native.Nat.{ℕ, ◌≤◌}
+-- `decisions::cost_lists::CostLists::new` meets its contract: what stands at every place is small.
+use Prim.Native.Nat.{ℕ, zero, suc, ◌≤◌}
 use native.Mathlib.Omega.{arith}
 use lib.ListN.{get_or, replicate}
-use Rattle.paths.proofs.Steps.{zeros}
 use Rattle.decisions.proofs.cost_lists.CostLists.new.Goals as goal
 
-small : (i : ℕ) → get_or {A = ℕ} (replicate 4096 0) i 0 ≤ 8388608
-small i = omega (arith, zeros 4096 i)
+small : (n v i : ℕ) → v ≤ 8388608 → get_or (replicate n v) i 0 ≤ 8388608
+small zero v i h = omega arith
+small (suc n) v zero h = h
+small (suc n) v (suc i) h = small n v i h
 
 pub invariant_of-result : goal.invariant_of-result
-invariant_of-result c = record { small0 = small; small1 = small; small2 = small; small3 = small }
+invariant_of-result c =
+    record {
+      small0 = λ i. small 4096 _ i (omega arith);
+      small1 = λ i. small 4096 _ i (omega arith);
+      small2 = λ i. small 4096 _ i (omega arith);
+      small3 = λ i. small 4096 _ i (omega arith);
+    }
