@@ -64,7 +64,7 @@ pub fn written(
             print!(rt; " points")?;
             points(rt, Points { xs, ys })
         }
-        Err(answer) => refused(rt, answer.refusal),
+        Err(answer) => refused(rt, answer.refusal.number()),
     }
 }
 

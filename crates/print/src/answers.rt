@@ -3,38 +3,44 @@ use super::written::Written;
 use g9932::{Point, Refusal};
 use std::io;
 
-// The name of a refusal. A `Display` of the vocabulary's own types would have to stand in g9932, which prints nothing.
-fn name(refusal: Refusal) -> &'static str {
-    match refusal {
-        Refusal::Size => "SIZE",
-        Refusal::Tone(_) => "TONE",
-        Refusal::Twice(_) => "TWICE",
-        Refusal::Bits(_) => "BITS",
-        Refusal::Stray(_) => "STRAY",
-        Refusal::Gain(_) => "GAIN",
-        Refusal::Odd => "ODD",
-        Refusal::Few => "FEW",
-        Refusal::Room => "ROOM",
-        Refusal::Frame => "FRAME",
-        Refusal::Seed => "SEED",
-        Refusal::Offgrid(_) => "OFFGRID",
-        Refusal::Monitor(_) => "MONITOR",
-        Refusal::Trellis(_) => "TRELLIS",
-        Refusal::Label => "LABEL",
-        Refusal::Full => "FULL",
-        Refusal::Range(_) => "RANGE",
+// The name of the refusal with this number, or UNKNOWN: 9 and 17 to 21 are unused. None from 24 on, and of 0.
+fn name(number: u32) -> Option<&'static str> {
+    match number {
+        1 => Some("SIZE"),
+        2 => Some("TONE"),
+        3 => Some("TWICE"),
+        4 => Some("BITS"),
+        5 => Some("STRAY"),
+        6 => Some("GAIN"),
+        7 => Some("ODD"),
+        8 => Some("FEW"),
+        10 => Some("ROOM"),
+        11 => Some("FRAME"),
+        12 => Some("SEED"),
+        13 => Some("OFFGRID"),
+        14 => Some("MONITOR"),
+        15 => Some("TRELLIS"),
+        16 => Some("LABEL"),
+        22 => Some("FULL"),
+        23 => Some("RANGE"),
+        9 | 17..=21 => Some("UNKNOWN"),
+        _ => None,
     }
 }
 
-// The number and the name of a refusal.
-pub fn refused(rt: &impl Print, refusal: Refusal) -> io::Result<()> {
-    print!(rt; " {} {}", refusal.number(), name(refusal))
+// The number and the name of a refusal, or of a number that none has.
+pub fn refused(rt: &impl Print, number: u32) -> io::Result<()> {
+    print!(rt; " {number}")?;
+    match name(number) {
+        Some(name) => print!(rt; " {name}"),
+        None => Ok(()),
+    }
 }
 
 // The same with its place, which of TRELLIS is a pair.
 fn refused_at(rt: &impl Print, refusal: Refusal) -> io::Result<()> {
     print!(rt; " refused")?;
-    refused(rt, refusal)?;
+    refused(rt, refusal.number())?;
     let counted = match refusal {
         Refusal::Trellis(_) => "pair",
         _ => "place",
@@ -46,7 +52,7 @@ fn refused_at(rt: &impl Print, refusal: Refusal) -> io::Result<()> {
 pub fn size(rt: &impl Print, answer: Result<usize, Refusal>) -> io::Result<()> {
     match answer {
         Ok(size) => print!(rt; " L {size}"),
-        Err(refusal) => refused(rt, refusal),
+        Err(refusal) => refused(rt, refusal.number()),
     }
 }
 
@@ -54,7 +60,7 @@ pub fn size(rt: &impl Print, answer: Result<usize, Refusal>) -> io::Result<()> {
 pub fn mapped(rt: &impl Print, answer: Result<Point, Refusal>) -> io::Result<()> {
     match answer {
         Ok(point) => print!(rt; " {}", Written(point)),
-        Err(refusal) => refused(rt, refusal),
+        Err(refusal) => refused(rt, refusal.number()),
     }
 }
 
