@@ -11,4 +11,4 @@ use Rattle.g9932.specs.Bits.{first}
 use Rattle.nearest.proofs.range.any_outside.Given as goal
 
 abbrev pub invariant-loop-i : goal.invariant-loop-i
-invariant-loop-i l = (l.i ≤ length l.xs) × (l.any ≡ false → first (range_test (points l.xs l.ys)) l.i ≡ None)
+invariant-loop-i l = (l.i ≤ length l.xs) × (l.any ≡ false → first (range_test (points l.fn.points.xs.now l.fn.points.ys.now)) l.i ≡ None)
