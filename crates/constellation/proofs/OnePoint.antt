@@ -21,8 +21,7 @@ use Rattle.g9932.proofs.Constellations.{points_equal, same_point_self, same_poin
 use Rattle.constellation.specs.Widened.{plain_pairs, sign_weight, coordinate_of, interleaved}
 use Rattle.constellation.specs.Reading.{NarrowedWord, own_label, top_six, in_grid}
 use Rattle.constellation.specs.DemapByLayout.{BitsOf}
-use Rattle.constellation.proofs.Grid.{six_few}
-use Rattle.constellation.proofs.Grid.{six_lt}
+use Rattle.constellation.proofs.Grid.{six_few, six_lt}
 use Rattle.constellation.proofs.Reading.{interleaved_word, off_point, off_grid, on_grid}
 use Rattle.constellation.proofs.Sizes.{word_16}
 

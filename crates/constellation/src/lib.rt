@@ -4,7 +4,7 @@
 pub mod demap;
 pub mod map;
 pub mod points;
-pub mod single;
+mod single;
 pub mod stored;
 
 ghost use Rattle.std.specs.Prelude.{◌≡◌, cond, ◌*◌, ◌^◌, ◌<◌, ◌≤◌, eqb};
